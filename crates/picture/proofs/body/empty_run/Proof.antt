@@ -1,0 +1,17 @@
+use Rattle.picture.specs.Rules.{emptyRun}
+use borrow.Author.Needs.{needs}
+use Rattle.picture.proofs.body.empty_run.Statement.{statement}
+use Rattle.picture.proofs.body.empty_run.Tie as tie
+use Rattle.picture.proofs.body.empty_run.Reads as reads
+use Rattle.picture.proofs.body.empty_run.Lts as lts
+use Rattle.picture.proofs.numbers.both.Reads as both-reads
+
+both-requires : tie.Need-both-requires
+both-requires c κs = search needs
+
+returns : tie.Need-returns
+unfolding emptyRun
+returns c = c .both .ensures
+
+pub empty-run-spec : {M : Type 1} → statement M
+empty-run-spec = tie.close (tie.spec both-requires returns)
