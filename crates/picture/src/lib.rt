@@ -7,9 +7,14 @@
 mod numbers; // numbers.rt: tests and numbers put together
 mod header; // header.rt: the header's numbers and rules
 mod body; // body.rt: the runs, judged
+mod inking; // inking.rt: the runs, drawn
 
 ghost use mathlib.Core.Path.{_≡_};
+ghost use lib.ListN.{length};
+ghost use Rattle.dots.specs.Dots.{drawn, cut};
+ghost use Rattle.dots.specs.declared.Ink.the-variants.{Black};
 ghost use Rattle.picture.specs.Rules.{legal};
+ghost use Rattle.picture.specs.Shape.{pictured};
 
 // Whether the bytes are a legal picture.
 pub fn is_legal(bytes: &[u8]) -> bool
@@ -20,4 +25,22 @@ pub fn is_legal(bytes: &[u8]) -> bool
     }
     let total = header::line_bytes(bytes) * header::height_of(bytes);
     body::filled_ok(bytes, total)
+}
+
+// Draws a picture with its upper left corner at x, y, cut at width and length.
+pub fn draw(page: &mut [u8], width: usize, length: usize, x: usize, y: usize, bytes: &[u8])
+    ensures { λ _. ⌜ now (page .exit) ≡ drawn Black (cut width length (pictured (now (bytes .entry)) x y)) (now (page .entry)) ⌝ }
+{
+    let rows = page.len() / 76;
+    if 608 <= x {
+        return;
+    }
+    if rows <= y {
+        return;
+    }
+    if !is_legal(bytes) {
+        return;
+    }
+    let spot = inking::spot_on(rows, width, length, x, y, bytes);
+    inking::ink_runs(page, spot, bytes);
 }

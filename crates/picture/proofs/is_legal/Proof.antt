@@ -1,6 +1,6 @@
 use native.Mathlib.Omega.{arith}
-use mathlib.Core.Path.{_≡_, refl, sym, ap, _∙_}
-use Prim.Native.Nat.{ℕ, _*_}
+use mathlib.Core.Path.{sym, _∙_}
+use Prim.Native.Nat.{_*_}
 use borrow.Author.Tests.{not-true, not-false}
 use lib.ListN.{drop}
 use Rattle.picture.specs.Rules.{filled}
@@ -8,12 +8,6 @@ use Rattle.picture.proofs.Rules.{headed-says, not-headed, is-headed, pr
 use borrow.Author.Needs.{needs}
 use Rattle.picture.proofs.is_legal.Statement.{statement}
 use Rattle.picture.proofs.is_legal.Tie as tie
-use Rattle.picture.proofs.is_legal.Reads as reads
-use Rattle.picture.proofs.is_legal.Lts as lts
-use Rattle.picture.proofs.body.filled_ok.Reads as filled-ok-reads
-use Rattle.picture.proofs.header.headed_ok.Reads as headed-ok-reads
-use Rattle.picture.proofs.header.height_of.Reads as height-of-reads
-use Rattle.picture.proofs.header.line_bytes.Reads as line-bytes-reads
 
 headed-ok-requires : tie.Need-headed-ok-requires
 headed-ok-requires c κs = search needs

@@ -2,9 +2,6 @@ use Rattle.picture.specs.Rules.{emptyRun}
 use borrow.Author.Needs.{needs}
 use Rattle.picture.proofs.body.empty_run.Statement.{statement}
 use Rattle.picture.proofs.body.empty_run.Tie as tie
-use Rattle.picture.proofs.body.empty_run.Reads as reads
-use Rattle.picture.proofs.body.empty_run.Lts as lts
-use Rattle.picture.proofs.numbers.both.Reads as both-reads
 
 both-requires : tie.Need-both-requires
 both-requires c κs = search needs

@@ -1,18 +1,11 @@
-use lib.ListN.{getD}
+use lib.ListN.{getD, length}
 use native.Mathlib.Omega.{arith}
-use mathlib.Core.Path.{_≡_, refl, sym, ap, _∙_}
-use Prim.Native.Nat.{ℕ, _-_, _≤_}
-use lib.ListN.{length}
+use mathlib.Core.Path.{sym, _∙_}
+use Prim.Native.Nat.{_-_}
 use Rattle.picture.proofs.Runs.{Passing, passing-start, passing-step, passing-stop, passing-done, times-le}
 use borrow.Author.Needs.{needs}
 use Rattle.picture.proofs.body.filled_ok.Statement.{statement}
 use Rattle.picture.proofs.body.filled_ok.Tie as tie
-use Rattle.picture.proofs.body.filled_ok.Reads as reads
-use Rattle.picture.proofs.body.filled_ok.Lts as lts
-use Rattle.picture.proofs.numbers.both.Reads as both-reads
-use Rattle.picture.proofs.body.empty_run.Reads as empty-run-reads
-use Rattle.picture.proofs.body.next_of.Reads as next-of-reads
-use Rattle.picture.proofs.body.times_of.Reads as times-of-reads
 
 abbrev Inv-loop : tie.InvT-loop
 Inv-loop s total i₀ n₀ count₀ i n count = Passing s i n count

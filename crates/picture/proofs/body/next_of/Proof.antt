@@ -1,10 +1,7 @@
 use borrow.Author.Tests.{eq-eqb, ne-eqb, lt-ltb, le-ltb}
 use Rattle.picture.specs.Rules.{next}
-use borrow.Author.Needs.{needs}
 use Rattle.picture.proofs.body.next_of.Statement.{statement}
 use Rattle.picture.proofs.body.next_of.Tie as tie
-use Rattle.picture.proofs.body.next_of.Reads as reads
-use Rattle.picture.proofs.body.next_of.Lts as lts
 
 returns : tie.Need-returns
 unfolding next

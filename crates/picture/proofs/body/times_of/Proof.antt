@@ -1,10 +1,7 @@
 use borrow.Author.Tests.{eq-eqb, ne-eqb, lt-ltb, le-ltb}
 use Rattle.picture.specs.Rules.{times}
-use borrow.Author.Needs.{needs}
 use Rattle.picture.proofs.body.times_of.Statement.{statement}
 use Rattle.picture.proofs.body.times_of.Tie as tie
-use Rattle.picture.proofs.body.times_of.Reads as reads
-use Rattle.picture.proofs.body.times_of.Lts as lts
 
 returns : tie.Need-returns
 unfolding times

@@ -1,11 +1,9 @@
 use native.Mathlib.Omega.{arith}
-use mathlib.Core.Path.{_≡_, refl, sym, ap, _∙_}
+use mathlib.Core.Path.{refl, sym}
 use lib.ListN.{List·getD-eq-default}
 use borrow.Author.Needs.{needs}
 use Rattle.picture.proofs.header.byte_at.Statement.{statement}
 use Rattle.picture.proofs.header.byte_at.Tie as tie
-use Rattle.picture.proofs.header.byte_at.Reads as reads
-use Rattle.picture.proofs.header.byte_at.Lts as lts
 
 shared-slice-read-result : tie.Need-shared-slice-read-result
 shared-slice-read-result c = search needs

@@ -2,16 +2,6 @@ use Rattle.picture.specs.Rules.{headed}
 use borrow.Author.Needs.{needs}
 use Rattle.picture.proofs.header.headed_ok.Statement.{statement}
 use Rattle.picture.proofs.header.headed_ok.Tie as tie
-use Rattle.picture.proofs.header.headed_ok.Reads as reads
-use Rattle.picture.proofs.header.headed_ok.Lts as lts
-use Rattle.picture.proofs.numbers.both.Reads as both-reads
-use Rattle.picture.proofs.header.lined_ok.Reads as lined-ok-reads
-use Rattle.picture.proofs.header.measured_ok.Reads as measured-ok-reads
-use Rattle.picture.proofs.header.ones_ok.Reads as ones-ok-reads
-use Rattle.picture.proofs.header.ordered_ok.Reads as ordered-ok-reads
-use Rattle.picture.proofs.header.sized_ok.Reads as sized-ok-reads
-use Rattle.picture.proofs.header.ten_ok.Reads as ten-ok-reads
-use Rattle.picture.proofs.header.version_ok.Reads as version-ok-reads
 
 ordered-ok-requires : tie.Need-ordered-ok-requires
 ordered-ok-requires c κs = search needs

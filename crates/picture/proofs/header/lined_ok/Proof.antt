@@ -1,11 +1,6 @@
 use borrow.Author.Needs.{needs}
 use Rattle.picture.proofs.header.lined_ok.Statement.{statement}
 use Rattle.picture.proofs.header.lined_ok.Tie as tie
-use Rattle.picture.proofs.header.lined_ok.Reads as reads
-use Rattle.picture.proofs.header.lined_ok.Lts as lts
-use Rattle.picture.proofs.numbers.both.Reads as both-reads
-use Rattle.picture.proofs.header.line_bytes.Reads as line-bytes-reads
-use Rattle.picture.proofs.header.width_of.Reads as width-of-reads
 
 line-bytes-requires : tie.Need-line-bytes-requires
 line-bytes-requires c κs = search needs

@@ -1,11 +1,6 @@
 use borrow.Author.Needs.{needs}
 use Rattle.picture.proofs.header.measured_ok.Statement.{statement}
 use Rattle.picture.proofs.header.measured_ok.Tie as tie
-use Rattle.picture.proofs.header.measured_ok.Reads as reads
-use Rattle.picture.proofs.header.measured_ok.Lts as lts
-use Rattle.picture.proofs.numbers.both.Reads as both-reads
-use Rattle.picture.proofs.header.height_of.Reads as height-of-reads
-use Rattle.picture.proofs.header.width_of.Reads as width-of-reads
 
 width-of-requires : tie.Need-width-of-requires
 width-of-requires c κs = search needs

@@ -1,10 +1,6 @@
 use borrow.Author.Needs.{needs}
 use Rattle.picture.proofs.header.ordered_ok.Statement.{statement}
 use Rattle.picture.proofs.header.ordered_ok.Tie as tie
-use Rattle.picture.proofs.header.ordered_ok.Reads as reads
-use Rattle.picture.proofs.header.ordered_ok.Lts as lts
-use Rattle.picture.proofs.numbers.both.Reads as both-reads
-use Rattle.picture.proofs.header.word_at.Reads as word-at-reads
 
 word-at-requires : tie.Need-word-at-requires
 word-at-requires c κs = search needs

@@ -1,10 +1,6 @@
 use borrow.Author.Needs.{needs}
 use Rattle.picture.proofs.header.version_ok.Statement.{statement}
 use Rattle.picture.proofs.header.version_ok.Tie as tie
-use Rattle.picture.proofs.header.version_ok.Reads as reads
-use Rattle.picture.proofs.header.version_ok.Lts as lts
-use Rattle.picture.proofs.numbers.both.Reads as both-reads
-use Rattle.picture.proofs.header.byte_at.Reads as byte-at-reads
 
 byte-at-requires : tie.Need-byte-at-requires
 byte-at-requires c κs = search needs
