@@ -1,9 +1,9 @@
 -- A picture drawn run by run, and what is drawn in the end.
 -- Assumes nothing.
 use mathlib.Core.Path.{_≡_, refl, sym, ap, _∙_}
-use mathlib.Core.Bool.{Bool, true, false, not, _&&_}
-use mathlib.Core.List.{List, [], _∷_, _++_}
-use Prim.Native.Nat.{ℕ, _+_, _-_, _*_, _/_, _%_, _≤_, _<_, min}
+use mathlib.Core.Bool.{Bool, true, false, _&&_}
+use mathlib.Core.List.{List, [], _++_}
+use Prim.Native.Nat.{ℕ, _+_, _-_, _/_, _%_, _≤_, _<_}
 use native.Mathlib.Nat.{mul-le-mul, mul-comm}
 use native.Mathlib.Omega.{arith}
 use lib.ListN.{length, getD, drop, replicate, length-append, length-replicate, length-drop, getD-replicate, drop-of-length-le, List·getD-append}
@@ -19,7 +19,7 @@ use Rattle.picture.specs.Rules as rules
 use Rattle.picture.specs.Rules.{times, next, given, decoded, legal, lineByte, lineBytes}
 use Rattle.picture.specs.declared.inking.Spot.{Spot}
 use Rattle.picture.specs.Shape.{dark, pictured}
-use Rattle.picture.specs.Steps.{part, indexAt, Fits, spotOf}
+use Rattle.picture.specs.Steps.{part, Fits, spotOf}
 use Rattle.picture.proofs.Runs.{given-step, next-le}
 use Rattle.picture.proofs.Rules.{legal-says}
 use Rattle.picture.proofs.Part.{part-says, says-part, part-cong, run-start, run-step, lines-below}

@@ -1,17 +1,17 @@
 -- Parts of a picture: one byte of it, parts side by side, parts whose bytes agree.
 -- Assumes nothing.
-use mathlib.Core.Path.{_≡_, refl, sym, ap, _∙_}
+use mathlib.Core.Path.{_≡_, sym, ap, _∙_}
 use mathlib.Core.Bool.{Bool, true, false, not, _&&_, _||_}
 use mathlib.Core.Logic.{_⊎_, inl, inr}
 use mathlib.Core.List.{List}
 use Prim.Native.Nat.{ℕ, _+_, _-_, _*_, _/_, _%_, _≤_, _<_, min}
-use native.Mathlib.Nat.{div-add-mod', mod-lt, div-eq-of-lt, mul-add-div-right, mul-le-mul-right, mul-comm, add-mul, one-mul}
+use native.Mathlib.Nat.{div-add-mod', mod-lt, div-eq-of-lt, mul-add-div-right, mul-le-mul-right, add-mul, one-mul}
 use native.Mathlib.Decide.{decLt}
 use native.Mathlib.Omega.{arith}
 use lib.Dec.{leb, ltb}
 use borrow.Author.Tests.{leb-true, ltb-true, le-leb, lt-ltb, not-true}
 use Rattle.dots.specs.declared.Ink.the-variants.{Black}
-use Rattle.dots.specs.Dots.{drawn, box, bitOf, byteOf, within}
+use Rattle.dots.specs.Dots.{drawn, box, bitOf, within}
 use Rattle.dots.proofs.Bits.{bit-of-byte, is-false}
 use Rattle.dots.proofs.Pages.{Bytes, drawn-ext, drawn-off}
 use Rattle.dots.proofs.Shapes.{In, in-box, box-in, and-true, same-test}

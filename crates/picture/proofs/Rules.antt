@@ -1,9 +1,9 @@
 -- What a legal picture's header says, as facts.
 -- Assumes nothing.
-use mathlib.Core.Path.{_≡_, refl, sym, ap, _∙_}
-use mathlib.Core.Bool.{Bool, true, false, not, cond, _&&_, and-false}
+use mathlib.Core.Path.{_≡_, _∙_}
+use mathlib.Core.Bool.{Bool, true, false, _&&_, and-false}
 use mathlib.Core.List.{List}
-use Prim.Native.Nat.{ℕ, _+_, _-_, _*_, _%_, _≤_, _<_}
+use Prim.Native.Nat.{ℕ, _-_, _*_, _%_, _≤_, _<_}
 use native.Mathlib.Nat.{mul-le-mul}
 use native.Mathlib.Decide.{decLt}
 use native.Mathlib.Omega.{arith}
@@ -11,9 +11,8 @@ use borrow.Author.Tests.{leb-true, eqb-true}
 use lib.ListN.{length, getD, List·getD-eq-default}
 use lib.Dec.{leb, eqb}
 use Rattle.dots.proofs.Shapes.{and-true}
-use Rattle.picture.specs.Rules.{emptyRun, noEmptyRun, waiting, given}
+use Rattle.picture.specs.Rules.{emptyRun, noEmptyRun, waiting, sized, ten, version, ones, ordered, measured, lined, width, height, lineBytes, headed, filled, legal, body, decoded}
 use Rattle.picture.proofs.Runs.{passing-start, passing-stop}
-use Rattle.picture.specs.Rules.{sized, ten, version, ones, ordered, measured, lined, width, height, lineBytes, headed, filled, legal, body, decoded}
 
 pub record Headed (s : List ℕ) : Type 0 where
   pub long : length s ≤ 32768

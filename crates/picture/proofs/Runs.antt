@@ -3,17 +3,15 @@
 use mathlib.Core.Path.{_≡_, refl, sym, ap, _∙_}
 use mathlib.Core.Bool.{Bool, true, false, not, cond, _&&_}
 use mathlib.Core.List.{List, [], _∷_, _++_}
-use Prim.Native.Nat.{ℕ, zero, suc, _+_, _-_, _*_, _%_, _≤_, _<_}
-use native.Mathlib.Nat.{mod-lt}
+use Prim.Native.Nat.{ℕ, _+_, _-_, _*_, _%_, _≤_, _<_}
 use native.Mathlib.Numerals.{add-one}
 use native.Mathlib.Omega.{arith}
 use lib.ListN.{length, getD, drop, replicate, length-append, length-replicate, drop-of-length-le, getD-replicate, List·getD-append}
 use lib.Seq.{drop-cons, getD-append-add}
 use native.Mathlib.Decide.{decLt}
 use borrow.Author.Tests.{lt-ltb, le-ltb}
-use lib.Dec.{ltb, eqb, lit<}
-use Rattle.picture.specs.Rules.{times, next, given, emptyRun, noEmptyRun, waiting}
-use Rattle.picture.specs.Rules.{filled, covering, lineByte, lineBytes, body}
+use lib.Dec.{ltb, eqb}
+use Rattle.picture.specs.Rules.{times, next, given, emptyRun, noEmptyRun, waiting, filled, covering, lineByte, lineBytes, body}
 
 -- ---- bounds
 cond-le : (t : Bool) (a b m : ℕ) → a ≤ m → b ≤ m → cond t a b ≤ m

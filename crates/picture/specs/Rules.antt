@@ -1,8 +1,8 @@
 -- Legal pictures and the bytes that their runs give, in the order of paper 01, "Pictures", and by the ZSoft PCX description that it names.
 -- A byte past the end reads as 0; a word is two bytes, the low one first.
 -- Assumes nothing.
-use Prim.Native.Nat.{ℕ, zero, suc, _+_, _-_, _*_, _%_}
-use mathlib.Core.Bool.{Bool, true, false, not, cond, _&&_}
+use Prim.Native.Nat.{ℕ, _+_, _-_, _*_, _%_}
+use mathlib.Core.Bool.{Bool, true, not, cond, _&&_}
 use mathlib.Core.List.{List, [], _∷_, _++_}
 use lib.ListN.{length, getD, drop, replicate}
 use lib.Dec.{leb, ltb, eqb}
