@@ -1,9 +1,9 @@
 // Boxes: a box is drawn row by row, and of each row a part of the first byte, whole bytes, and a part of the last.
 ghost use mathlib.Core.Path.{_≡_};
-ghost use Prim.Native.Nat.{ℕ, _+_, _-_, _*_, _/_, _%_, _^_, _≤_, _<_, min};
+ghost use Prim.Native.Nat.{ℕ, _+_, _-_, _*_, _/_, _%_, _^_, _≤_, _<_, min, max};
 ghost use mathlib.Core.Bool.{cond};
 ghost use lib.ListN.{length, getD};
-ghost use Rattle.dots.specs.Dots.{within, bitOf, byteOf, inked, drawn, box, cut};
+ghost use Rattle.dots.specs.Dots.{within, bitOf, byteOf, inked, drawn, box, cut, hollow, frame};
 use crate::Ink;
 
 // The byte whose dots from lo up to hi, hi not among them, are black.
@@ -95,4 +95,71 @@ pub fn ink_box(
         ink_span(page, ink, y, x0, right);
         y += 1;
     }
+}
+
+// Where a band of thickness c ends that starts at `from`, and no further than `to`.
+fn band_end(from: usize, to: usize, c: usize) -> usize
+    requires { ⌜ from ≤ to ⌝ }
+    ensures { λ r. ⌜ r ≡ min (from + c) to ⌝ }
+{
+    if to - from < c { to } else { from + c }
+}
+
+// Where a band of thickness c starts that ends at `to`, and no nearer than `from`.
+fn band_start(from: usize, to: usize, c: usize) -> usize
+    requires { ⌜ from ≤ to ⌝ }
+    ensures { λ r. ⌜ r ≡ max (to - c) from ⌝ }
+{
+    if to - from < c { from } else { to - c }
+}
+
+// The greater of two numbers.
+fn greatest(a: usize, b: usize) -> usize
+    ensures { λ r. ⌜ r ≡ max a b ⌝ }
+{
+    if a < b { b } else { a }
+}
+
+// Draws a box less the box that is shrunk by c on each side black, cut at width and length: the bands at its four sides.
+fn ink_sides(
+    page: &mut [u8],
+    width: usize,
+    length: usize,
+    c: usize,
+    x0: usize,
+    y0: usize,
+    x1: usize,
+    y1: usize,
+)
+    requires { ⌜ (x0 ≤ x1) × (y0 ≤ y1) ⌝ }
+    ensures { λ _. ⌜ now (page .exit) ≡ drawn Ink.Black (cut width length (hollow c x0 y0 x1 y1)) (now (page .entry)) ⌝ }
+{
+    let top = band_end(y0, y1, c);
+    let bottom = band_start(y0, y1, c);
+    let left = band_end(x0, x1, c);
+    let right = band_start(x0, x1, c);
+    ink_box(page, Ink::Black, width, length, x0, y0, x1, top);
+    ink_box(page, Ink::Black, width, length, x0, bottom, x1, y1);
+    ink_box(page, Ink::Black, width, length, x0, y0, left, y1);
+    ink_box(page, Ink::Black, width, length, right, y0, x1, y1);
+}
+
+// X: draws the frame of thickness c between the corners (a, b) and (d, e) black, cut at width and length.
+pub fn ink_frame(
+    page: &mut [u8],
+    width: usize,
+    length: usize,
+    a: usize,
+    b: usize,
+    c: usize,
+    d: usize,
+    e: usize,
+)
+    ensures { λ _. ⌜ now (page .exit) ≡ drawn Ink.Black (cut width length (frame a b c d e)) (now (page .entry)) ⌝ }
+{
+    let x0 = least(a, d);
+    let y0 = least(b, e);
+    let x1 = greatest(a, d);
+    let y1 = greatest(b, e);
+    ink_sides(page, width, length, c, x0, y0, x1, y1);
 }

@@ -6,6 +6,7 @@
 mod boxes; // boxes in three inks, and the frame
 
 pub use boxes::ink_box;
+pub use boxes::ink_frame;
 
 // What drawing does to a dot: makes it black, makes it white, or turns it over.
 pub enum Ink {
