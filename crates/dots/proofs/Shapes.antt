@@ -11,7 +11,7 @@ use lib.ListN.{length}
 use Rattle.dots.specs.declared.Ink.{Ink}
 use Rattle.dots.specs.declared.Ink.the-variants.{Black}
 use Rattle.dots.proofs.Pages.{Bytes, drawn-join, drawn-off, drawn-ext, drawn-black}
-use Rattle.dots.proofs.Bits.{is-false}
+use Rattle.dots.proofs.Bits.{is-false, and-true}
 use lib.Dec.{leb, ltb}
 use borrow.Author.Tests.{leb-true, ltb-true, le-leb, lt-ltb, not-true}
 use Rattle.dots.specs.Dots.{within, box, cut, hollow, drawn, rows}
@@ -21,10 +21,6 @@ pub same-test : (a b : Bool) → (a ≡ true → b ≡ true) → (b ≡ true →
 same-test true b f g = sym (f refl)
 same-test false true f g = g refl
 same-test false false f g = refl
-
-pub and-true : (a b : Bool) → (a && b) ≡ true → (a ≡ true) × (b ≡ true)
-and-true true b e = (refl, e)
-and-true false b e = (e, let z : _≡_ {A = Bool} false true = e in cc)
 
 pub or-true : (a b : Bool) → (a ≡ true → ⊥) → (a || b) ≡ true → b ≡ true
 or-true true b n e = absurd (n refl)

@@ -7,7 +7,7 @@ ghost use Rattle.dots.specs.Dots.{within, bitOf, byteOf, inked, drawn, b
 use crate::Ink;
 
 // The byte whose dots from lo up to hi, hi not among them, are black.
-fn span_mask(lo: usize, hi: usize) -> u8
+pub(crate) fn span_mask(lo: usize, hi: usize) -> u8
     requires { ⌜ (lo ≤ hi) × (hi ≤ 8) ⌝ }
     ensures { λ r. ⌜ r ≡ byteOf (within lo hi) ⌝ }
 {
@@ -66,7 +66,7 @@ fn ink_span(page: &mut [u8], ink: Ink, y: usize, x0: usize, x1: usize)
 }
 
 // The smaller of two numbers.
-fn least(a: usize, b: usize) -> usize
+pub(crate) fn least(a: usize, b: usize) -> usize
     ensures { λ r. ⌜ r ≡ min a b ⌝ }
 {
     if a < b { a } else { b }
