@@ -3,3 +3,4 @@ pub mod Bits
 pub mod Pages
 pub mod Shapes
 pub mod WholePages
+pub mod Turned

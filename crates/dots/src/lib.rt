@@ -4,10 +4,12 @@
 // `drawn ink shape page` of specs/Dots.antt is the page with the dots of a shape inked and all else as it was. What lies outside is not drawn.
 // What is drawn where, and when, is left to the crates above.
 mod boxes; // boxes in three inks, and the frame
+mod half; // the half turn
 mod whole; // whole pages: whitened, copied, counted
 
 pub use boxes::ink_box;
 pub use boxes::ink_frame;
+pub use half::turn;
 pub use whole::black_dots;
 pub use whole::copy;
 pub use whole::white_outside;
