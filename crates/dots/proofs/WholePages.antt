@@ -3,19 +3,21 @@
 use mathlib.Core.Path.{_≡_, refl, sym, ap, _∙_}
 use mathlib.Core.Bool.{Bool, true, false, not, cond, _&&_, _||_, and-false}
 use mathlib.Core.List.{List, [], _∷_, _++_, append-nil}
-use Prim.Native.Nat.{ℕ, zero, suc, _+_, _-_, _*_, _/_, _%_, _^_, _≤_, _<_, min}
+use Prim.Native.Nat.{suc-le-suc, ℕ, zero, suc, _+_, _-_, _*_, _/_, _%_, _^_, _≤_, _<_, min}
 use native.Mathlib.Decide.{ℕ-discrete, decLt}
-use native.Mathlib.Nat.{zero-div}
+use native.Mathlib.Nat.{zero-add, zero-div, le-of-suc-le-suc, not-suc-le-zero}
 use native.Mathlib.Numerals.{add-one}
 use native.Mathlib.Omega.{arith}
 use lib.Dec.{leb, ltb, eqb}
 use lib.Bits.{bitAnd, and-lt}
 use lib.ListN.{length, getD, take, drop, set, length-set, length-take, replicate, length-replicate, getD-replicate, drop-of-length-le}
 use lib.Seq.{ext-getD, getD-set-same, getD-set-other, drop-cons, getD-take, take-all, paste, paste-suc}
-use borrow.Author.Tests.{leb-true, ltb-true, le-leb, lt-ltb, eqb-true, eq-eqb}
-use Rattle.dots.specs.Dots.{bitOf, byteOf, within, rows, dotAt}
-use Rattle.dots.specs.Whole.{white, copied, blackIn, blackDots, outside, whiteByte, whiteFrom, whiteOutside}
+use borrow.Author.Tests.{leb-true, ltb-true, le-leb, lt-ltb, eqb-true, eq-eqb, not-true}
+use Rattle.dots.specs.declared.Ink.{Ink}
+use Rattle.dots.specs.Dots.{bitOf, byteOf, within, rows, dotAt, inked, redrawn, drawn, cut}
+use Rattle.dots.specs.Whole.{white, copied, turnedIn, turned, blackIn, blackDots, outside, whiteByte, whiteFrom, whiteOutside}
 use Rattle.dots.proofs.Bits.{is-false, and-true, one-le, byte-lt, not-below, byte-cong, byte-by-bits, bit-of-byte, and-bit}
+use Rattle.dots.proofs.Pages.{dot-redrawn, length-redrawn, dot-drawn, length-drawn}
 
 -- ---- white
 pub length-white : (n : ℕ) → length (white n) ≡ n
@@ -28,12 +30,12 @@ getD-white zero i = refl
 getD-white (suc n) zero = refl
 getD-white (suc n) (suc i) = getD-white n i
 
+no-dot : (k : ℕ) → bitOf 0 k ≡ false
+no-dot k = rw (zero-div (2 ^ (7 - k)))
+
 pub dot-white : (n x y : ℕ) → dotAt (white n) x y ≡ false
 unfolding dotAt
-dot-white n x y = rw (getD-white n (y * 76 + x / 8)) (none (x % 8))
-  where
-    none : (k : ℕ) → bitOf 0 k ≡ false
-    none k = rw (zero-div (2 ^ (7 - k)))
+dot-white n x y = rw (getD-white n (y * 76 + x / 8)) (no-dot (x % 8))
 
 -- a page all of whose bytes are 0
 pub white-by-bytes : (p q : List ℕ) (i : ℕ) → length q ≡ length p → length p ≤ i → ((j : ℕ) → j < i → getD q j 0 ≡ 0) → q ≡ white (length p)
@@ -158,3 +160,93 @@ module _ (w l : ℕ) (p : List ℕ) where
   pub white-done : (i : ℕ) → rows p * 76 ≤ i → whiteLeft i ≡ true
   unfolding whiteLeft whole whiteFrom
   white-done i h = rw (drop-of-length-le (take (rows p * 76) p) (let k : length (take (rows p * 76) p) ≤ i = rw (length-take (rows p * 76) p) (omega arith) in k))
+
+-- a byte is white outside exactly when none of its dots is black there
+white-byte-dot : (w l i b k : ℕ) → k < 8 → whiteByte w l i b ≡ true → outside w l (i % 76 * 8 + k) (i / 76) ≡ true → bitOf b k ≡ false
+white-byte-dot w l i b k t e o =
+    first (bitOf b k) (outside w l (i % 76 * 8 + k) (i / 76)) o
+    (sym (bit-of-byte (λ n. bitOf b n && outside w l (i % 76 * 8 + n) (i / 76)) k t) ∙ ap (λ (n : ℕ). bitOf n k) (eqb-true _ 0 e) ∙ no-dot k)
+  where
+    first : (a c : Bool) → c ≡ true → (a && c) ≡ false → a ≡ false
+    first true c e f = sym e ∙ f
+    first false c e f = refl
+
+dots-white-byte : (w l i b : ℕ) → ((k : ℕ) → k < 8 → outside w l (i % 76 * 8 + k) (i / 76) ≡ true → bitOf b k ≡ false) → whiteByte w l i b ≡ true
+dots-white-byte w l i b h = eq-eqb _ 0 (byte-cong _ (λ k. false) (λ k t. both (bitOf b k) (outside w l (i % 76 * 8 + k) (i / 76)) (h k t)))
+  where
+    both : (a c : Bool) → (c ≡ true → a ≡ false) → (a && c) ≡ false
+    both a true h = rw (h refl)
+    both a false h = and-false a
+
+white-from-byte : (w l i : ℕ) (bs : List ℕ) (j : ℕ) → j < length bs → whiteFrom w l i bs ≡ true → whiteByte w l (i + j) (getD bs j 0) ≡ true
+unfolding whiteFrom
+white-from-byte w l i [] j h e = absurd (not-suc-le-zero h)
+white-from-byte w l i (b ∷ bs) zero h e = ap (λ (n : ℕ). whiteByte w l n b) (omega arith) ∙ and-true (whiteByte w l i b) (whiteFrom w l (suc i) bs) e .0
+white-from-byte w l i (b ∷ bs) (suc j) h e =
+    ap (λ (n : ℕ). whiteByte w l n (getD bs j 0)) (omega arith)
+    ∙ white-from-byte w l (suc i) bs j (le-of-suc-le-suc h) (and-true (whiteByte w l i b) (whiteFrom w l (suc i) bs) e .1)
+
+bytes-white-from : (w l i : ℕ) (bs : List ℕ) → ((j : ℕ) → j < length bs → whiteByte w l (i + j) (getD bs j 0) ≡ true) → whiteFrom w l i bs ≡ true
+unfolding whiteFrom
+bytes-white-from w l i [] h = refl
+bytes-white-from w l i (b ∷ bs) h =
+    let e : whiteByte w l i b ≡ true = ap (λ (n : ℕ). whiteByte w l n b) (omega arith) ∙ h 0 (omega arith) in
+    rw e (bytes-white-from w l (suc i) bs (λ j t. ap (λ (n : ℕ). whiteByte w l n (getD bs j 0)) (omega arith) ∙ h (suc j) (suc-le-suc t)))
+
+-- the page is white outside exactly when no dot of a whole row is black there
+pub white-outside-dot : (w l : ℕ) (p : List ℕ) (x y : ℕ) → whiteOutside w l p ≡ true → x < 608 → y < rows p → outside w l x y ≡ true
+    → dotAt p x y ≡ false
+unfolding whiteOutside dotAt
+white-outside-dot w l p x y e hx hy o =
+    let i = y * 76 + x / 8 in
+    let col : i % 76 * 8 + x % 8 ≡ x = omega arith in
+    let row : i / 76 ≡ y = omega arith in
+    white-byte-dot w l i (getD p i 0) (x % 8) (omega arith)
+    ((λ d. whiteByte w l (sym (zero-add i) d) (sym (getD-take (rows p * 76) p i 0 (omega arith)) d))
+    ∙ white-from-byte w l 0 (take (rows p * 76) p) i (rw (length-take (rows p * 76) p) (omega arith)) e)
+    ((λ d. outside w l (col d) (row d)) ∙ o)
+
+pub dots-white-outside : (w l : ℕ) (p : List ℕ) → ((x y : ℕ) → x < 608 → y < rows p → outside w l x y ≡ true → dotAt p x y ≡ false)
+    → whiteOutside w l p ≡ true
+unfolding whiteOutside dotAt
+dots-white-outside w l p h =
+    bytes-white-from w l 0 (take (rows p * 76) p) (λ j t. at j (rw (length-take (rows p * 76) p) at t))
+  where
+    at : (j : ℕ) → j < min (rows p * 76) (length p) → whiteByte w l (0 + j) (getD (take (rows p * 76) p) j 0) ≡ true
+    at j t =
+        (λ d. whiteByte w l (zero-add j d) (getD-take (rows p * 76) p j 0 (omega arith) d))
+        ∙ dots-white-byte w l j (getD p j 0)
+        (λ k s o.
+        let col : j / 76 * 76 + (j % 76 * 8 + k) / 8 ≡ j = omega arith in
+        let bit : (j % 76 * 8 + k) % 8 ≡ k = omega arith in
+        rw (col, bit) at (h (j % 76 * 8 + k) (j / 76) (omega arith) (omega arith) o))
+
+-- pages that are white outside the label, and what keeps them so
+pub white-outside-white : (w l n : ℕ) → whiteOutside w l (white n) ≡ true
+white-outside-white w l n = dots-white-outside w l (white n) (λ x y s t o. dot-white n x y)
+
+pub white-outside-drawn : (ink : Ink) (w l : ℕ) (s : ℕ → ℕ → Bool) (p : List ℕ) → whiteOutside w l p ≡ true → whiteOutside w l (drawn ink (cut w l s) p) ≡ true
+white-outside-drawn ink w l s p e =
+    dots-white-outside w l (drawn ink (cut w l s) p)
+    (λ x y hx hy o. let k : y < rows p = omega (arith, length-drawn ink (cut w l s) p) in
+    dot-drawn ink (cut w l s) p x y hx k
+    ∙ ap (λ (t : Bool). cond (t && s x y) (inked ink (dotAt p x y)) (dotAt p x y)) (not-true (ltb x w && ltb y l) o)
+    ∙ white-outside-dot w l p x y e hx k o)
+
+pub white-outside-turned : (w l : ℕ) (p : List ℕ) → w ≤ 608 → l ≤ rows p → whiteOutside w l (turned w l p) ≡ true
+unfolding turnedIn
+white-outside-turned w l p hw hl =
+    dots-white-outside w l (turned w l p)
+    (λ x y hx hy o. let k : y < rows p = omega (arith, length-redrawn dots p) in
+    dot-redrawn dots p x y hx k
+    ∙ (λ d. (ltb x (ew d) && ltb y (el d)) && dotAt p (min w 608 - 1 - x) (min l (rows p) - 1 - y))
+    ∙ ap (λ (t : Bool). t && dotAt p (min w 608 - 1 - x) (min l (rows p) - 1 - y)) (not-true (ltb x w && ltb y l) o))
+  where
+    ew : min w 608 ≡ w
+    ew = omega arith
+
+    el : min l (rows p) ≡ l
+    el = omega arith
+
+    dots : ℕ → ℕ → Bool → Bool
+    dots x y o = (ltb x (min w 608) && ltb y (min l (rows p))) && dotAt p (min w 608 - 1 - x) (min l (rows p) - 1 - y)
