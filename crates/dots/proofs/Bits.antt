@@ -7,11 +7,13 @@ use native.Mathlib.Nat.{mod-lt, le-of-suc-le-suc, not-suc-le-zero}
 use native.Mathlib.Omega.{arith}
 use native.Mathlib.Decide.{ℕ-discrete}
 use lib.Dec.{leb, ltb, eqb, lit<}
-use lib.Bits.{bitOr, bitXor, or-shr, or-mod, xor-shr, xor-mod, or-lt, xor-lt}
+use lib.Count.{ones, onesIn}
+use lib.Bits.{bitAnd, bitOr, bitXor, and-shr, and-mod, or-shr, or-mod, xor-shr, xor-mod, and-lt, or-lt, xor-lt}
 use borrow.Author.Tests.{leb-true, ltb-true, eqb-true, le-leb}
 use Rattle.dots.specs.declared.Ink.{Ink}
 use Rattle.dots.specs.declared.Ink.the-variants.{Black, White, Inverted}
 use Rattle.dots.specs.Dots.{one, bitOf, byteOf, within, inked}
+use Rattle.dots.specs.Whole.{blackIn}
 
 -- a test is false where that it is true is absurd
 pub is-false : (b : Bool) → (b ≡ true → ⊥) → b ≡ false
@@ -21,7 +23,7 @@ is-false false h = refl
 pub not-below : (a b : ℕ) → b ≤ a → ltb a b ≡ false
 not-below a b h = is-false (ltb a b) (λ e. omega (arith, ltb-true a b e))
 
-one-le : (b : Bool) → one b ≤ 1
+pub one-le : (b : Bool) → one b ≤ 1
 one-le true = omega arith
 one-le false = omega arith
 
@@ -131,6 +133,12 @@ xor-bit a b k =
     (bits2 (λ u v. eqb (bitXor u v) 1 ≡ cond (eqb v 1) (not (eqb u 1)) (eqb u 1)) refl refl refl refl (a / 2 ^ (7 - k) % 2) (b / 2 ^ (7 - k) % 2)
     (mod-lt (a / 2 ^ (7 - k)) (lit< tt)) (mod-lt (b / 2 ^ (7 - k)) (lit< tt)))
 
+pub and-bit : (a b k : ℕ) → bitOf (bitAnd a b) k ≡ (bitOf a k && bitOf b k)
+and-bit a b k =
+    rw (and-shr a b (7 - k), and-mod (a / 2 ^ (7 - k)) (b / 2 ^ (7 - k)) 1)
+    (bits2 (λ u v. eqb (bitAnd u v) 1 ≡ (eqb u 1 && eqb v 1)) refl refl refl refl (a / 2 ^ (7 - k) % 2) (b / 2 ^ (7 - k) % 2)
+    (mod-lt (a / 2 ^ (7 - k)) (lit< tt)) (mod-lt (b / 2 ^ (7 - k)) (lit< tt)))
+
 -- ---- the inks: the byte b with the dots of the mask m drawn
 abbrev pub inkedByte : Ink → ℕ → ℕ → ℕ
 inkedByte ink b m = byteOf (λ k. cond (bitOf m k) (inked ink (bitOf b k)) (bitOf b k))
@@ -163,7 +171,7 @@ abbrev pub allBelow : ℕ → (ℕ → Bool) → Bool
 allBelow zero f = true
 allBelow (suc n) f = f n && allBelow n f
 
-and-true : (a b : Bool) → (a && b) ≡ true → (a ≡ true) × (b ≡ true)
+pub and-true : (a b : Bool) → (a && b) ≡ true → (a ≡ true) × (b ≡ true)
 and-true true b e = (refl, e)
 and-true false b e = (e, let z : _≡_ {A = Bool} false true = e in cc)
 
@@ -176,6 +184,19 @@ all-below zero f e k h = absurd (not-suc-le-zero h)
 all-below (suc n) f e k h =
     let both = and-true (f n) (allBelow n f) e in
     at-or-below n f k h (both .0) (all-below n f (both .1) k) (ℕ-discrete k n)
+
+-- what `count_ones` gives for a byte
+rightly : ℕ → Bool
+unfolding ones onesIn
+rightly b = eqb (ones b) (blackIn b)
+
+all-rightly : allBelow 256 rightly ≡ true
+unfolding rightly ones onesIn
+all-rightly = refl
+
+pub ones-black : (b : ℕ) → b < 256 → ones b ≡ blackIn b
+unfolding rightly
+ones-black b h = eqb-true (ones b) (blackIn b) (all-below 256 rightly all-rightly b h)
 
 -- what `span_mask` computes: a byte whose first n dots are white and whose others are black, and the difference of two
 abbrev pub from : ℕ → ℕ

@@ -2,3 +2,5 @@
 pub mod Bits
 pub mod Pages
 pub mod Shapes
+pub mod WholePages
+pub mod Turned

@@ -1,29 +1,26 @@
 -- Tests on dots: what a rectangle's test says, and rectangles that are one rectangle together.
 -- Assumes nothing.
 use mathlib.Core.Path.{_≡_, refl, sym, ap, _∙_, subst}
-use mathlib.Core.Bool.{Bool, true, false, not, cond, _&&_, _||_}
-use Prim.Native.Nat.{ℕ, zero, suc, _+_, _-_, _*_, _/_, _%_, _^_, _≤_, _<_, min}
+use mathlib.Core.Bool.{Bool, true, false, not, cond, _&&_, _||_, and-false}
+use Prim.Native.Nat.{ℕ, zero, suc, _+_, _-_, _*_, _/_, _%_, _^_, _≤_, _<_, min, max}
 use native.Mathlib.Omega.{arith}
 use native.Mathlib.Decide.{decLt}
 use mathlib.Core.Logic.{_⊎_, inl, inr, ⊎-elim}
 use mathlib.Core.List.{List}
 use lib.ListN.{length}
 use Rattle.dots.specs.declared.Ink.{Ink}
-use Rattle.dots.proofs.Pages.{Bytes, drawn-join, drawn-off, drawn-ext}
-use Rattle.dots.proofs.Bits.{is-false}
+use Rattle.dots.specs.declared.Ink.the-variants.{Black}
+use Rattle.dots.proofs.Pages.{Bytes, drawn-join, drawn-off, drawn-ext, drawn-black}
+use Rattle.dots.proofs.Bits.{is-false, and-true}
 use lib.Dec.{leb, ltb}
-use borrow.Author.Tests.{leb-true, ltb-true, le-leb, lt-ltb}
-use Rattle.dots.specs.Dots.{within, box, cut, drawn, rows}
+use borrow.Author.Tests.{leb-true, ltb-true, le-leb, lt-ltb, not-true}
+use Rattle.dots.specs.Dots.{within, box, cut, hollow, drawn, rows}
 
 -- two tests are equal where each follows from the other
 pub same-test : (a b : Bool) → (a ≡ true → b ≡ true) → (b ≡ true → a ≡ true) → a ≡ b
 same-test true b f g = sym (f refl)
 same-test false true f g = g refl
 same-test false false f g = refl
-
-pub and-true : (a b : Bool) → (a && b) ≡ true → (a ≡ true) × (b ≡ true)
-and-true true b e = (refl, e)
-and-true false b e = (e, let z : _≡_ {A = Bool} false true = e in cc)
 
 pub or-true : (a b : Bool) → (a ≡ true → ⊥) → (a || b) ≡ true → b ≡ true
 or-true true b n e = absurd (n refl)
@@ -149,3 +146,88 @@ pub cut-box-none : (ink : Ink) (w l x0 y0 x1 y1 : ℕ) (p : List ℕ) → Bytes 
 cut-box-none ink w l x0 y0 x1 y1 p by n =
     box-none ink x0 y0 (min x1 w) (min y1 l) p by n
     ∙ drawn-ext ink (box x0 y0 (min x1 w) (min y1 l)) (cut w l (box x0 y0 x1 y1)) p (λ x y s t. sym (cut-box w l x0 y0 x1 y1 x y))
+
+-- ---- black shapes that are cut
+cut-or : (s a b : Bool) → ((s && a) || (s && b)) ≡ (s && (a || b))
+cut-or true a b = refl
+cut-or false a b = refl
+
+-- any two shapes, cut and drawn black in turn, are one
+pub then-black : (w l : ℕ) (a b : ℕ → ℕ → Bool) (p q r : List ℕ) → q ≡ drawn Black (cut w l a) p → r ≡ drawn Black (cut w l b) q
+    → r ≡ drawn Black (cut w l (λ x y. a x y || b x y)) p
+then-black w l a b p q r e f =
+    f ∙ ap (drawn Black (cut w l b)) e ∙ drawn-black (cut w l a) (cut w l b) p
+    ∙ drawn-ext Black _ (cut w l (λ x y. a x y || b x y)) p (λ x y s t. cut-or (ltb x w && ltb y l) (a x y) (b x y))
+
+pub cut-ext : (ink : Ink) (w l : ℕ) (a b : ℕ → ℕ → Bool) (p : List ℕ)
+    → ((x y : ℕ) → x < w → y < l → x < 608 → y < rows p → a x y ≡ b x y) → drawn ink (cut w l a) p ≡ drawn ink (cut w l b) p
+cut-ext ink w l a b p e =
+    drawn-ext ink (cut w l a) (cut w l b) p
+    (λ x y s t. guarded (ltb x w) (ltb y l) (a x y) (b x y) (λ h k. e x y (ltb-true x w h) (ltb-true y l k) s t))
+  where
+    guarded : (h k u v : Bool) → (h ≡ true → k ≡ true → u ≡ v) → ((h && k) && u) ≡ ((h && k) && v)
+    guarded true true u v e = e refl refl
+    guarded true false u v e = refl
+    guarded false k u v e = refl
+
+-- a shape whose every dot is cut off, or not on the page, draws nothing
+pub cut-off : (ink : Ink) (w l : ℕ) (a : ℕ → ℕ → Bool) (p : List ℕ) → Bytes p
+    → ((x y : ℕ) → x < w → y < l → x < 608 → y < rows p → a x y ≡ false) → drawn ink (cut w l a) p ≡ p
+cut-off ink w l a p by e =
+    cut-ext ink w l a (λ x y. false) p e ∙ drawn-off ink (cut w l (λ x y. false)) p by (λ x y s t. and-false (ltb x w && ltb y l))
+
+-- the four bands of a frame
+band-test : (o a b c d : Bool) → (a ≡ true → o ≡ true) → (b ≡ true → o ≡ true) → (c ≡ true → o ≡ true) → (d ≡ true → o ≡ true)
+    → (o ≡ true → a ≡ false → b ≡ false → c ≡ false → d ≡ true) → (((a || b) || c) || d) ≡ o
+band-test o true b c d f g h k all = sym (f refl)
+band-test o false true c d f g h k all = sym (g refl)
+band-test o false false true d f g h k all = sym (h refl)
+band-test o false false false d f g h k all = same-test d o k (λ e. all e refl refl refl)
+
+pub bands : (c x0 y0 x1 y1 top bottom left right : ℕ) → x0 ≤ x1 → y0 ≤ y1 → top ≡ min (y0 + c) y1 → bottom ≡ max (y1 - c) y0
+    → left ≡ min (x0 + c) x1 → right ≡ max (x1 - c) x0 → (x y : ℕ)
+    → (((box x0 y0 x1 top x y || box x0 bottom x1 y1 x y) || box x0 y0 left y1 x y) || box right y0 x1 y1 x y) ≡ hollow c x0 y0 x1 y1 x y
+bands c x0 y0 x1 y1 top bottom left right hx hy et eb el er x y =
+    band-test (hollow c x0 y0 x1 y1 x y) (box x0 y0 x1 top x y) (box x0 bottom x1 y1 x y) (box x0 y0 left y1 x y) (box right y0 x1 y1 x y)
+    (λ e. let h = in-box x0 y0 x1 top x y e in side (omega arith) (λ i. omega arith))
+    (λ e. let h = in-box x0 bottom x1 y1 x y e in side (omega arith) (λ i. omega arith))
+    (λ e. let h = in-box x0 y0 left y1 x y e in side (omega arith) (λ i. omega arith))
+    (λ e. let h = in-box right y0 x1 y1 x y e in side (omega arith) (λ i. omega arith))
+    (λ e f g h. let k = and-true (box x0 y0 x1 y1 x y) _ e in let i = in-box x0 y0 x1 y1 x y (k .0) in last i (k .1) f g h (decLt x right))
+  where
+    inner : ℕ → ℕ → Type 0
+    inner = In (x0 + c) (y0 + c) (x1 - c) (y1 - c)
+
+    side : In x0 y0 x1 y1 x y → (In (x0 + c) (y0 + c) (x1 - c) (y1 - c) x y → ⊥) → hollow c x0 y0 x1 y1 x y ≡ true
+    side h n = rw (box-in x0 y0 x1 y1 x y h, not-in-box (x0 + c) (y0 + c) (x1 - c) (y1 - c) x y n)
+
+    differ : (b : Bool) → b ≡ true → b ≡ false → ⊥
+    differ b e f = let z : _≡_ {A = Bool} true false = sym e ∙ f in let w : _≡_ {A = ℕ} 0 1 = cc in omega arith
+
+    last : In x0 y0 x1 y1 x y → not (box (x0 + c) (y0 + c) (x1 - c) (y1 - c) x y) ≡ true → box x0 y0 x1 top x y ≡ false → box x0 bottom x1 y1 x y ≡ false
+        → box x0 y0 left y1 x y ≡ false → Dec (x < right) → box right y0 x1 y1 x y ≡ true
+    last i n f g h (no d) = box-in right y0 x1 y1 x y (omega arith)
+    last i n f g h (yes d) = absurd (differ (box (x0 + c) (y0 + c) (x1 - c) (y1 - c) x y)
+        (box-in (x0 + c) (y0 + c) (x1 - c) (y1 - c) x y (let a = above (decLt y top) in let b = beneath (decLt y bottom) in let l = beyond (decLt x left) in omega arith))
+        (not-true _ n))
+      where
+        above : Dec (y < top) → top ≤ y
+        above (no t) = omega arith
+        above (yes t) = absurd (differ _ (box-in x0 y0 x1 top x y (omega arith)) f)
+
+        beneath : Dec (y < bottom) → y < bottom
+        beneath (yes t) = t
+        beneath (no t) = absurd (differ _ (box-in x0 bottom x1 y1 x y (omega arith)) g)
+
+        beyond : Dec (x < left) → left ≤ x
+        beyond (no t) = omega arith
+        beyond (yes t) = absurd (differ _ (box-in x0 y0 left y1 x y (omega arith)) h)
+
+-- the bands drawn in turn are the frame drawn
+pub bands-drawn : (w l c x0 y0 x1 y1 top bottom left right : ℕ) (p q r s t : List ℕ) → x0 ≤ x1 → y0 ≤ y1 → top ≡ min (y0 + c) y1
+    → bottom ≡ max (y1 - c) y0 → left ≡ min (x0 + c) x1 → right ≡ max (x1 - c) x0 → q ≡ drawn Black (cut w l (box x0 y0 x1 top)) p
+    → r ≡ drawn Black (cut w l (box x0 bottom x1 y1)) q → s ≡ drawn Black (cut w l (box x0 y0 left y1)) r
+    → t ≡ drawn Black (cut w l (box right y0 x1 y1)) s → t ≡ drawn Black (cut w l (hollow c x0 y0 x1 y1)) p
+bands-drawn w l c x0 y0 x1 y1 top bottom left right p q r s t hx hy et eb el er dq dr ds dt =
+    then-black w l _ _ p s t (then-black w l _ _ p r s (then-black w l (box x0 y0 x1 top) (box x0 bottom x1 y1) p q r dq dr) ds) dt
+    ∙ cut-ext Black w l _ (hollow c x0 y0 x1 y1) p (λ x y i j k m. bands c x0 y0 x1 y1 top bottom left right hx hy et eb el er x y)

@@ -74,8 +74,10 @@ cut width length shape x y = (ltb x width && ltb y length) && shape x y
 abbrev pub box : ℕ → ℕ → ℕ → ℕ → ℕ → ℕ → Bool
 box x0 y0 x1 y1 x y = within x0 x1 x && within y0 y1 y
 
+-- a box less the box that is shrunk by c on each side
+abbrev pub hollow : ℕ → ℕ → ℕ → ℕ → ℕ → ℕ → ℕ → Bool
+hollow c x0 y0 x1 y1 x y = box x0 y0 x1 y1 x y && not (box (x0 + c) (y0 + c) (x1 - c) (y1 - c) x y)
+
 -- "Dots from the lesser coordinate up to, not including, the greater, less the rectangle shrunk by c on each side."
 abbrev pub frame : ℕ → ℕ → ℕ → ℕ → ℕ → ℕ → ℕ → Bool
-frame a b c d e x y =
-    box (min a d) (min b e) (max a d) (max b e) x y
-    && not (box (min a d + c) (min b e + c) (max a d - c) (max b e - c) x y)
+frame a b c d e = hollow c (min a d) (min b e) (max a d) (max b e)

@@ -7,8 +7,7 @@ use native.Mathlib.Omega.{arith}
 use lib.Dec.{leb, ltb, eqb}
 use borrow.Author.Tests.{eqb-true, leb-true, ltb-true}
 use Rattle.dots.specs.Dots.{bitOf}
-use Rattle.dots.proofs.Bits.{allBelow, all-below}
-use Rattle.dots.proofs.Shapes.{and-true}
+use Rattle.dots.proofs.Bits.{allBelow, all-below, and-true}
 use Rattle.picture.specs.Steps.{darkByte}
 
 abbrev sameb : Bool → Bool → Bool

@@ -3,7 +3,7 @@
 use mathlib.Core.Path.{_≡_, refl, sym, ap, _∙_}
 use mathlib.Core.Bool.{Bool, true, false, _&&_}
 use mathlib.Core.List.{List, [], _++_}
-use Prim.Native.Nat.{ℕ, _+_, _-_, _/_, _%_, _≤_, _<_}
+use Prim.Native.Nat.{ℕ, _+_, _-_, _*_, _/_, _%_, _≤_, _<_}
 use native.Mathlib.Nat.{mul-le-mul, mul-comm}
 use native.Mathlib.Omega.{arith}
 use lib.ListN.{length, getD, drop, replicate, length-append, length-replicate, length-drop, getD-replicate, drop-of-length-le, List·getD-append}
@@ -12,9 +12,9 @@ use lib.Dec.{ltb}
 use borrow.Author.Tests.{ltb-true, lt-ltb, not-true}
 use Rattle.dots.specs.declared.Ink.the-variants.{Black}
 use Rattle.dots.specs.Dots.{drawn, box, cut, bitOf, rows}
-use Rattle.dots.proofs.Bits.{is-false}
+use Rattle.dots.proofs.Bits.{is-false, and-true}
 use Rattle.dots.proofs.Pages.{Bytes, drawn-ext, drawn-off}
-use Rattle.dots.proofs.Shapes.{In, in-box, box-in, and-true, same-test}
+use Rattle.dots.proofs.Shapes.{In, in-box, box-in, same-test}
 use Rattle.picture.specs.Rules as rules
 use Rattle.picture.specs.Rules.{times, next, given, decoded, legal, lineByte, lineBytes}
 use Rattle.picture.specs.declared.inking.Spot.{Spot}
@@ -82,6 +82,12 @@ module _ (p : Spot) (s : List ℕ) (page₀ : List ℕ) where
       d .done ∙ ap (λ (k : ℕ). drawn Black (part p (byteOfPicture s) 0 k) page₀) e
 
 -- ---- the whole picture
+-- each byte of each line of a legal picture is given by a run
+pub line-given : (s : List ℕ) (v k : ℕ) → legal s ≡ true → v < rules.height s → k < lineBytes s → v * lineBytes s + k < length (decoded s)
+line-given s v k law hv hk =
+    let l = legal-says s law in
+    omega (arith, lines-below v (rules.height s) (lineBytes s) k hk hv, mul-comm (lineBytes s) (rules.height s), l .whole)
+
 pub record InPicture (s : List ℕ) (x y a b : ℕ) : Type 0 where
   pub lawful : legal s ≡ true
   pub there : In x y (x + rules.width s) (y + rules.height s) a b
@@ -137,7 +143,7 @@ module _ (s : List ℕ) (width length′ x y : ℕ) (page : List ℕ) (law : leg
       let c = and-true (ltb a width) (ltb b length′) (k .0) in
       let h = pictured-says s x y a b (k .1) in
       let w = h .there in
-      let v = lines-below (b - y) (rules.height s) (lineBytes s) ((a - x) / 8) (omega (arith, w .left, w .right, l .header .holds)) (omega (arith, w .top, w .bottom)) in
+      let to = line-given s (b - y) ((a - x) / 8) law (omega (arith, w .top, w .bottom)) (omega (arith, w .left, w .right, l .header .holds)) in
       says-part spot (byteOfPicture s) 0 (length (decoded s)) a b
       (record {
         there = record {
@@ -147,7 +153,7 @@ module _ (s : List ℕ) (width length′ x y : ℕ) (page : List ℕ) (law : leg
           bottom = omega (arith, w .bottom, ltb-true b length′ (c .1), low);
         };
         from = omega arith;
-        to = omega (arith, v, mul-comm (lineBytes s) (rules.height s), l .whole);
+        to = to;
         bit = h .bit;
       }))
 

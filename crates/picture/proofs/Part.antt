@@ -12,9 +12,9 @@ use lib.Dec.{leb, ltb}
 use borrow.Author.Tests.{leb-true, ltb-true, le-leb, lt-ltb, not-true}
 use Rattle.dots.specs.declared.Ink.the-variants.{Black}
 use Rattle.dots.specs.Dots.{drawn, box, bitOf, within}
-use Rattle.dots.proofs.Bits.{bit-of-byte, is-false}
+use Rattle.dots.proofs.Bits.{bit-of-byte, is-false, and-true}
 use Rattle.dots.proofs.Pages.{Bytes, drawn-ext, drawn-off}
-use Rattle.dots.proofs.Shapes.{In, in-box, box-in, and-true, same-test}
+use Rattle.dots.proofs.Shapes.{In, in-box, box-in, same-test}
 use Rattle.picture.specs.declared.inking.Spot.{Spot}
 use Rattle.picture.specs.Steps.{eight, darkByte, indexAt, part, Fits}
 use Rattle.picture.proofs.Bits.{white-bit}

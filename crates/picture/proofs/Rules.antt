@@ -10,11 +10,12 @@ use native.Mathlib.Omega.{arith}
 use borrow.Author.Tests.{leb-true, eqb-true}
 use lib.ListN.{length, getD, List·getD-eq-default}
 use lib.Dec.{leb, eqb}
-use Rattle.dots.proofs.Shapes.{and-true}
+use Rattle.dots.proofs.Bits.{and-true}
 use Rattle.picture.specs.Rules.{emptyRun, noEmptyRun, waiting, sized, ten, version, ones, ordered, measured, lined, width, height, lineBytes, headed, filled, legal, body, decoded}
 use Rattle.picture.proofs.Runs.{passing-start, passing-stop}
 
 pub record Headed (s : List ℕ) : Type 0 where
+  pub least : 129 ≤ length s
   pub long : length s ≤ 32768
   pub wide : width s ≤ 2048
   pub high : height s ≤ 4000
@@ -31,6 +32,7 @@ headed-says s e =
     let l = and-true (eqb (lineBytes s % 2) 0) (leb (lineBytes s) 256 && leb (width s) (lineBytes s * 8)) (m .1) in
     let k = and-true (leb (lineBytes s) 256) (leb (width s) (lineBytes s * 8)) (l .1) in
     record {
+      least = leb-true 129 (length s) (and-true (leb 129 (length s)) (leb (length s) 32768) (a .0) .0);
       long = leb-true (length s) 32768 (and-true (leb 129 (length s)) (leb (length s) 32768) (a .0) .1);
       wide = leb-true (width s) 2048 (w .0);
       high = leb-true (height s) 4000 (w .1);

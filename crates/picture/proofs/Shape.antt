@@ -11,9 +11,9 @@ use lib.Dec.{leb, ltb}
 use borrow.Author.Tests.{leb-true, ltb-true, le-leb, lt-ltb}
 use Rattle.dots.specs.declared.Ink.the-variants.{Black}
 use Rattle.dots.specs.Dots.{drawn, box, bitOf}
-use Rattle.dots.proofs.Bits.{is-false}
+use Rattle.dots.proofs.Bits.{is-false, and-true}
 use Rattle.dots.proofs.Pages.{drawn-black, drawn-ext}
-use Rattle.dots.proofs.Shapes.{In, in-box, box-in, and-true, same-test}
+use Rattle.dots.proofs.Shapes.{In, in-box, box-in, same-test}
 use Rattle.picture.specs.Steps.{eight}
 use Rattle.picture.proofs.Bits.{pairOf, high-bit, low-bit}
 

@@ -8,12 +8,12 @@ use native.Mathlib.Omega.{arith}
 use lib.ListN.{length as len}
 use Rattle.dots.specs.Dots.{drawn, box}
 use Rattle.dots.proofs.Shapes.{then-below, box-none, as-box}
-use Rattle.dots.proofs.ink_box.Statement.{statement}
-use Rattle.dots.proofs.ink_box.Tie as tie
-use Rattle.dots.proofs.ink_box.Reads as reads
-use Rattle.dots.proofs.ink_box.Lts as lts
-use Rattle.dots.proofs.ink_span.Reads as ink-span-reads
-use Rattle.dots.proofs.least.Reads as least-reads
+use Rattle.dots.proofs.boxes.ink_box.Statement.{statement}
+use Rattle.dots.proofs.boxes.ink_box.Tie as tie
+use Rattle.dots.proofs.boxes.ink_box.Reads as reads
+use Rattle.dots.proofs.boxes.ink_box.Lts as lts
+use Rattle.dots.proofs.boxes.ink_span.Reads as ink-span-reads
+use Rattle.dots.proofs.boxes.least.Reads as least-reads
 
 abbrev Inv-loop : tie.InvT-loop
 Inv-loop page₀ ink width length x0 y0 x1 y1 right bottom y₀ page y =
