@@ -1,0 +1,26 @@
+use borrow.Author.Needs.{needs}
+use Rattle.picture.proofs.header.lined_ok.Statement.{statement}
+use Rattle.picture.proofs.header.lined_ok.Tie as tie
+
+line-bytes-requires : tie.Need-line-bytes-requires
+line-bytes-requires c κs = search needs
+
+width-of-requires : tie.Need-width-of-requires
+width-of-requires c κs = search needs
+
+mul-both : tie.Need-mul-both
+mul-both c = search needs
+
+both-requires : tie.Need-both-requires
+both-requires c κs = search needs
+
+both-requires-2 : tie.Need-both-requires-2
+both-requires-2 c κs = search needs
+
+returns : tie.Need-returns
+returns c = cc
+
+pub lined-ok-spec : {M : Type 1} → statement M
+lined-ok-spec =
+    tie.close
+    (tie.spec line-bytes-requires width-of-requires mul-both both-requires both-requires-2 returns)

@@ -1,0 +1,4 @@
+pub mod Rules
+pub mod Shape
+pub mod Steps
+pub mod Cases

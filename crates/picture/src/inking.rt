@@ -1,0 +1,141 @@
+// A picture drawn: eight dots at a time in one byte of the page or two, each run at once, rows outside the page passed over.
+use crate::body::next_of;
+use crate::body::times_of;
+use crate::header::height_of;
+use crate::header::line_bytes;
+use crate::header::width_of;
+use crate::numbers::least;
+use crate::numbers::less;
+ghost use mathlib.Core.Path.{_≡_};
+ghost use Prim.Native.Nat.{ℕ, _+_, _*_, _^_, _≤_, _<_};
+ghost use lib.Bits.{bitOr};
+ghost use lib.ListN.{length, getD};
+ghost use Rattle.dots.specs.Dots.{drawn};
+ghost use Rattle.dots.specs.declared.Ink.the-variants.{Black};
+ghost use Rattle.picture.specs.Rules.{decoded};
+ghost use Rattle.picture.specs.Steps.{eight, darkByte, part, Fits, spotOf};
+
+// Where a picture stands on a page: its corner, the column and the row at which it ends or is cut, the bytes of its lines, and how many of its bytes
+// stand above that row.
+pub(crate) struct Spot {
+    pub(crate) x: usize,
+    pub(crate) y: usize,
+    pub(crate) right: usize,
+    pub(crate) bottom: usize,
+    pub(crate) line: usize,
+    pub(crate) last: usize,
+}
+
+fn either(b: u8, m: u8) -> u8
+    ensures { λ r. ⌜ r ≡ bitOr b m ⌝ }
+{
+    b | m
+}
+
+// Blackens the dots of the mask m in byte i of row y, where the page has it.
+fn ink_at(page: &mut [u8], i: usize, y: usize, m: u8)
+    ensures { λ _. ⌜ now (page .exit) ≡ drawn Black (eight (i * 8) y m) (now (page .entry)) ⌝ }
+{
+    if 76 <= i {
+        return;
+    }
+    if page.len() / 76 <= y {
+        return;
+    }
+    let at = y * 76 + i;
+    page[at] = either(page[at], m);
+}
+
+// Blackens the dots of the mask m from x, y on: they stand in one byte of the page or two.
+fn ink_eight(page: &mut [u8], x: usize, y: usize, m: u8)
+    ensures { λ _. ⌜ now (page .exit) ≡ drawn Black (eight x y m) (now (page .entry)) ⌝ }
+{
+    let i = x / 8;
+    let pair = (m as u32 * 256) >> (x % 8);
+    ink_at(page, i, y, (pair / 256) as u8);
+    ink_at(page, i + 1, y, (pair % 256) as u8);
+}
+
+// The mask of the black dots among the first n of a picture's byte.
+fn dark_byte(v: u8, n: usize) -> u8
+    requires { ⌜ n ≤ 8 ⌝ }
+    ensures { λ r. ⌜ r ≡ darkByte v n ⌝ }
+{
+    let m = 255 - v as u32;
+    let unit = 256u32 >> n;
+    (m - m % unit) as u8
+}
+
+// Draws a picture's byte number q, which is v.
+fn ink_given(page: &mut [u8], p: Spot, q: usize, v: u8)
+    requires { ⌜ (q < p .last) × Fits p q (now page) ⌝ }
+    ensures { λ _. ⌜ now (page .exit) ≡ drawn Black (part p (λ _. v) q (q + 1)) (now (page .entry)) ⌝ }
+{
+    let line = p.line;
+    let x = p.x + q % line * 8;
+    if p.right <= x {
+        return;
+    }
+    let n = least(8, p.right - x);
+    ink_eight(page, x, p.y + q / line, dark_byte(v, n));
+}
+
+// Draws a picture's bytes number q up to end, each of which is v. Where v is white, and below the last row, no dot is touched.
+fn ink_run(page: &mut [u8], p: Spot, q: usize, end: usize, v: u8)
+    requires { ⌜ (q ≤ end) × Fits p end (now page) ⌝ }
+    ensures { λ _. ⌜ now (page .exit) ≡ drawn Black (part p (λ _. v) q end) (now (page .entry)) ⌝ }
+{
+    if v == 255 {
+        return;
+    }
+    let stop = least(end, p.last);
+    let mut k = q;
+    while k < stop {
+        ink_given(page, p, k, v);
+        k += 1;
+    }
+}
+
+// Draws what a picture's runs give, one byte of the file at a time.
+pub(crate) fn ink_runs(page: &mut [u8], p: Spot, bytes: &[u8])
+    requires { ⌜ Fits p (length (decoded (now bytes))) (now page) ⌝ }
+    ensures { λ _. ⌜ now (page .exit) ≡ drawn Black (part p (λ k. getD (decoded (now (bytes .entry))) k 0) 0 (length (decoded (now (bytes .entry))))) (now (page .entry)) ⌝ }
+{
+    let mut i: usize = 128;
+    let mut n: usize = 0;
+    let mut q: usize = 0;
+    while i < bytes.len() {
+        let b = bytes[i];
+        let end = q + times_of(n, b);
+        ink_run(page, p, q, end, b);
+        n = next_of(n, b);
+        q = end;
+        i += 1;
+    }
+}
+
+// Where a picture stands on a page of so many rows, when it is drawn at x, y and cut at width and length.
+pub(crate) fn spot_on(
+    rows: usize,
+    width: usize,
+    length: usize,
+    x: usize,
+    y: usize,
+    bytes: &[u8],
+) -> Spot
+    requires { ⌜ (x < 608) × (y < rows) × (rows < 2 ^ 60) ⌝ }
+    ensures { λ r. ⌜ r ≡ spotOf rows width length x y (now (bytes .entry)) ⌝ }
+{
+    let right = least(x + width_of(bytes), width);
+    let bottom = least(y + height_of(bytes), least(length, rows));
+    let line = line_bytes(bytes);
+    let last = less(bottom, y) * line;
+    Spot {
+        x,
+        y,
+        right,
+        bottom,
+        line,
+        last,
+    }
+}
