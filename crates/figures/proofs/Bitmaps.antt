@@ -1,17 +1,17 @@
 -- Bitmaps: edges of cells, runs of equal dots, rows drawn run by run and bitmaps row by row.
 -- Assumes nothing.
 use mathlib.Core.Path.{_≡_, refl, sym, ap, _∙_}
-use mathlib.Core.Bool.{Bool, true, false, _&&_, _||_, not, cond, and-false}
+use mathlib.Core.Bool.{Bool, true, false, _&&_, not, cond, and-false}
 use mathlib.Core.Logic.{_⊎_, inl, inr}
 use mathlib.Core.List.{List}
-use Prim.Native.Nat.{ℕ, zero, suc, _+_, _-_, _*_, _/_, _%_, _^_, _≤_, _<_, min}
-use native.Mathlib.Nat.{add-mul, one-mul, mul-zero, mul-le-mul-right, zero-div, div-lt-iff-lt-mul, le-div-iff-mul-le, eq-zero-or-pos}
+use Prim.Native.Nat.{ℕ, _+_, _-_, _*_, _/_, _%_, _^_, _≤_, _<_, min}
+use native.Mathlib.Nat.{add-mul, one-mul, mul-zero, mul-le-mul-right, zero-div, div-lt-iff-lt-mul, le-div-iff-mul-le}
 use native.Mathlib.Decide.{decLt, ℕ-discrete}
 use native.Mathlib.Omega.{arith}
 use lib.Dec.{leb}
-use lib.ListN.{length, getD, List·getD-eq-default}
+use lib.ListN.{length, List·getD-eq-default}
 use borrow.Author.Tests.{leb-true, le-leb}
-use Rattle.dots.specs.Dots.{box, bitOf}
+use Rattle.dots.specs.Dots.{box}
 use Rattle.dots.proofs.Bits.{and-true}
 use Rattle.dots.proofs.Shapes.{In, same-box, in-box, box-in, not-in-box, join-test}
 use Rattle.figures.specs.Figures.{bitRow, bitmap, rowOf, scaled, shifted, Run}

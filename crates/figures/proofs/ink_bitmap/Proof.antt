@@ -9,10 +9,6 @@ use Rattle.figures.proofs.Bitmaps.{bitmap-next, bitmap-none, shifted-no
 use borrow.Author.Needs.{needs}
 use Rattle.figures.proofs.ink_bitmap.Statement.{statement}
 use Rattle.figures.proofs.ink_bitmap.Tie as tie
-use Rattle.figures.proofs.ink_bitmap.Reads as reads
-use Rattle.figures.proofs.ink_bitmap.Lts as lts
-use Rattle.figures.proofs.edge.Reads as edge-reads
-use Rattle.figures.proofs.ink_row.Reads as ink-row-reads
 
 abbrev Inv-loop : tie.InvT-loop
 Inv-loop page₀ ink width length r x y w h d bits stride bw bh hm vm g₀ page g = (g ≤ bh) × (page ≡ drawn ink (cut width length (placed r w h x y (shifted d (scaled bw g hm vm (bitmap bits stride))))) page₀) × (len page ≡ len page₀)
@@ -20,7 +16,6 @@ Inv-loop page₀ ink width length r x y w h d bits stride bw bh hm vm g₀ page 
 abbrev μ-loop : tie.MeasureT-loop
 μ-loop page₀ ink width length r x y w h d bits stride bw bh hm vm g₀ page g = bh - g
 
--- src/lib.rt:220:5
 loop-holds : tie.Need-loop-holds Inv-loop μ-loop
 loop-holds c = let s = c .before in let a = s .before .args in let pic = bitmap (a .bits .now) (a .stride) in (
   search needs,
@@ -30,35 +25,27 @@ loop-holds c = let s = c .before in let a = s .before .args in let pic = bitmap 
   refl,
 )
 
--- src/lib.rt:221:13
 edge-requires : tie.Need-edge-requires Inv-loop μ-loop
 edge-requires c κs = search needs
 
--- src/lib.rt:222:13
 edge-requires-2 : tie.Need-edge-requires-2 Inv-loop μ-loop
 edge-requires-2 c κs = search needs
 
--- src/lib.rt:223:26
 add-edge : tie.Need-add-edge Inv-loop μ-loop
 add-edge c = search needs
 
--- src/lib.rt:223:13
 edge-requires-3 : tie.Need-edge-requires-3 Inv-loop μ-loop
 edge-requires-3 c κs = search needs
 
--- src/lib.rt:224:9
 ink-row-requires : tie.Need-ink-row-requires Inv-loop μ-loop
 ink-row-requires c κs = search needs
 
--- src/lib.rt:225:9
 add-g : tie.Need-add-g Inv-loop μ-loop
 add-g c = search needs
 
--- src/lib.rt:220:5
 loop-less : tie.Need-loop-less Inv-loop μ-loop
 loop-less c = search needs
 
--- src/lib.rt:220:5
 loop-again : tie.Need-loop-again Inv-loop μ-loop
 loop-again c = let d = c .before .before in let e = d .before .before in
     let l = e .before .before .before .before in let a = l .before .before .before .args in
@@ -73,11 +60,9 @@ loop-again c = let d = c .before .before in let e = d .before .before in
       omega (arith, d .ink-row .kept .0),
     )
 
--- src/lib.rt:199:1
 same-length : tie.Need-same-length Inv-loop μ-loop
 same-length c = search needs
 
--- src/lib.rt:199:1
 returns : tie.Need-returns Inv-loop μ-loop
 returns c = let l = c .before in let a = l .before .before .before .args in
     l .loop .inv .1
