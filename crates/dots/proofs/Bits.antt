@@ -163,8 +163,8 @@ white-byte b m hb hm =
     byte-by-bits (bitXor (bitOr b m) m) _ (xor-lt 8 (bitOr b m) m (or-lt 8 b m hb hm) hm)
     (λ k t. xor-bit (bitOr b m) m k ∙ ap (λ (o : Bool). cond (bitOf m k) (not o) o) (or-bit b m k) ∙ white-dot (bitOf b k) (bitOf m k))
 
-pub flip-byte : (b m : ℕ) → b < 256 → m < 256 → bitXor b m ≡ inkedByte Inverted b m
-flip-byte b m hb hm = byte-by-bits (bitXor b m) _ (xor-lt 8 b m hb hm) (λ k t. xor-bit b m k)
+pub inverted-byte : (b m : ℕ) → b < 256 → m < 256 → bitXor b m ≡ inkedByte Inverted b m
+inverted-byte b m hb hm = byte-by-bits (bitXor b m) _ (xor-lt 8 b m hb hm) (λ k t. xor-bit b m k)
 
 -- ---- a test at each number below n, which antt computes
 abbrev pub allBelow : ℕ → (ℕ → Bool) → Bool

@@ -12,7 +12,11 @@ use lib.Dec.{leb, ltb, eqb}
 use Rattle.dots.specs.declared.Ink.{Ink}
 use Rattle.dots.specs.declared.Ink.the-variants.{Black, White, Inverted}
 
--- ---- tests
+-- ---- numbers
+-- a number as a usize holds it: no more than the greatest there is
+abbrev pub capped : ℕ → ℕ
+capped n = min 18446744073709551615 n
+
 -- from ≤ n < to
 abbrev pub within : ℕ → ℕ → ℕ → Bool
 within from to n = leb from n && ltb n to

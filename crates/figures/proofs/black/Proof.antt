@@ -1,3 +1,5 @@
+-- `figures::black` meets its contract: a byte of the bitmap, and past its end none.
+-- Assumes nothing.
 use mathlib.Core.Path.{sym, ap}
 use Prim.Native.Nat.{ℕ, _%_}
 use native.Mathlib.Omega.{arith}

@@ -1,3 +1,5 @@
+-- `figures::differ` meets its contract: the two tests, case by case.
+-- Assumes nothing.
 use mathlib.Core.Path.{sym, ap}
 use mathlib.Core.Bool.{Bool, cond, not}
 use Rattle.figures.proofs.differ.Statement.{statement}

@@ -1,3 +1,5 @@
+-- `figures::edge` meets its contract: the sum fits, or is capped.
+-- Assumes nothing.
 use mathlib.Core.Path.{_≡_, ap, _∙_}
 use Prim.Native.Nat.{ℕ, _+_, _*_, min}
 use native.Mathlib.Omega.{arith}

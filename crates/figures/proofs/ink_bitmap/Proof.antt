@@ -1,3 +1,5 @@
+-- `figures::ink_bitmap` meets its contract. The loop's invariant: the first g rows of the bitmap are drawn. The measure is what is left to bh.
+-- Assumes nothing.
 use mathlib.Core.Path.{_≡_, refl, ap, _∙_}
 use Prim.Native.Nat.{ℕ, _+_, _-_, _≤_}
 use native.Mathlib.Omega.{arith}

@@ -1,3 +1,5 @@
+-- `figures::ink_from` meets its contract: corners that are capped lie off the page.
+-- Assumes nothing.
 use native.Mathlib.Omega.{arith}
 use Rattle.figures.proofs.Placed.{capped-box}
 use borrow.Author.Needs.{needs}

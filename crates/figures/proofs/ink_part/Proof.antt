@@ -1,3 +1,5 @@
+-- `figures::ink_part` meets its contract: in each turn, a box of the figure is one of the page.
+-- Assumes nothing.
 use native.Mathlib.Omega.{arith}
 use Rattle.figures.proofs.Placed.{part-upright, part-once, part-twice, part-thrice}
 use borrow.Author.Needs.{needs}

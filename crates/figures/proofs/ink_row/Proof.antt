@@ -1,3 +1,5 @@
+-- `figures::ink_row` meets its contract. The loop's invariant: the first g dots of the row are drawn. The measure is what is left to bw.
+-- Assumes nothing.
 use mathlib.Core.Path.{_≡_, refl, ap, _∙_}
 use mathlib.Core.Bool.{_&&_}
 use Prim.Native.Nat.{ℕ, _-_, _≤_}

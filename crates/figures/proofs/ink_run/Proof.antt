@@ -1,3 +1,5 @@
+-- `figures::ink_run` meets its contract: the part is drawn, or the figure has no dot.
+-- Assumes nothing.
 use mathlib.Core.Path.{sym, ap}
 use mathlib.Core.Bool.{Bool, _&&_}
 use native.Mathlib.Omega.{arith}

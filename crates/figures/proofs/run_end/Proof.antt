@@ -1,3 +1,5 @@
+-- `figures::run_end` meets its contract. The loop's invariant is `Run` itself; the measure is what is left to w.
+-- Assumes nothing.
 use mathlib.Core.Path.{sym, _∙_}
 use Prim.Native.Nat.{_-_}
 use Rattle.figures.specs.Figures.{bitRow, Run}

@@ -1,6 +1,6 @@
-use Rattle.dots.proofs.Shapes.{as-cut-box, cut-box-none, then-below, box-none}
--- `dots::ink_box` meets its contract. The loop's invariant: the rows from y0 to y are drawn. The measure is what is left to the bottom.
+-- `dots::boxes::ink_box` meets its contract. The loop's invariant: the rows from y0 to y are drawn. The measure is what is left to the bottom.
 -- Assumes nothing.
+use Rattle.dots.proofs.Shapes.{as-cut-box, cut-box-none, then-below, box-none}
 use mathlib.Core.Path.{_≡_, refl}
 use Prim.Native.Nat.{_-_, _≤_, max}
 use borrow.Author.Needs.{needs}

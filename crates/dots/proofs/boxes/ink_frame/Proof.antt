@@ -1,3 +1,5 @@
+-- `dots::boxes::ink_frame` meets its contract: the corners in their order.
+-- Assumes nothing.
 use mathlib.Core.Path.{_∙_}
 use Rattle.dots.specs.declared.Ink.the-variants.{Black}
 use Rattle.dots.specs.Dots.{drawn, cut, hollow}

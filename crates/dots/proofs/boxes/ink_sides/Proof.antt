@@ -1,3 +1,5 @@
+-- `dots::boxes::ink_sides` meets its contract: the bands at the four sides are the box less the shrunk one.
+-- Assumes nothing.
 use Rattle.dots.proofs.Shapes.{bands-drawn}
 use borrow.Author.Needs.{needs}
 use Rattle.dots.proofs.boxes.ink_sides.Statement.{statement}

@@ -1,3 +1,5 @@
+-- `dots::half::between` meets its contract: two bytes shifted towards each other have no dot in common.
+-- Assumes nothing.
 use mathlib.Core.Path.{refl}
 use Prim.Native.Nat.{_*_, _^_, _-_}
 use native.Mathlib.Omega.{arith}

@@ -1,3 +1,5 @@
+-- `dots::half::byte_of_row` meets its contract: a byte in the row, and one beyond its end.
+-- Assumes nothing.
 use mathlib.Core.Path.{sym, ap}
 use mathlib.Core.Bool.{Bool, cond}
 use Prim.Native.Nat.{_+_}

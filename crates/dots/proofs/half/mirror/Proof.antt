@@ -1,4 +1,4 @@
--- `dots::mirror` meets its contract: the rule, computed at each byte.
+-- `dots::half::mirror` meets its contract: the rule, computed at each byte.
 -- Assumes nothing.
 use Prim.Native.Nat.{_/_}
 use native.Mathlib.Omega.{arith}

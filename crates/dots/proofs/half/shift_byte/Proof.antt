@@ -1,3 +1,5 @@
+-- `dots::half::shift_byte` meets its contract: the dots of the two bytes that it reads.
+-- Assumes nothing.
 use mathlib.Core.Path.{ap}
 use lib.ListN.{set}
 use Rattle.dots.proofs.Turned.{shifted-byte}

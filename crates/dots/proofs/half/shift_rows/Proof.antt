@@ -1,3 +1,5 @@
+-- `dots::half::shift_rows` meets its contract. The loop's invariant is `Shifted`; the measure is what is left of the rows.
+-- Assumes nothing.
 use Prim.Native.Nat.{_-_}
 use Rattle.dots.proofs.Turned.{Shifted, shifted-start, shifted-step, shifted-done}
 use borrow.Author.Needs.{needs}

@@ -1,3 +1,5 @@
+-- `dots::half::turn` meets its contract: rows turned, shifted and whitened are the label turned.
+-- Assumes nothing.
 use mathlib.Core.Path.{refl, _∙_}
 use native.Mathlib.Omega.{arith}
 use Rattle.dots.specs.Whole.{turnedIn}

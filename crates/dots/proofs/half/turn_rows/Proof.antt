@@ -1,3 +1,5 @@
+-- `dots::half::turn_rows` meets its contract. The loop's invariant is `Turned`; the measure is what is left between i and j.
+-- Assumes nothing.
 use Prim.Native.Nat.{_-_, _*_}
 use native.Mathlib.Omega.{arith}
 use lib.ListN.{length-set}

@@ -1,3 +1,5 @@
+-- `dots::whole::black_dots` meets its contract. The loop's invariant: what is counted, with what is left to count, is the whole. The measure is what is left.
+-- Assumes nothing.
 use mathlib.Core.Path.{_≡_, sym, ap, _∙_}
 use Prim.Native.Nat.{ℕ, _+_, _-_, _≤_, min}
 use native.Mathlib.Omega.{arith}

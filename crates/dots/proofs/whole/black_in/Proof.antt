@@ -1,3 +1,5 @@
+-- `dots::whole::black_in` meets its contract: the count of bits, computed at each byte.
+-- Assumes nothing.
 use native.Mathlib.Omega.{arith}
 use lib.Count.{ones-le}
 use Rattle.dots.proofs.Bits.{ones-black}

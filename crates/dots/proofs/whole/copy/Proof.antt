@@ -1,3 +1,5 @@
+-- `dots::whole::copy` meets its contract. The loop's invariant: the first i bytes are copied. The measure is what is left to the end.
+-- Assumes nothing.
 use mathlib.Core.Path.{_≡_, _∙_}
 use Prim.Native.Nat.{_-_, _≤_}
 use native.Mathlib.Omega.{arith}

@@ -1,3 +1,5 @@
+-- `dots::whole::outside_mask` meets its contract: all dots of the byte lie outside, or those from the width on.
+-- Assumes nothing.
 use mathlib.Core.Path.{_∙_}
 use native.Mathlib.Omega.{arith}
 use Rattle.dots.proofs.WholePages.{all-outside, some-outside}

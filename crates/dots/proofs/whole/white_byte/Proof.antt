@@ -1,3 +1,5 @@
+-- `dots::whole::white_byte` meets its contract: the dots that the byte has in common with the mask.
+-- Assumes nothing.
 use Prim.Native.Nat.{_+_, _*_, _/_, _%_, ℕ}
 use Rattle.dots.specs.Whole.{outside}
 use mathlib.Core.Path.{ap}

@@ -1,3 +1,5 @@
+-- `dots::whole::white_outside` meets its contract. The loop's invariant: what is left to look at decides. The measure is what is left to the end.
+-- Assumes nothing.
 use mathlib.Core.Path.{_≡_, sym, _∙_}
 use Prim.Native.Nat.{_-_, _≤_}
 use borrow.Author.Tests.{not-true, not-false}

@@ -1,3 +1,5 @@
+-- `dots::whole::whiten` meets its contract. The loop's invariant: the first i bytes are 0. The measure is what is left.
+-- Assumes nothing.
 use mathlib.Core.Path.{_≡_, refl}
 use Prim.Native.Nat.{ℕ, _-_, _≤_, _<_}
 use native.Mathlib.Omega.{arith}
