@@ -1,20 +1,20 @@
 -- The laws of `redrawn` and `drawn`: bytes and dots of the page drawn, two drawings in turn, drawings that are equal, drawings that change nothing.
 -- Assumes nothing.
-use mathlib.Core.Path.{_≡_, refl, sym, ap, _∙_, subst}
-use mathlib.Core.Bool.{Bool, true, false, not, cond, _&&_, _||_}
+use mathlib.Core.Path.{_≡_, refl, sym, ap, _∙_}
+use mathlib.Core.Bool.{Bool, true, false, cond, _&&_, _||_}
 use mathlib.Core.List.{List, [], _∷_}
-use Prim.Native.Nat.{ℕ, zero, suc, _+_, _-_, _*_, _/_, _%_, _^_, _≤_, _<_}
-use native.Mathlib.Nat.{mod-lt, zero-add, le-of-suc-le-suc, not-suc-le-zero}
+use Prim.Native.Nat.{ℕ, zero, suc, _+_, _-_, _*_, _/_, _%_, _≤_, _<_}
+use native.Mathlib.Nat.{zero-add, le-of-suc-le-suc, not-suc-le-zero}
 use native.Mathlib.Decide.{ℕ-discrete, decLt}
 use native.Mathlib.Omega.{arith}
-use lib.Dec.{ltb, lit<}
+use lib.Dec.{ltb}
 use lib.ListN.{length, getD, set, length-set}
 use lib.Seq.{ext-getD, getD-set-same, getD-set-other}
 use borrow.Author.Tests.{lt-ltb}
 use Rattle.dots.specs.declared.Ink.{Ink}
-use Rattle.dots.specs.declared.Ink.the-variants.{Black, White, Inverted}
-use Rattle.dots.specs.Dots.{one, bitOf, byteOf, byteDrawn, redrawnFrom, redrawn, inked, drawn, rows, dotAt}
-use Rattle.dots.proofs.Bits.{byte-cong, bit-of-byte, byte-is, byte-by-bits, byte-lt, inkedByte, not-below}
+use Rattle.dots.specs.declared.Ink.the-variants.{Black}
+use Rattle.dots.specs.Dots.{bitOf, byteDrawn, redrawnFrom, redrawn, inked, drawn, rows, dotAt}
+use Rattle.dots.proofs.Bits.{byte-cong, bit-of-byte, byte-is, byte-by-bits, inkedByte, not-below}
 
 -- each element is a byte
 abbrev pub Bytes : List ℕ → Type 0

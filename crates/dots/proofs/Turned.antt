@@ -2,8 +2,8 @@
 -- Assumes nothing.
 use mathlib.Core.Path.{_≡_, refl, sym, ap, _∙_}
 use mathlib.Core.Bool.{Bool, true, false, not, cond, _&&_, _||_, and-false}
-use mathlib.Core.List.{List, [], _∷_}
-use Prim.Native.Nat.{ℕ, zero, suc, _+_, _-_, _*_, _/_, _%_, _^_, _≤_, _<_, min}
+use mathlib.Core.List.{List}
+use Prim.Native.Nat.{ℕ, _+_, _-_, _*_, _/_, _%_, _^_, _≤_, _<_, min}
 use native.Mathlib.Decide.{ℕ-discrete, decLt}
 use native.Mathlib.Nat.{zero-div}
 use native.Mathlib.Omega.{arith}
@@ -13,10 +13,10 @@ use lib.ListN.{length, getD, set, length-set}
 use lib.Seq.{getD-set-same, getD-set-other}
 use borrow.Author.Tests.{eqb-true, lt-ltb}
 use Rattle.dots.specs.declared.Ink.the-variants.{White}
-use Rattle.dots.specs.Dots.{bitOf, byteOf, dotAt, rows, redrawn, drawn, cut, box, inked}
+use Rattle.dots.specs.Dots.{bitOf, byteOf, dotAt, rows, redrawn, drawn, cut, box}
 use Rattle.dots.specs.Whole.{turnedIn}
 use Rattle.dots.proofs.Bits.{allBelow, all-below, byte-cong, byte-is, byte-lt, byte-by-bits, bit-of-byte, or-bit, not-below}
-use Rattle.dots.proofs.Pages.{Bytes, redrawn-by-bytes, redrawn-redrawn, redrawn-ext, dot-redrawn, length-redrawn}
+use Rattle.dots.proofs.Pages.{Bytes, redrawn-by-bytes, redrawn-redrawn, redrawn-ext, dot-redrawn}
 use Rattle.dots.proofs.Shapes.{cut-box, box-in, not-in-box}
 
 abbrev pub mirrored : ℕ → ℕ

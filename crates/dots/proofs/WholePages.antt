@@ -1,20 +1,20 @@
 -- Whole pages: white ones, copies, the count of black dots, and pages that are white outside the label.
 -- Assumes nothing.
 use mathlib.Core.Path.{_≡_, refl, sym, ap, _∙_}
-use mathlib.Core.Bool.{Bool, true, false, not, cond, _&&_, _||_, and-false}
+use mathlib.Core.Bool.{Bool, true, false, cond, _&&_, and-false}
 use mathlib.Core.List.{List, [], _∷_, _++_, append-nil}
 use Prim.Native.Nat.{suc-le-suc, ℕ, zero, suc, _+_, _-_, _*_, _/_, _%_, _^_, _≤_, _<_, min}
 use native.Mathlib.Decide.{ℕ-discrete, decLt}
 use native.Mathlib.Nat.{zero-add, zero-div, le-of-suc-le-suc, not-suc-le-zero}
 use native.Mathlib.Numerals.{add-one}
 use native.Mathlib.Omega.{arith}
-use lib.Dec.{leb, ltb, eqb}
+use lib.Dec.{leb, ltb}
 use lib.Bits.{bitAnd, and-lt}
-use lib.ListN.{length, getD, take, drop, set, length-set, length-take, replicate, length-replicate, getD-replicate, drop-of-length-le}
+use lib.ListN.{length, getD, take, drop, set, length-take, length-replicate, drop-of-length-le}
 use lib.Seq.{ext-getD, getD-set-same, getD-set-other, drop-cons, getD-take, take-all, paste, paste-suc}
 use borrow.Author.Tests.{leb-true, ltb-true, le-leb, lt-ltb, eqb-true, eq-eqb, not-true}
 use Rattle.dots.specs.declared.Ink.{Ink}
-use Rattle.dots.specs.Dots.{bitOf, byteOf, within, rows, dotAt, inked, redrawn, drawn, cut}
+use Rattle.dots.specs.Dots.{bitOf, byteOf, within, rows, dotAt, inked, drawn, cut}
 use Rattle.dots.specs.Whole.{white, copied, turnedIn, turned, blackIn, blackDots, outside, whiteByte, whiteFrom, whiteOutside}
 use Rattle.dots.proofs.Bits.{is-false, and-true, one-le, byte-lt, not-below, byte-cong, byte-by-bits, bit-of-byte, and-bit}
 use Rattle.dots.proofs.Pages.{dot-redrawn, length-redrawn, dot-drawn, length-drawn}

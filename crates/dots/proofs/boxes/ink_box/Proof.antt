@@ -1,19 +1,14 @@
-use Rattle.dots.proofs.Shapes.{as-cut-box, cut-box-none}
--- `dots::ink_box` meets its contract. The loop's invariant: the rows from y0 to y are drawn. The measure is what is left to the bottom.
+-- `dots::boxes::ink_box` meets its contract. The loop's invariant: the rows from y0 to y are drawn. The measure is what is left to the bottom.
 -- Assumes nothing.
+use Rattle.dots.proofs.Shapes.{as-cut-box, cut-box-none, then-below, box-none}
 use mathlib.Core.Path.{_≡_, refl}
-use Prim.Native.Nat.{ℕ, _+_, _*_, _-_, _<_, _≤_, max}
+use Prim.Native.Nat.{_-_, _≤_, max}
 use borrow.Author.Needs.{needs}
 use native.Mathlib.Omega.{arith}
 use lib.ListN.{length as len}
 use Rattle.dots.specs.Dots.{drawn, box}
-use Rattle.dots.proofs.Shapes.{then-below, box-none, as-box}
 use Rattle.dots.proofs.boxes.ink_box.Statement.{statement}
 use Rattle.dots.proofs.boxes.ink_box.Tie as tie
-use Rattle.dots.proofs.boxes.ink_box.Reads as reads
-use Rattle.dots.proofs.boxes.ink_box.Lts as lts
-use Rattle.dots.proofs.boxes.ink_span.Reads as ink-span-reads
-use Rattle.dots.proofs.boxes.least.Reads as least-reads
 
 abbrev Inv-loop : tie.InvT-loop
 Inv-loop page₀ ink width length x0 y0 x1 y1 right bottom y₀ page y =

@@ -1,0 +1,227 @@
+// Figures on a page of dots: dots in a box of their own, scaled, turned clockwise by quarters and cut at the label's width and length.
+// Paper 01 turns text and bars so: the upper left corner of the turned box stands at x,y. `placed` of specs/Figures.antt is that shape, one
+// definition for all turns, and each function promises `drawn ink (cut width length (placed ..))` of the page, for any page and any numbers.
+// Which figures there are, a glyph or the bars of a symbol, is left to the crates above.
+use dots::Ink;
+use dots::capped_sum;
+use dots::least;
+ghost use mathlib.Core.Path.{_≡_};
+ghost use Prim.Native.Nat.{_+_, _-_, _*_, _<_};
+ghost use mathlib.Core.Bool.{cond, not, _&&_};
+ghost use Rattle.dots.specs.Dots.{drawn, box, cut, capped};
+ghost use Rattle.figures.specs.Figures.{bitmap, bitRow, rowOf, scaled, shifted, placed, Run};
+
+// a less b, and 0 where b is more.
+fn less(a: usize, b: usize) -> usize
+    ensures { λ r. ⌜ r ≡ a - b ⌝ }
+{
+    if b < a { a - b } else { 0 }
+}
+
+// Draws the box p0 up to p1, q0 up to q1 that is counted from (x, y).
+fn ink_from(
+    page: &mut [u8],
+    ink: Ink,
+    width: usize,
+    length: usize,
+    x: usize,
+    y: usize,
+    p0: usize,
+    q0: usize,
+    p1: usize,
+    q1: usize,
+)
+    ensures { λ _. ⌜ now (page .exit) ≡ drawn ink (cut width length (box (x + p0) (y + q0) (x + p1) (y + q1))) (now (page .entry)) ⌝ }
+{
+    let x0 = capped_sum(x, p0);
+    let y0 = capped_sum(y, q0);
+    let x1 = capped_sum(x, p1);
+    let y1 = capped_sum(y, q1);
+    dots::ink_box(page, ink, width, length, x0, y0, x1, y1);
+}
+
+// Draws the box u0 up to u1, v0 up to v1 of a figure in a box of w by h dots, which is turned by r quarters and then has its corner at (x, y).
+pub fn ink_part(
+    page: &mut [u8],
+    ink: Ink,
+    width: usize,
+    length: usize,
+    r: usize,
+    x: usize,
+    y: usize,
+    w: usize,
+    h: usize,
+    u0: usize,
+    v0: usize,
+    u1: usize,
+    v1: usize,
+)
+    ensures { λ _. ⌜ now (page .exit) ≡ drawn ink (cut width length (placed r w h x y (box u0 v0 u1 v1))) (now (page .entry)) ⌝ }
+{
+    let u2 = least(u1, w);
+    let v2 = least(v1, h);
+    let left = less(w, u2);
+    let right = less(w, u0);
+    let top = less(h, v2);
+    let bottom = less(h, v0);
+    match r % 4 {
+        0 => ink_from(page, ink, width, length, x, y, u0, v0, u2, v2),
+        1 => ink_from(page, ink, width, length, x, y, top, u0, bottom, u2),
+        2 => ink_from(page, ink, width, length, x, y, left, top, right, bottom),
+        _ => ink_from(page, ink, width, length, x, y, v0, left, v2, right),
+    }
+}
+
+// d and g times m, or the greatest number there is.
+fn edge(d: usize, g: usize, m: usize) -> usize
+    ensures { λ r. ⌜ r ≡ capped (d + g * m) ⌝ }
+{
+    if m == 0 {
+        return d;
+    }
+    let room = 18446744073709551615 - d;
+    if room / m < g {
+        return 18446744073709551615;
+    }
+    d + g * m
+}
+
+// Whether dot g of the row of a bitmap that starts at byte `at` is black.
+fn black(bits: &[u8], at: usize, g: usize) -> bool
+    ensures { λ r. ⌜ r ≡ bitRow (now (bits .entry)) at g ⌝ }
+{
+    let i = capped_sum(at, g / 8);
+    if i < bits.len() {
+        return (bits[i] >> (7 - g % 8)) % 2 == 1;
+    }
+    false
+}
+
+// Whether just one of two tests passes.
+fn differ(a: bool, b: bool) -> bool
+    ensures { λ r. ⌜ r ≡ cond a (not b) b ⌝ }
+{
+    if a { !b } else { b }
+}
+
+// Where the run of equal dots ends that starts at dot g of a row of w dots.
+fn run_end(bits: &[u8], at: usize, g: usize, w: usize) -> usize
+    requires { ⌜ g < w ⌝ }
+    ensures { λ r. ⌜ Run (bitRow (now (bits .entry)) at) g w r ⌝ }
+{
+    let on = black(bits, at, g);
+    let mut e = g + 1;
+    while e < w {
+        if differ(black(bits, at, e), on) {
+            return e;
+        }
+        e += 1;
+    }
+    e
+}
+
+// Draws a part of a figure, as `ink_part` does, where it is on.
+fn ink_run(
+    page: &mut [u8],
+    ink: Ink,
+    width: usize,
+    length: usize,
+    r: usize,
+    x: usize,
+    y: usize,
+    w: usize,
+    h: usize,
+    on: bool,
+    u0: usize,
+    v0: usize,
+    u1: usize,
+    v1: usize,
+)
+    ensures { λ _. ⌜ now (page .exit) ≡ drawn ink (cut width length (placed r w h x y (λ u v. on && box u0 v0 u1 v1 u v))) (now (page .entry)) ⌝ }
+{
+    if !on {
+        return;
+    }
+    ink_part(page, ink, width, length, r, x, y, w, h, u0, v0, u1, v1);
+}
+
+// Draws one row of a bitmap in spans: the bw dots from byte `at` on, each hm dots wide, as the rows v0 up to v1 of a figure that starts at d.
+fn ink_row(
+    page: &mut [u8],
+    ink: Ink,
+    width: usize,
+    length: usize,
+    r: usize,
+    x: usize,
+    y: usize,
+    w: usize,
+    h: usize,
+    d: usize,
+    bits: &[u8],
+    at: usize,
+    bw: usize,
+    hm: usize,
+    v0: usize,
+    v1: usize,
+)
+    ensures { λ _. ⌜ now (page .exit) ≡ drawn ink (cut width length (placed r w h x y (shifted d (rowOf (bitRow (now (bits .entry)) at) bw hm v0 v1)))) (now (page .entry)) ⌝ }
+{
+    let mut g = 0;
+    while g < bw {
+        let e = run_end(bits, at, g, bw);
+        let on = black(bits, at, g);
+        let u0 = edge(d, g, hm);
+        let u1 = edge(d, e, hm);
+        ink_run(page, ink, width, length, r, x, y, w, h, on, u0, v0, u1, v1);
+        g = e;
+    }
+}
+
+// Draws a bitmap of bw by bh dots, whose rows are of `stride` bytes, each dot hm dots wide and vm high, d to the right of the corner of a figure in a
+// box of w by h dots, which is turned by r quarters and then has its corner at (x, y).
+pub fn ink_bitmap(
+    page: &mut [u8],
+    ink: Ink,
+    width: usize,
+    length: usize,
+    r: usize,
+    x: usize,
+    y: usize,
+    w: usize,
+    h: usize,
+    d: usize,
+    bits: &[u8],
+    stride: usize,
+    bw: usize,
+    bh: usize,
+    hm: usize,
+    vm: usize,
+)
+    ensures { λ _. ⌜ now (page .exit) ≡ drawn ink (cut width length (placed r w h x y (shifted d (scaled bw bh hm vm (bitmap (now (bits .entry)) stride))))) (now (page .entry)) ⌝ }
+{
+    let mut g = 0;
+    while g < bh {
+        let at = edge(0, g, stride);
+        let v0 = edge(0, g, vm);
+        let v1 = edge(0, g + 1, vm);
+        ink_row(
+            page,
+            ink,
+            width,
+            length,
+            r,
+            x,
+            y,
+            w,
+            h,
+            d,
+            bits,
+            at,
+            bw,
+            hm,
+            v0,
+            v1,
+        );
+        g += 1;
+    }
+}
