@@ -1,0 +1,377 @@
+-- Laws on the rows of the grammar, and on what reading a row's fields leaves in two arrays.
+use mathlib.Core.Path.{_≡_, _∙_, refl, sym, ap}
+use mathlib.Core.Bool.{Bool, true, false, cond, _&&_, and-false}
+use mathlib.Core.List.{List, [], _∷_, _++_}
+use Prim.Native.Nat.{ℕ, zero, suc, _+_, _-_, _*_, _/_, _%_, _≤_, _<_}
+use native.Mathlib.Nat.{add-zero, zero-add, add-suc, suc-add}
+use native.Mathlib.Numerals.{add-one}
+use native.Mathlib.Omega.{arith}
+use native.Mathlib.Decide.{decLt}
+use lib.Dec.{T, leb, ltb, eqb, leb→le, ltb→lt}
+use lib.ListN.{length, getD, set, take, drop, replicate, length-drop, drop-of-length-le, List·getD-eq-default}
+use lib.Seq.{take-all, drop-cons, drop-drop, getD-drop, sets, sets-eq}
+use borrow.Author.Tests.{le-ltb, lt-ltb}
+use Rattle.fit.specs.Bytes.{between}
+use Rattle.fields.specs.declared.Field.{Field}
+use Rattle.fields.specs.declared.Field.the-variants.{Is, Not}
+use Rattle.fields.specs.declared.Limits.{Limits}
+use Rattle.fields.specs.declared.Limits.the-variants.{Within, Outside}
+use Rattle.fields.proofs.Laws.{and-T}
+use Rattle.read.specs.Grammar.{
+  Form,
+  forms,
+  none,
+  rowOf,
+  boundsOf,
+  spread,
+  limited,
+  free,
+  fieldAt,
+  fieldsFrom,
+  Got,
+  good,
+  bad,
+  next,
+  ahead,
+  Filled,
+  fieldLimits,
+  firstOf,
+  limitsFrom,
+  isNumber,
+}
+use Rattle.read.specs.Front.{sizeOf}
+use Rattle.read.specs.Codes.{bound, boundBy, codes, codeAt}
+use Rattle.read.specs.Commands.{judged, decided, commandOf, itemOf, orderOf}
+use Rattle.read.specs.declared.Bounds.{Bounds}
+use Rattle.read.specs.declared.Fields.{Fields}
+use Rattle.read.specs.declared.Fields.the-variants.{All, Bad}
+use Rattle.read.specs.declared.Fault.the-variants.{Form as form, Limit}
+use Rattle.read.specs.declared.Read.the-variants.{Taken, Refused}
+
+-- ---- tables
+
+-- past the last row there is none
+pub no-row : (row : ℕ) → 28 ≤ row → rowOf row ≡ none
+no-row row h = List·getD-eq-default forms none h
+
+-- a table of n entries that f fills
+abbrev pub build : {A : Type 0} → (ℕ → A) → ℕ → ℕ → List A
+build f lo zero = []
+build f lo (suc n) = f lo ∷ build f (suc lo) n
+
+build-at : {A : Type 0} (f : ℕ → A) (n lo k : ℕ) (d : A) → k < n → getD (build f lo n) k d ≡ f (lo + k)
+build-at f zero lo k d h = absurd (omega arith)
+build-at f (suc n) lo zero d h = rw add-zero
+build-at f (suc n) lo (suc k) d h = build-at f n (suc lo) k d (omega arith) ∙ ap f (suc-add lo k ∙ sym (add-suc lo k))
+
+-- a table of eighteen entries a row
+pub table-at : {A : Type 0} (f : ℕ → ℕ → A) (d : A) (rows row i : ℕ) → row < rows → i < 18
+    → getD (build (λ k. f (k / 18) (k % 18)) 0 (rows * 18)) (row * 18 + i) d ≡ f row i
+table-at f d rows row i h l =
+    let e : (row * 18 + i) / 18 ≡ row = omega arith in
+    let m : (row * 18 + i) % 18 ≡ i = omega arith in
+    build-at (λ k. f (k / 18) (k % 18)) (rows * 18) 0 (row * 18 + i) d (omega arith) ∙ rw (zero-add, e, m)
+
+abbrev mapped : {A : Type 0} → (ℕ → A) → List ℕ → List A
+mapped g [] = []
+mapped g (x ∷ xs) = g x ∷ mapped g xs
+
+mapped-at : {A : Type 0} (g : ℕ → A) (l : List ℕ) (k d : ℕ) → getD (mapped g l) k (g d) ≡ g (getD l k d)
+mapped-at g [] k d = refl
+mapped-at g (x ∷ xs) zero d = refl
+mapped-at g (x ∷ xs) (suc k) d = mapped-at g xs k d
+
+-- what holds of each form and of none holds of each row
+every : (Form → Bool) → List Form → Bool
+every p [] = true
+every p (f ∷ fs) = p f && every p fs
+
+every-at : (p : Form → Bool) (fs : List Form) → T (every p fs) → T (p none) → (row : ℕ) → T (p (getD fs row none))
+unfolding every
+every-at p [] h k row = k
+every-at p (f ∷ fs) h k zero = and-T (p f) (every p fs) h .0
+every-at p (f ∷ fs) h k (suc row) = every-at p fs (and-T (p f) (every p fs) h .1) k row
+
+-- a form's bytes are above the space, which ends a row, and there are at most eighteen in a row
+fine : List ℕ → Bool
+fine [] = true
+fine (f ∷ fs) = ltb 32 f && fine fs
+
+fine-at : (l : List ℕ) → T (fine l) → (i : ℕ) → i < length l → 32 < getD l i 32
+unfolding fine
+fine-at [] h i k = absurd (omega arith)
+fine-at (f ∷ fs) h zero k = ltb→lt 32 f (and-T (ltb 32 f) (fine fs) h .0)
+fine-at (f ∷ fs) h (suc i) k = fine-at fs (and-T (ltb 32 f) (fine fs) h .1) i (omega arith)
+
+row-fine : (row i : ℕ) → i < length (rowOf row .fields) → 32 < getD (rowOf row .fields) i 32
+unfolding every fine
+row-fine row i h = fine-at (rowOf row .fields) (every-at (λ f. fine (f .fields)) forms tt tt row) i h
+
+pub row-short : (row : ℕ) → length (rowOf row .fields) ≤ 18
+unfolding every
+row-short row = leb→le (length (rowOf row .fields)) 18 (every-at (λ f. leb (length (f .fields)) 18) forms tt tt row)
+
+-- where a row's byte is no space the row goes on, and where it is the row has ended
+pub out-row : (row i f : ℕ) → f ≡ getD (rowOf row .fields) i 32 → f ≡ 32 → length (rowOf row .fields) ≤ i
+out-row row i f h e = go (decLt i (length (rowOf row .fields)))
+  where
+    go : Dec (i < length (rowOf row .fields)) → length (rowOf row .fields) ≤ i
+    go (yes k) = let z = row-fine row i k in absurd (omega arith)
+    go (no k) = omega arith
+
+pub in-row : (row i f : ℕ) → f ≡ getD (rowOf row .fields) i 32 → (f ≡ 32 → ⊥) → i < length (rowOf row .fields)
+in-row row i f h e = go (decLt i (length (rowOf row .fields)))
+  where
+    go : Dec (i < length (rowOf row .fields)) → i < length (rowOf row .fields)
+    go (yes k) = k
+    go (no k) = absurd (e (h ∙ List·getD-eq-default (rowOf row .fields) 32 (omega arith)))
+
+-- ---- bounds
+
+spread-length : (fs : List ℕ) (ls : List (ℕ × ℕ)) → length (spread fs ls) ≡ length fs
+unfolding spread
+spread-length [] ls = refl
+spread-length (f ∷ fs) [] = ap suc (spread-length fs [])
+spread-length (f ∷ fs) (l ∷ ls) = go (limited f) (spread-length fs ls) (spread-length fs (l ∷ ls))
+  where
+    go : (t : Bool) → length (spread fs ls) ≡ length fs → length (spread fs (l ∷ ls)) ≡ length fs
+        → length (cond t (l ∷ spread fs ls) (free ∷ spread fs (l ∷ ls))) ≡ suc (length fs)
+    go true a b = ap suc a
+    go false a b = ap suc b
+
+abbrev boundOf : ℕ × ℕ → Bounds
+boundOf l = bound (l .0) (l .1)
+
+codes-right : (rows : ℕ) → mapped (λ c. boundBy c rows) codes ≡ build (λ k. boundOf (getD (boundsOf (k / 18) rows) (k % 18) free)) 0 504
+unfolding boundBy spread
+codes-right rows = refl
+
+pub bound-right : (row i rows : ℕ) → boundBy (codeAt row i) rows ≡ boundOf (getD (boundsOf row rows) i free)
+unfolding codeAt
+bound-right row i rows = go (decLt row 28) (decLt i 18)
+  where
+    go : Dec (row < 28) → Dec (i < 18)
+        → boundBy (cond (ltb row 28 && ltb i 18) (getD codes (row * 18 + i) 0) 45) rows ≡ boundOf (getD (boundsOf row rows) i free)
+    go (yes h) (yes k) =
+        rw (lt-ltb row 28 h, lt-ltb i 18 k)
+        (sym (mapped-at (λ c. boundBy c rows) codes (row * 18 + i) 0)
+        ∙ ap (λ (l : List Bounds). getD l (row * 18 + i) (boundBy 0 rows)) (codes-right rows)
+        ∙ table-at (λ row i. boundOf (getD (boundsOf row rows) i free)) (boundBy 0 rows) 28 row i h k)
+    go (yes h) (no k) =
+        let l : length (boundsOf row rows) ≤ i = omega (arith, spread-length (rowOf row .fields) (rowOf row .bounds rows), row-short row) in
+        rw (le-ltb i 18 (omega arith), List·getD-eq-default (boundsOf row rows) free l) (simp and-false (unfold boundBy in refl))
+    go (no h) d = rw (le-ltb row 28 (omega arith), no-row row (omega arith)) (unfold boundBy spread in refl)
+
+-- ---- the fields of a row, one at a time
+
+-- what reading a row's first field and then the others gives
+pub record Split (f : ℕ) (fs s : List ℕ) (at : ℕ) (ws qs : List ℕ) : Type 0 where
+  pub v : ℕ
+  pub e : ℕ
+  pub vs : List ℕ
+  pub ps : List ℕ
+  pub first : fieldAt f s at ≡ Is v e
+  pub others : fieldsFrom fs s e ≡ good vs ps
+  pub values : ws ≡ v ∷ vs
+  pub places : qs ≡ at ∷ ps
+
+pub fields-split : (f : ℕ) (fs s : List ℕ) (at : ℕ) (ws qs : List ℕ) → fieldsFrom (f ∷ fs) s at ≡ good ws qs → Split f fs s at ws qs
+unfolding fieldsFrom
+fields-split f fs s at ws qs h = go (fieldAt f s at) refl h
+  where
+    more : (v e : ℕ) (g : Got) → fieldAt f s at ≡ Is v e → fieldsFrom fs s e ≡ g → ahead v at g ≡ good ws qs → Split f fs s at ws qs
+    more v e (good vs ps) a b k = record { v = v; e = e; vs = vs; ps = ps; first = a; others = b; values = cc; places = cc }
+    more v e (bad q) a b k = absurd (let z : _≡_ {A = ℕ} 0 1 = cc in omega arith)
+
+    go : (x : Field) → fieldAt f s at ≡ x → next x (λ v e. ahead v at (fieldsFrom fs s e)) ≡ good ws qs → Split f fs s at ws qs
+    go (Is v e) a k = more v e (fieldsFrom fs s e) a refl k
+    go (Not p) a k = absurd (let z : _≡_ {A = ℕ} 0 1 = cc in omega arith)
+
+-- as many values and places as bytes
+pub fields-count : (fs s : List ℕ) (at : ℕ) (ws qs : List ℕ) → fieldsFrom fs s at ≡ good ws qs
+    → (length ws ≡ length fs) × (length qs ≡ length fs)
+fields-count [] s at ws qs h = go (eqb at (length s)) (unfold fieldsFrom in h)
+  where
+    go : (t : Bool) → cond t (good [] []) (bad at) ≡ good ws qs → (length ws ≡ 0) × (length qs ≡ 0)
+    go true k = (let e : [] ≡ ws = cc in rw (← e), let e : [] ≡ qs = cc in rw (← e))
+    go false k = absurd (let z : _≡_ {A = ℕ} 0 1 = cc in omega arith)
+fields-count (f ∷ fs) s at ws qs h =
+    let x = fields-split f fs s at ws qs h in
+    let r = fields-count fs s (x .e) (x .vs) (x .ps) (x .others) in
+    (rw (x .values) (ap suc (r .0)), rw (x .places) (ap suc (r .1)))
+
+-- the same, stored into arrays from i on
+unfoldable pub filled : List ℕ → List ℕ → ℕ → ℕ → List ℕ → List ℕ → Got
+filled [] s at i vs ps = cond (eqb at (length s)) (good vs ps) (bad at)
+filled (f ∷ fs) s at i vs ps = next (fieldAt f s at) (λ v e. filled fs s e (suc i) (set vs i v) (set ps i at))
+
+abbrev pub stored : ℕ → List ℕ → List ℕ → Got → Got
+stored i vs ps (good ws qs) = good (sets vs i ws) (sets ps i qs)
+stored i vs ps (bad q) = bad q
+
+filled-stored : (fs s : List ℕ) (at i : ℕ) (vs ps : List ℕ) → filled fs s at i vs ps ≡ stored i vs ps (fieldsFrom fs s at)
+unfolding filled fieldsFrom
+filled-stored [] s at i vs ps = go (eqb at (length s))
+  where
+    go : (t : Bool) → cond t (good vs ps) (bad at) ≡ stored i vs ps (cond t (good [] []) (bad at))
+    go true = refl
+    go false = refl
+filled-stored (f ∷ fs) s at i vs ps = go (fieldAt f s at) (λ v e. filled-stored fs s e (suc i) (set vs i v) (set ps i at))
+  where
+    more : (v : ℕ) (g : Got) → stored (suc i) (set vs i v) (set ps i at) g ≡ stored i vs ps (ahead v at g)
+    more v (good ws qs) = refl
+    more v (bad q) = refl
+
+    go : (x : Field)
+        → ((v e : ℕ) → filled fs s e (suc i) (set vs i v) (set ps i at) ≡ stored (suc i) (set vs i v) (set ps i at) (fieldsFrom fs s e))
+        → next x (λ v e. filled fs s e (suc i) (set vs i v) (set ps i at)) ≡ stored i vs ps (next x (λ v e. ahead v at (fieldsFrom fs s e)))
+    go (Is v e) r = r v e ∙ more v (fieldsFrom fs s e)
+    go (Not p) r = refl
+
+-- a field more, a field that is not there, and no more fields
+module _ (l s : List ℕ) (at i : ℕ) (vs ps : List ℕ) where
+  pub filled-more : (v e : ℕ) → i < length l → fieldAt (getD l i 32) s at ≡ Is v e
+      → filled (drop i l) s at i vs ps ≡ filled (drop (i + 1) l) s e (i + 1) (set vs i v) (set ps i at)
+  unfolding filled
+  filled-more v e h k = rw (add-one, drop-cons l i 32 h, k)
+
+  pub filled-stop : (p : ℕ) → i < length l → fieldAt (getD l i 32) s at ≡ Not p → filled (drop i l) s at i vs ps ≡ bad p
+  unfolding filled
+  filled-stop p h k = rw (drop-cons l i 32 h, k)
+
+  pub filled-done : length l ≤ i → filled (drop i l) s at i vs ps ≡ cond (eqb at (length s)) (good vs ps) (bad at)
+  unfolding filled
+  filled-done h = rw (drop-of-length-le l h)
+
+-- what the arrays then hold
+module _ (fs s : List ℕ) (vs₀ ps₀ vs ps : List ℕ) where
+  from-good : (g : Got) → stored 0 vs₀ ps₀ g ≡ good vs ps → Filled g vs₀ ps₀ All vs ps
+  from-good (good ws qs) h = (refl, cc, cc)
+  from-good (bad q) h = absurd (let z : _≡_ {A = ℕ} 0 1 = cc in omega arith)
+
+  from-bad : (p : ℕ) (g : Got) → stored 0 vs₀ ps₀ g ≡ bad p → Filled g vs₀ ps₀ (Bad p) vs ps
+  from-bad p (good ws qs) h = absurd (let z : _≡_ {A = ℕ} 0 1 = cc in omega arith)
+  from-bad p (bad q) h = let z : q ≡ p = cc in rw z
+
+  pub filled-good : filled fs s 0 0 vs₀ ps₀ ≡ good vs ps → Filled (fieldsFrom fs s 0) vs₀ ps₀ All vs ps
+  filled-good h = from-good (fieldsFrom fs s 0) (sym (filled-stored fs s 0 0 vs₀ ps₀) ∙ h)
+
+  pub filled-bad : (p : ℕ) → filled fs s 0 0 vs₀ ps₀ ≡ bad p → Filled (fieldsFrom fs s 0) vs₀ ps₀ (Bad p) vs ps
+  filled-bad p h = from-bad p (fieldsFrom fs s 0) (sym (filled-stored fs s 0 0 vs₀ ps₀) ∙ h)
+
+-- ---- slots that hold the same
+
+abbrev pub Same : List ℕ → List ℕ → Type 0
+Same vs ws = (k : ℕ) → getD vs k 0 ≡ getD ws k 0
+
+abbrev pub zeros : List ℕ
+zeros = replicate 18 0
+
+blank-at : (n k : ℕ) → _≡_ {A = ℕ} (getD (replicate n 0) k 0) 0
+blank-at zero k = refl
+blank-at (suc n) zero = refl
+blank-at (suc n) (suc k) = blank-at n k
+
+append-blank : (vs zs : List ℕ) → ((j : ℕ) → getD zs j 0 ≡ 0) → Same (vs ++ zs) vs
+append-blank [] zs h k = h k
+append-blank (v ∷ vs) zs h zero = refl
+append-blank (v ∷ vs) zs h (suc k) = append-blank vs zs h k
+
+pub padded : (ws : List ℕ) → length ws ≤ 18 → Same (sets zeros 0 ws) ws
+padded ws h k =
+    ap (λ (l : List ℕ). getD l k 0) (sets-eq ws zeros 0 (omega arith))
+    ∙ append-blank ws (drop (0 + length ws) zeros) (λ j. getD-drop (0 + length ws) zeros j 0 ∙ blank-at 18 (0 + length ws + j)) k
+
+same-drop : (vs ws : List ℕ) → Same vs ws → Same (drop 1 vs) (drop 1 ws)
+same-drop vs ws h k = getD-drop 1 vs k 0 ∙ h (1 + k) ∙ sym (getD-drop 1 ws k 0)
+
+limits-same : (fs : List ℕ) (ls : List (ℕ × ℕ)) (s : List ℕ) (u : ℕ) (vs ws ps qs : List ℕ) → Same vs ws → Same ps qs
+    → limitsFrom fs ls s u vs ps ≡ limitsFrom fs ls s u ws qs
+unfolding limitsFrom
+limits-same [] ls s u vs ws ps qs h k = refl
+limits-same (f ∷ fs) ls s u vs ws ps qs h k =
+    rw (h 0, k 0)
+    (ap (firstOf (fieldLimits f (getD ls 0 free) s u (getD ws 0 0) (getD qs 0 0)))
+    (limits-same fs (drop 1 ls) s (cond (isNumber f) (getD ws 0 0) u) (drop 1 vs) (drop 1 ws) (drop 1 ps) (drop 1 qs) (same-drop vs ws h)
+    (same-drop ps qs k)))
+
+item-same : (row : ℕ) (vs ws ps qs : List ℕ) → Same vs ws → Same ps qs → itemOf row vs ps ≡ itemOf row ws qs
+unfolding itemOf
+item-same row vs ws ps qs h k = simp (h, k)
+
+order-same : (row : ℕ) (s vs ws ps qs : List ℕ) → Same vs ws → Same ps qs → orderOf row s vs ps ≡ orderOf row s ws qs
+unfolding orderOf
+order-same row s vs ws ps qs h k = simp (h, k)
+
+command-same : (row : ℕ) (s vs ws ps qs : List ℕ) → Same vs ws → Same ps qs → commandOf row s vs ps ≡ commandOf row s ws qs
+command-same row s vs ws ps qs h k = rw (item-same row vs ws ps qs h k, order-same row s vs ws ps qs h k)
+
+-- ---- what the answer of reading a row's fields says of the judgement
+pub judged-bad : (row rows : ℕ) (s : List ℕ) (g : Got) (r : Fields) (vs₀ ps₀ vs ps : List ℕ) (p : ℕ) → Filled g vs₀ ps₀ r vs ps → r ≡ Bad p
+    → judged row rows s g ≡ Refused (form p)
+unfolding judged
+judged-bad row rows s (bad q) r vs₀ ps₀ vs ps p h e = let z : q ≡ p = cc in rw z
+judged-bad row rows s (good ws qs) r vs₀ ps₀ vs ps p h e = absurd (let z : _≡_ {A = ℕ} 0 1 = cc in omega arith)
+
+judged-fields : (row rows : ℕ) (s : List ℕ) (g : Got) (r : Fields) (vs ps : List ℕ) → fieldsFrom (rowOf row .fields) s 0 ≡ g
+    → Filled g zeros zeros r vs ps → r ≡ All
+    → judged row rows s g ≡ decided (limitsFrom (rowOf row .fields) (boundsOf row rows) s 0 vs ps) (commandOf row s vs ps)
+unfolding judged
+judged-fields row rows s (bad q) r vs ps k h e = absurd (let z : _≡_ {A = ℕ} 0 1 = cc in omega arith)
+judged-fields row rows s (good ws qs) r vs ps k h e =
+    let n = fields-count (rowOf row .fields) s 0 ws qs k in
+    let l = row-short row in
+    let a : Same vs ws = rw (h .1) (padded ws (omega arith)) in
+    let b : Same ps qs = rw (h .2) (padded qs (omega arith)) in
+    rw (limits-same (rowOf row .fields) (boundsOf row rows) s 0 vs ws ps qs a b, command-same row s vs ws ps qs a b)
+
+pub judged-good : (row rows : ℕ) (s : List ℕ) (r : Fields) (vs ps : List ℕ)
+    → Filled (fieldsFrom (rowOf row .fields) s 0) zeros zeros r vs ps → r ≡ All
+    → judged row rows s (fieldsFrom (rowOf row .fields) s 0)
+    ≡ decided (limitsFrom (rowOf row .fields) (boundsOf row rows) s 0 vs ps) (commandOf row s vs ps)
+judged-good row rows s r vs ps h e = judged-fields row rows s (fieldsFrom (rowOf row .fields) s 0) r vs ps refl h e
+
+-- ---- the limits, field by field
+module _ (fs : List ℕ) (ls : List (ℕ × ℕ)) (s : List ℕ) (u : ℕ) (vs ps : List ℕ) (i : ℕ) (h : i < length fs) where
+  pub limits-more : fieldLimits (getD fs i 32) (getD ls i free) s u (getD vs i 0) (getD ps i 0) ≡ Within
+      → limitsFrom (drop i fs) (drop i ls) s u (drop i vs) (drop i ps)
+      ≡ limitsFrom (drop (i + 1) fs) (drop (i + 1) ls) s (cond (isNumber (getD fs i 32)) (getD vs i 0) u) (drop (i + 1) vs) (drop (i + 1) ps)
+  unfolding limitsFrom
+  limits-more k =
+      rw (drop-cons fs i 32 h, getD-drop i ls 0 free, getD-drop i vs 0 0, getD-drop i ps 0 0, add-zero, k, drop-drop 1 i ls, drop-drop 1 i vs, drop-drop 1 i ps, add-one i)
+
+  pub limits-out : (p : ℕ) → fieldLimits (getD fs i 32) (getD ls i free) s u (getD vs i 0) (getD ps i 0) ≡ Outside p
+      → limitsFrom (drop i fs) (drop i ls) s u (drop i vs) (drop i ps) ≡ Outside p
+  unfolding limitsFrom
+  limits-out p k = rw (drop-cons fs i 32 h, getD-drop i ls 0 free, getD-drop i vs 0 0, getD-drop i ps 0 0, add-zero, k)
+
+pub limits-done : (fs : List ℕ) (ls : List (ℕ × ℕ)) (s : List ℕ) (u : ℕ) (vs ps : List ℕ) (i : ℕ) → length fs ≤ i
+    → limitsFrom (drop i fs) (drop i ls) s u (drop i vs) (drop i ps) ≡ Within
+unfolding limitsFrom
+limits-done fs ls s u vs ps i h = rw (drop-of-length-le fs h)
+
+-- ---- how many bytes a GM asks for
+pub size-bad : (g : Got) (r : Fields) (vs₀ ps₀ vs ps : List ℕ) (p : ℕ) → Filled g vs₀ ps₀ r vs ps → r ≡ Bad p → sizeOf g ≡ 0
+unfolding sizeOf
+size-bad (bad q) r vs₀ ps₀ vs ps p h e = refl
+size-bad (good ws qs) r vs₀ ps₀ vs ps p h e = absurd (let z : _≡_ {A = ℕ} 0 1 = cc in omega arith)
+
+size-fields : (s : List ℕ) (g : Got) (r : Fields) (vs ps : List ℕ) → fieldsFrom (rowOf 20 .fields) s 0 ≡ g → Filled g zeros zeros r vs ps → r ≡ All
+    → sizeOf g ≡ cond (between 1 32768 (getD vs 4 0)) (getD vs 4 0) 0
+unfolding sizeOf
+size-fields s (bad q) r vs ps k h e = absurd (let z : _≡_ {A = ℕ} 0 1 = cc in omega arith)
+size-fields s (good ws qs) r vs ps k h e =
+    let n = fields-count (rowOf 20 .fields) s 0 ws qs k in
+    let a : getD vs 4 0 ≡ getD ws 4 0 = rw (h .1) (padded ws (omega arith) 4) in
+    rw a
+
+pub size-good : (s : List ℕ) (r : Fields) (vs ps : List ℕ) → Filled (fieldsFrom (rowOf 20 .fields) s 0) zeros zeros r vs ps → r ≡ All
+    → sizeOf (fieldsFrom (rowOf 20 .fields) s 0) ≡ cond (between 1 32768 (getD vs 4 0)) (getD vs 4 0) 0
+size-good s r vs ps h e = size-fields s (fieldsFrom (rowOf 20 .fields) s 0) r vs ps refl h e
+
+-- ---- parts of a slice
+pub tail-all : (l : List ℕ) (a : ℕ) → take (length l - a) (drop a l) ≡ drop a l
+tail-all l a = take-all (length l - a) (drop a l) (omega (arith, length-drop a l))
+
+pub tail-none : (l : List ℕ) (a : ℕ) → length l ≤ a → take (length l - length l) (drop (length l) l) ≡ drop a l
+tail-none l a h = tail-all l (length l) ∙ (drop-of-length-le l (let e : length l ≤ length l = omega arith in e) ∙ sym (drop-of-length-le l h))

@@ -1,0 +1,136 @@
+// Whether the fields of a line are within their limits.
+ghost use mathlib.Core.Path.{_≡_};
+ghost use mathlib.Core.Bool.{_||_, cond};
+ghost use Rattle.fit.specs.Bytes.{between};
+ghost use Rattle.read.specs.Grammar.{rowOf, Form, boundsOf, named, starred, limited, isNumber, beyond, fieldLimits, limitsFrom};
+use crate::table::bounds;
+use crate::table::shape;
+use fields::Class;
+use fields::Limits;
+
+// Whether the n bytes of the text at p are those of a name.
+fn is_name(line: &[u8], p: usize, n: usize) -> bool
+    ensures { λ r. ⌜ r ≡ named (now (line .entry)) p n ⌝ }
+{
+    if line.len() <= p {
+        return n == 0;
+    }
+    let start = p + 1;
+    let end = fields::run_end(line, Class::Named, start);
+    end - start == n
+}
+
+// Whether the text of n bytes at p is the star.
+pub fn is_star(line: &[u8], p: usize, n: usize) -> bool
+    ensures { λ r. ⌜ r ≡ starred (now (line .entry)) p n ⌝ }
+{
+    if n != 1 {
+        return false;
+    }
+    if line.len() <= p {
+        return false;
+    }
+    fields::byte(line, p + 1) == b'*'
+}
+
+fn is_either(line: &[u8], p: usize, n: usize) -> bool
+    ensures { λ r. ⌜ r ≡ (named (now (line .entry)) p n || starred (now (line .entry)) p n) ⌝ }
+{
+    if is_name(line, p, n) {
+        return true;
+    }
+    is_star(line, p, n)
+}
+
+fn is_beyond(line: &[u8], f: u8, before: usize, v: usize, p: usize) -> bool
+    ensures { λ r. ⌜ r ≡ beyond f (now (line .entry)) before v p ⌝ }
+{
+    match f {
+        b'w' => before < v,
+        b'a' => is_name(line, p, v),
+        b'z' => is_either(line, p, v),
+        _ => true,
+    }
+}
+
+fn is_within(low: usize, high: usize, v: usize) -> bool
+    ensures { λ r. ⌜ r ≡ between low high v ⌝ }
+{
+    if v < low {
+        return false;
+    }
+    v <= high
+}
+
+fn is_limited(f: u8) -> bool
+    ensures { λ r. ⌜ r ≡ limited f ⌝ }
+{
+    match f {
+        b'n' => true,
+        b'w' => true,
+        b's' => true,
+        b't' => true,
+        b'a' => true,
+        b'z' => true,
+        _ => false,
+    }
+}
+
+fn field_limits(
+    line: &[u8],
+    f: u8,
+    low: usize,
+    high: usize,
+    before: usize,
+    v: usize,
+    p: usize,
+) -> Limits
+    ensures { λ r. ⌜ r ≡ fieldLimits f (low, high) (now (line .entry)) before v p ⌝ }
+{
+    if f == b'd' {
+        return fields::data_limits(line, p);
+    }
+    if is_limited(f) {
+        if is_within(low, high, v) {
+            if is_beyond(line, f, before, v, p) {
+                return Limits::Within;
+            }
+            return Limits::Outside(p);
+        }
+        return Limits::Outside(p);
+    }
+    Limits::Within
+}
+
+fn number_after(f: u8, v: usize, before: usize) -> usize
+    ensures { λ r. ⌜ r ≡ cond (isNumber f) v before ⌝ }
+{
+    match f {
+        b'n' => v,
+        b'w' => v,
+        _ => before,
+    }
+}
+
+// The first field of a row outside its limits.
+pub fn row_limits(line: &[u8], row: usize, rows: usize, vs: [usize; 18], ps: [usize; 18]) -> Limits
+    ensures { λ r. ⌜ r ≡ limitsFrom (rowOf row .fields) (boundsOf row rows) (now (line .entry)) 0 vs ps ⌝ }
+{
+    let mut before: usize = 0;
+    let mut i = 0;
+    while i < 18 {
+        let f = shape(row, i);
+        if f == 32 {
+            return Limits::Within;
+        }
+        let b = bounds(row, i, rows);
+        let v = vs[i];
+        let p = ps[i];
+        if let Limits::Outside(fault) = field_limits(line, f, b.low, b.high, before, v, p) {
+            return Limits::Outside(fault);
+        }
+        before = number_after(f, v, before);
+        i += 1;
+    }
+    Limits::Within
+}

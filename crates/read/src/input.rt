@@ -1,0 +1,99 @@
+// The front of the input: the line that a call reads, how much of the input it reads, and what is left.
+ghost use mathlib.Core.Path.{_≡_};
+ghost use Prim.Native.Nat.{_≤_, _<_};
+ghost use lib.ListN.{length, take, drop};
+ghost use Rattle.read.specs.Grammar.{rowOf, Form, fieldsFrom};
+ghost use Rattle.read.specs.Front.{sizeOf, asked, lineFront, frontOf};
+use crate::Fields;
+use crate::Front;
+use crate::Head;
+use crate::heads::head_of;
+use crate::lines::read_fields;
+use fields::Class;
+
+// How many bytes a line of the form of GM asks for.
+fn size(line: &[u8]) -> usize
+    ensures { λ r. ⌜ (r ≡ sizeOf (fieldsFrom (rowOf 20 .fields) (now (line .entry)) 0)) × (r ≤ 32768) ⌝ }
+{
+    let mut vs = [0usize; 18];
+    let mut ps = [0usize; 18];
+    if let Fields::Bad(_) = read_fields(line, 20, &mut vs, &mut ps) {
+        return 0;
+    }
+    let n = vs[4];
+    if n < 1 {
+        return 0;
+    }
+    if 32768 < n {
+        return 0;
+    }
+    n
+}
+
+// How many bytes a line asks for after it.
+fn wanted(line: &[u8]) -> usize
+    ensures { λ r. ⌜ (r ≡ asked (now (line .entry))) × (r ≤ 32768) ⌝ }
+{
+    let Head::Row(row) = head_of(fields::byte(line, 0), fields::byte(line, 1)) else {
+        return 0;
+    };
+    if row != 20 {
+        return 0;
+    }
+    size(line)
+}
+
+// The first line, of n bytes before its LF.
+fn line_front(input: &[u8], n: usize) -> Front
+    requires { ⌜ (n < length (now input)) × (n < 256) ⌝ }
+    ensures { λ r. ⌜ r ≡ lineFront (now (input .entry)) n ⌝ }
+{
+    if n == 0 {
+        return Front::Idle(n + 1);
+    }
+    if input[0] == b';' {
+        return Front::Idle(n + 1);
+    }
+    let read = n + 1 + wanted(&input[..n]);
+    if read <= input.len() {
+        Front::Line(n, read)
+    } else {
+        Front::Short
+    }
+}
+
+// What stands at the front of the input.
+pub fn front(input: &[u8]) -> Front
+    ensures { λ r. ⌜ r ≡ frontOf (now (input .entry)) ⌝ }
+{
+    let n = fields::run_end(input, Class::Inside, 0);
+    if n < input.len() {
+        if n < 256 {
+            return line_front(input, n);
+        }
+        return Front::Long(n + 1);
+    }
+    if input.len() < 256 {
+        Front::Short
+    } else {
+        Front::Long(input.len())
+    }
+}
+
+// The first n bytes of the input, or what there is.
+pub fn first<'a>(input: &'a [u8], n: usize) -> &'a [u8]
+    ensures { λ r. ⌜ now r ≡ take n (now (input .entry)) ⌝ }
+{
+    if n < input.len() { &input[..n] } else { input }
+}
+
+// The input after the n bytes that a call read; nothing past its end.
+pub fn rest<'a>(input: &'a [u8], n: usize) -> &'a [u8]
+    ensures { λ r. ⌜ now r ≡ drop n (now (input .entry)) ⌝ }
+{
+    if n < input.len() {
+        &input[n..]
+    } else {
+        &input[input.len()..]
+    }
+}

@@ -1,0 +1,188 @@
+// What the values and places of a row's fields make: a command.
+ghost use mathlib.Core.Path.{_≡_};
+ghost use Rattle.read.specs.Commands.{namedFrom, inkOf, sideOf, isMinus, stepOf, itemOf, orderOf, isItem, commandOf};
+use crate::Bars;
+use crate::Command;
+use crate::Counter;
+use crate::Frame;
+use crate::Ink;
+use crate::Item;
+use crate::Length;
+use crate::Named;
+use crate::Origin;
+use crate::Picture;
+use crate::Print;
+use crate::Rectangle;
+use crate::SetCounter;
+use crate::SetVariable;
+use crate::StorePicture;
+use crate::Text;
+use crate::Turn;
+use crate::Variable;
+use crate::Width;
+use crate::check::is_star;
+use fields::kind_from;
+
+// The step of a counter without its sign.
+fn step_of(v: usize) -> usize
+    ensures { λ r. ⌜ r ≡ stepOf v ⌝ }
+{
+    if v < 1000000000 {
+        1000000000 - v
+    } else {
+        v - 1000000000
+    }
+}
+
+fn side_of(v: usize) -> u8
+    ensures { λ r. ⌜ r ≡ sideOf v ⌝ }
+{
+    match v {
+        76 => b'L',
+        82 => b'R',
+        67 => b'C',
+        78 => b'N',
+        _ => b'Z',
+    }
+}
+
+fn ink_of(row: usize) -> Ink
+    ensures { λ r. ⌜ r ≡ inkOf row ⌝ }
+{
+    match row {
+        5 => Ink::Black,
+        6 => Ink::Inverted,
+        _ => Ink::White,
+    }
+}
+
+fn named_at(line: &[u8], p: usize, n: usize) -> Named
+    ensures { λ r. ⌜ r ≡ namedFrom (now (line .entry)) p n ⌝ }
+{
+    Named {
+        at: p,
+        length: n,
+        all: is_star(line, p, n),
+    }
+}
+
+// The lines that may stand in a form.
+fn item_of(row: usize, v: [usize; 18], p: [usize; 18]) -> Item
+    ensures { λ r. ⌜ r ≡ itemOf row v p ⌝ }
+{
+    match row {
+        2 => Item::Origin(Origin { x: v[1], y: v[3] }),
+        8 => Item::Frame(Frame {
+            a: v[1],
+            b: v[3],
+            c: v[5],
+            d: v[7],
+            e: v[9],
+        }),
+        9 => Item::Text(Text {
+            x: v[1],
+            y: v[3],
+            r: v[5],
+            h: v[7],
+            v: v[9],
+            reverse: v[11] == 82,
+            at: p[13],
+        }),
+        10 => Item::Bars(Bars {
+            x: v[1],
+            y: v[3],
+            r: v[5],
+            kind: kind_from(v[7]),
+            e: v[9],
+            f: v[11],
+            g: v[13],
+            at: p[17],
+        }),
+        11 => Item::Picture(Picture {
+            a: v[2],
+            b: v[4],
+            at: p[6],
+            length: v[6],
+        }),
+        22 => Item::Variable(Variable {
+            n: v[1],
+            m: v[3],
+            j: side_of(v[5]),
+            at: p[7],
+            length: v[7],
+        }),
+        23 => Item::Counter(Counter {
+            n: v[1],
+            w: v[3],
+            minus: v[5] < 1000000000,
+            step: step_of(v[5]),
+            at: p[7],
+            length: v[7],
+        }),
+        _ => Item::Box(Rectangle {
+            ink: ink_of(row),
+            a: v[2],
+            b: v[4],
+            c: v[6],
+            d: v[8],
+        }),
+    }
+}
+
+// The other lines.
+fn order_of(line: &[u8], row: usize, v: [usize; 18], p: [usize; 18]) -> Command
+    ensures { λ r. ⌜ r ≡ orderOf row (now (line .entry)) v p ⌝ }
+{
+    match row {
+        0 => Command::Length(Length { m: v[1], g: v[3] }),
+        1 => Command::Width(Width { m: v[1] }),
+        3 => Command::Turn(Turn { half: false }),
+        4 => Command::Turn(Turn { half: true }),
+        12 => Command::Start(named_at(line, p[2], v[2])),
+        13 => Command::End,
+        14 => Command::Retrieve(named_at(line, p[2], v[2])),
+        15 => Command::EraseForm(named_at(line, p[2], v[2])),
+        16 => Command::ErasePicture(named_at(line, p[2], v[2])),
+        17 => Command::ListForms,
+        18 => Command::ListPictures,
+        19 => Command::PrintForm(named_at(line, p[2], v[2])),
+        20 => Command::Store(StorePicture {
+            at: p[2],
+            length: v[2],
+            n: v[4],
+        }),
+        21 => Command::Clear,
+        24 => Command::SetVariable(SetVariable {
+            n: v[2],
+            at: p[4],
+            length: v[4],
+        }),
+        25 => Command::SetCounter(SetCounter {
+            n: v[2],
+            value: v[4],
+        }),
+        26 => Command::Print(Print { k: v[1] }),
+        _ => Command::White,
+    }
+}
+
+fn is_item(row: usize) -> bool
+    ensures { λ r. ⌜ r ≡ isItem row ⌝ }
+{
+    match row {
+        2 => true,
+        5..=11 => true,
+        22..=23 => true,
+        _ => false,
+    }
+}
+
+pub fn command_of(line: &[u8], row: usize, v: [usize; 18], p: [usize; 18]) -> Command
+    ensures { λ r. ⌜ r ≡ commandOf row (now (line .entry)) v p ⌝ }
+{
+    if is_item(row) {
+        Command::Item(item_of(row, v, p))
+    } else {
+        order_of(line, row, v, p)
+    }
+}
