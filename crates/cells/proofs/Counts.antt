@@ -6,8 +6,9 @@ use mathlib.Core.Logic.{_⊎_, inl, inr, ⊎-elim}
 use Prim.Native.Nat.{ℕ, zero, suc, _+_, _-_, _*_, _≤_, _<_}
 use native.Mathlib.Omega.{arith}
 use native.Mathlib.Decide.{ℕ-discrete}
-use lib.ListN.{length, getD, set, length-set}
-use lib.Seq.{getD-set-same, getD-set-other}
+use native.Mathlib.Numerals.{add-one}
+use lib.ListN.{length, getD, drop, set, length-set, drop-of-length-le}
+use lib.Seq.{drop-cons, getD-set-same, getD-set-other}
 use lib.Dec.{eqb}
 use borrow.Author.Tests.{eq-eqb, ne-eqb, eqb-true}
 use Rattle.cells.specs.Count.{one, times, sumTo, allTo, setAll}
@@ -105,3 +106,35 @@ all-not f (suc n) i b e = ⊎-elim
     (λ (p : i ≡ n). rw (ap f (sym p) ∙ e) (mathlib.Core.Bool.and-false (allTo f n)))
     (λ (ne : i ≡ n → ⊥). rw (all-not f n i (omega arith) e))
     (same? i n)
+
+-- ---- a pass over a list, standing at i
+
+pub drop-step : (l : List ℕ) (i : ℕ) → i < length l → drop i l ≡ getD l i 0 ∷ drop (i + 1) l
+drop-step l i h = rw (add-one, drop-cons l i 0)
+
+pub drop-none : (l : List ℕ) (i : ℕ) → length l ≤ i → drop i l ≡ []
+drop-none l i h = drop-of-length-le l h
+
+pub times-here : (q : ℕ) (l : List ℕ) (i : ℕ) → i < length l → getD l i 0 ≡ q → times q (drop i l) ≡ 1 + times q (drop (i + 1) l)
+times-here q l i h e = rw (drop-step l i h, eq-eqb (getD l i 0) q e)
+
+pub times-passed : (q : ℕ) (l : List ℕ) (i : ℕ) → i < length l → (getD l i 0 ≡ q → ⊥) → times q (drop i l) ≡ 0 + times q (drop (i + 1) l)
+times-passed q l i h n = rw (drop-step l i h, ne-eqb (getD l i 0) q n)
+
+pub times-none : (q : ℕ) (l : List ℕ) (i : ℕ) → length l ≤ i → times q (drop i l) ≡ 0
+times-none q l i h = rw (drop-none l i h)
+
+pub times-few : (q : ℕ) (l : List ℕ) → times q l ≤ length l
+times-few q [] = omega arith
+times-few q (x ∷ l) = ⊎-elim (λ (e : x ≡ q). omega (arith, one-yes x q e, times-few q l)) (λ (n : x ≡ q → ⊥). omega (arith, one-no x q n, times-few q l)) (same? x q)
+
+-- what is counted stands somewhere
+pub times-some : (q : ℕ) (l : List ℕ) → 0 < times q l → (i : ℕ) × ((i < length l) × (getD l i 0 ≡ q))
+times-some q [] h = absurd (omega arith)
+times-some q (x ∷ l) h = ⊎-elim
+    (λ (e : x ≡ q). (0, (omega arith, e)))
+    (λ (n : x ≡ q → ⊥). let r = times-some q l (omega (arith, one-no x q n)) in (suc (r .0), (omega (arith, r .1 .0), r .1 .1)))
+    (same? x q)
+
+pub all-more : (f : ℕ → Bool) (n : ℕ) → allTo f n ≡ true → f n ≡ true → allTo f (n + 1) ≡ true
+all-more f n a b = rw (add-one n) (and-both (allTo f n) (f n) a b)

@@ -5,7 +5,7 @@ use Prim.Native.Nat.{ℕ, zero, suc, _+_, _-_, _≤_, _<_}
 use native.Mathlib.Omega.{arith}
 use native.Mathlib.Nat.{add-zero}
 use lib.ListN.{length, getD, set, take, drop, length-set}
-use lib.Seq.{sets, sets-eq, set-out, take-at, getD-set-same, getD-set-other}
+use lib.Seq.{sets, sets-eq, set-out, take-at, take-nil, getD-set-same, getD-set-other}
 
 -- one more element is one more store
 pub sets-snoc : (l : List ℕ) (i : ℕ) (vs : List ℕ) (a : ℕ) → sets l i (vs ++ (a ∷ [])) ≡ set (sets l i vs) (i + length vs) a
@@ -37,3 +37,9 @@ sets-in l a (x ∷ m) zero h b =
 sets-in l a (x ∷ m) (suc i) h b =
     ap (λ (k : ℕ). getD (sets (set l a x) (suc a) m) k 0) (let e : a + suc i ≡ suc a + i = omega arith in e)
     ∙ sets-in (set l a x) (suc a) m i (omega arith) (omega (arith, length-set l a x))
+
+-- what does not fit need not be stored
+pub sets-take : (l : List ℕ) (i n : ℕ) (vs : List ℕ) → length l ≤ i + n → sets l i (take n vs) ≡ sets l i vs
+sets-take l i n [] h = ap (sets l i) (take-nil n)
+sets-take l i zero (v ∷ vs) h = sym (sets-out l i (v ∷ vs) (omega arith))
+sets-take l i (suc n) (v ∷ vs) h = sets-take (set l i v) (suc i) n vs (omega (arith, length-set l i v))

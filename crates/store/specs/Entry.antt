@@ -1,9 +1,9 @@
 -- "Directory: 1 to 512 entries of 16 bytes: kind (0 empty, 1 form, 2 picture, 3 form being recorded), name length, name in 8 bytes zero-filled, first
 -- portion (2 bytes), size (4 bytes), low byte first."
-use mathlib.Core.List.{List}
+use mathlib.Core.List.{List, [], _∷_}
 use mathlib.Core.Bool.{Bool, true, false, _||_, cond}
 use Prim.Native.Nat.{ℕ, _+_, _*_, _/_}
-use lib.ListN.{length, getD, take, drop}
+use lib.ListN.{length, getD}
 use lib.Dec.{eqb}
 use Rattle.cells.specs.Cell.{cell}
 use Rattle.store.specs.Chain.{needed}
@@ -24,7 +24,7 @@ nameLength e = getD e 1 0
 
 -- the name with the zeros that fill it up: 8 bytes
 unfoldable pub name : List ℕ → List ℕ
-name e = take 8 (drop 2 e)
+name e = getD e 2 0 ∷ getD e 3 0 ∷ getD e 4 0 ∷ getD e 5 0 ∷ getD e 6 0 ∷ getD e 7 0 ∷ getD e 8 0 ∷ getD e 9 0 ∷ []
 
 unfoldable pub first : List ℕ → ℕ
 first e = getD e 10 0 + 256 * getD e 11 0

@@ -1,3 +1,5 @@
+use native.Mathlib.Omega.{arith}
+use Rattle.store.specs.Entry.{first}
 use borrow.Author.Needs.{needs}
 use Rattle.store.proofs.first_at.Statement.{statement}
 use Rattle.store.proofs.first_at.Tie as tie
@@ -23,7 +25,8 @@ add-result c = search needs
 
 -- src/lib.rt:94:1
 returns : tie.Need-returns
-returns c = search needs
+unfolding first
+returns c = omega arith
 
 pub first-at-spec : {M : Type 1} → statement M
 first-at-spec = tie.close (tie.spec field-requires field-requires-2 mul-result add-result returns)

@@ -1,3 +1,10 @@
+use mathlib.Core.Path.{_≡_}
+use mathlib.Core.Logic.{⊎-elim}
+use Prim.Native.Nat.{ℕ, _+_, _-_, _≤_}
+use native.Mathlib.Omega.{arith}
+use lib.ListN.{length, drop}
+use Rattle.cells.specs.Count.{times}
+use Rattle.cells.proofs.Counts.{times-here, times-passed, times-none}
 use borrow.Author.Needs.{needs}
 use Rattle.store.proofs.free_count.Statement.{statement}
 use Rattle.store.proofs.free_count.Tie as tie
@@ -5,10 +12,10 @@ use Rattle.store.proofs.free_count.Reads as reads
 use Rattle.store.proofs.free_count.Lts as lts
 
 abbrev Inv-loop : tie.InvT-loop
-Inv-loop links n₀ i₀ n i = ?
+Inv-loop links n₀ i₀ n i = (i ≤ length links) × (n ≤ i) × (n + times 65535 (drop i links) ≡ times 65535 links)
 
 abbrev μ-loop : tie.MeasureT-loop
-μ-loop links n₀ i₀ n i = ?
+μ-loop links n₀ i₀ n i = length links - i
 
 -- src/lib.rt:51:5
 loop-holds : tie.Need-loop-holds Inv-loop μ-loop
@@ -36,11 +43,14 @@ loop-less c = search needs
 
 -- src/lib.rt:51:5
 loop-again : tie.Need-loop-again Inv-loop μ-loop
-loop-again c = search needs
+loop-again c = ⊎-elim
+    (λ w. omega (arith, times-here 65535 (c .before .before .before .before .args .links .now) (c .before .before .before .loop .i) (omega arith) (w .0 .taken)))
+    (λ w. omega (arith, times-passed 65535 (c .before .before .before .before .args .links .now) (c .before .before .before .loop .i) (omega arith) (w .0 .left)))
+    (c .if1 .came)
 
 -- src/lib.rt:46:1
 returns : tie.Need-returns Inv-loop μ-loop
-returns c = search needs
+returns c = omega (arith, times-none 65535 (c .before .before .args .links .now) (c .before .loop .i) (omega arith))
 
 pub free-count-spec : {M : Type 1} → statement M
 free-count-spec =

@@ -1,3 +1,5 @@
+use native.Mathlib.Omega.{arith}
+use Rattle.store.specs.Entry.{size}
 use borrow.Author.Needs.{needs}
 use Rattle.store.proofs.size_at.Statement.{statement}
 use Rattle.store.proofs.size_at.Tie as tie
@@ -47,7 +49,8 @@ add-result-3 c = search needs
 
 -- src/lib.rt:102:1
 returns : tie.Need-returns
-returns c = search needs
+unfolding size
+returns c = omega arith
 
 pub size-at-spec : {M : Type 1} → statement M
 size-at-spec =
