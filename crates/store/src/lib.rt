@@ -152,7 +152,7 @@ pub fn recording(directory: &[u8]) -> Found
     Found::Nothing
 }
 
-fn is_of_kind(picture: bool, k: usize) -> bool
+pub fn is_of_kind(picture: bool, k: usize) -> bool
     ensures { λ r. ⌜ r ≡ ofKind picture k ⌝ }
 {
     if picture {
