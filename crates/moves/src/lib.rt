@@ -122,7 +122,7 @@ fn fill(store: &mut [u8], links: &mut [u16], last: usize, size: usize, bytes: &[
 }
 
 // The last portion of entry i.
-fn last_at(links: &[u16], directory: &[u8], i: usize) -> usize
+pub fn last_at(links: &[u16], directory: &[u8], i: usize) -> usize
     ensures { λ r. ⌜ r ≡ lastOf (now (links .entry)) (entry (now (directory .entry)) i) ⌝ }
 {
     let mut p = store::first_at(directory, i);
@@ -340,7 +340,7 @@ fn free_chain(store: &mut [u8], links: &mut [u16], directory: &mut [u8], first: 
 }
 
 // How many portions entry i has.
-fn many_at(directory: &[u8], i: usize) -> usize
+pub fn many_at(directory: &[u8], i: usize) -> usize
     ensures { λ r. ⌜ r ≡ many (entry (now (directory .entry)) i) ⌝ }
 {
     if store::kind_at(directory, i) == 0 {

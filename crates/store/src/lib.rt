@@ -7,7 +7,7 @@ ghost use Prim.Native.Nat.{_+_, _*_, _<_, min};
 ghost use lib.ListN.{length, getD, set};
 ghost use lib.Seq.{sets};
 ghost use Rattle.store.specs.Chain.{needed, freeCount};
-ghost use Rattle.store.specs.Entry.{entry, kind, name, first, size, ofKind};
+ghost use Rattle.store.specs.Entry.{entry, kind, nameLength, name, first, size, ofKind};
 ghost use Rattle.store.specs.Find.{lowestFree, lowestEmpty, recorded, sameName, titled, titledAt};
 ghost use Rattle.store.specs.Content.{portionAfter, placeAfter, extent, content, cursorAt};
 ghost use Rattle.store.specs.Lines.{nextLine, lined};
@@ -106,6 +106,12 @@ pub fn size_at(directory: &[u8], i: usize) -> usize
     let c = field(directory, i, 14);
     let d = field(directory, i, 15);
     a + 256 * b + 65536 * c + 16777216 * d
+}
+
+pub fn name_length_at(directory: &[u8], i: usize) -> usize
+    ensures { λ r. ⌜ (r ≡ nameLength (entry (now (directory .entry)) i)) × (r < 256) ⌝ }
+{
+    field(directory, i, 1)
 }
 
 // The name of entry i: 8 zero-filled bytes.
