@@ -1,0 +1,4 @@
+pub mod Counts
+pub mod Cells
+pub mod Scan
+pub mod Sets

@@ -1,0 +1,4 @@
+pub mod Claiming
+pub mod Claims
+pub mod Passing
+pub mod Deciding

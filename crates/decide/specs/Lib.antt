@@ -1,0 +1,2 @@
+-- How soundness is decided.
+pub mod Claim

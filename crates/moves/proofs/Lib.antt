@@ -1,0 +1,4 @@
+pub mod Storing
+pub mod Growth
+pub mod Starting
+pub mod Freeing

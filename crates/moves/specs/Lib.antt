@@ -1,0 +1,5 @@
+-- How store, links and directory change.
+pub mod Memory
+pub mod Grow
+pub mod Start
+pub mod Erase

@@ -1,0 +1,2 @@
+-- The store's part of sound.
+pub mod Sound

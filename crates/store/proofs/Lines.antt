@@ -1,0 +1,135 @@
+-- The next line of a content, and all its lines.
+use mathlib.Core.Path.{_≡_, refl, sym, ap, _∙_}
+use mathlib.Core.Bool.{Bool, true, false, cond}
+use mathlib.Core.List.{List, [], _∷_, _++_, append-assoc, append-nil}
+use mathlib.Core.Logic.{_⊎_, inl, inr, ⊎-elim}
+use Prim.Native.Nat.{ℕ, zero, suc, _+_, _-_, _*_, _≤_, _<_}
+use native.Mathlib.Omega.{arith}
+use native.Mathlib.Numerals.{add-one}
+use lib.ListN.{length, getD, set, take, drop, length-append}
+use lib.Seq.{sets, take-all, length-sets}
+use lib.Dec.{eqb, ltb}
+use borrow.Author.Tests.{eq-eqb, ne-eqb, lt-ltb, le-ltb}
+use Rattle.cells.proofs.Counts.{same?}
+use Rattle.cells.proofs.Sets.{sets-front}
+use Rattle.store.specs.declared.Cursor.{Cursor}
+use Rattle.store.specs.declared.Next.{Next}
+use Rattle.store.specs.declared.Next.the-variants.{Line, End, Bad}
+use Rattle.store.specs.Content.{portionAfter, placeAfter, cursor, ahead, onward, after}
+use Rattle.store.specs.Lines.{Lines, lines, ontoWhole, onto, withByte, linesOf, lineOf, pickLine, pickNext, nextLine, lined}
+use Rattle.store.proofs.Reading.{Stands, stands-start, stands-step, stands-byte, stands-is, front-more, length-ahead, ahead-after}
+
+-- ---- `lineOf`
+
+pub line-most : (a : List ℕ) → length (lineOf a) ≤ length a
+unfolding lineOf
+line-most [] = omega arith
+line-most (b ∷ bs) = ⊎-elim
+    (λ (e : b ≡ 10). rw (eq-eqb b 10 e) (omega arith))
+    (λ (n : b ≡ 10 → ⊥). rw (ne-eqb b 10 n) (omega (arith, line-most bs)))
+    (same? b 10)
+
+-- a line ends at the first LF
+pub line-ends : (a : List ℕ) (n : ℕ) → n ≤ length (lineOf a) → n < length a → getD a n 0 ≡ 10 → length (lineOf a) ≡ n
+unfolding lineOf
+line-ends [] n h b e = absurd (omega arith)
+line-ends (x ∷ a) zero h b e = rw (eq-eqb x 10 e)
+line-ends (x ∷ a) (suc n) h b e = ⊎-elim
+    (λ (y : x ≡ 10). absurd (let k : suc n ≤ 0 = rw (eq-eqb x 10 y) at h in omega arith))
+    (λ (y : x ≡ 10 → ⊥).
+    let k : suc n ≤ suc (length (lineOf a)) = rw (ne-eqb x 10 y) at h in
+    rw (ne-eqb x 10 y) (ap suc (line-ends a n (omega arith) (omega arith) e)))
+    (same? x 10)
+
+-- and goes on at any other byte
+pub line-goes : (a : List ℕ) (n : ℕ) → n ≤ length (lineOf a) → n < length a → (getD a n 0 ≡ 10 → ⊥) → (n < length (lineOf a)) × (getD a n 0 ≡ getD (lineOf a) n 0)
+unfolding lineOf
+line-goes [] n h b e = absurd (omega arith)
+line-goes (x ∷ a) zero h b e = rw (ne-eqb x 10 e) (omega arith, refl)
+line-goes (x ∷ a) (suc n) h b e = ⊎-elim
+    (λ (y : x ≡ 10). absurd (let k : suc n ≤ 0 = rw (eq-eqb x 10 y) at h in omega arith))
+    (λ (y : x ≡ 10 → ⊥).
+    let k : suc n ≤ suc (length (lineOf a)) = rw (ne-eqb x 10 y) at h in
+    let r = line-goes a n (omega arith) (omega arith) e in
+    rw (ne-eqb x 10 y) (omega (arith, r .0), r .1))
+    (same? x 10)
+
+-- ---- a pass over one line
+
+pub record Lining (store links : List ℕ) (c₀ : Cursor) (buf₀ buf : List ℕ) (n p at left : ℕ) : Type 0 where
+  pub stands : Stands store links c₀ n p at
+  pub few : n ≤ 255
+  pub within : n ≤ length (lineOf (ahead store links c₀))
+  pub rest : left + n ≡ c₀ .left
+  pub put : buf ≡ sets buf₀ 0 (take n (lineOf (ahead store links c₀)))
+
+module _ (store links : List ℕ) (c₀ : Cursor) (buf₀ : List ℕ) where
+  abbrev a : List ℕ
+  a = ahead store links c₀
+
+  pub lining-start : Lining store links c₀ buf₀ buf₀ 0 (c₀ .portion) (c₀ .at) (c₀ .left)
+  lining-start = record { stands = stands-start store links c₀; few = omega arith; within = omega arith; rest = omega arith; put = refl }
+
+  pub lining-long : (buf : List ℕ) (n p at left : ℕ) → Lining store links c₀ buf₀ buf n p at left → length buf ≡ length buf₀
+  lining-long buf n p at left i = ap length (i .put) ∙ length-sets buf₀ 0 (take n (lineOf a))
+
+  module _ (buf : List ℕ) (n p at left b p′ at′ : ℕ) (i : Lining store links c₀ buf₀ buf n p at left) (h : 0 < left)
+      (eb : b ≡ getD store (p * 256 + at) 0) (ep : p′ ≡ portionAfter links p at) (ea : at′ ≡ placeAfter at) where
+    here : b ≡ getD a n 0
+    here = stands-byte store links c₀ n p at b (omega (arith, i .rest)) (i .stands) eb
+
+    inside : n < length a
+    inside = omega (arith, i .rest, length-ahead store links c₀)
+
+    moved : Stands store links c₀ (n + 1) p′ at′
+    moved = stands-step store links c₀ n p at p′ at′ (i .stands) ep ea
+
+    pub lining-ends : b ≡ 10 → (Line n (cursor p′ at′ (left - 1)) ≡ nextLine store links c₀) × (buf ≡ lined store links c₀ buf₀)
+    unfolding nextLine lined
+    lining-ends e =
+        let l : length (lineOf a) ≡ n = line-ends a n (i .within) inside (sym here ∙ e) in (
+          rw (l, le-ltb 255 n (i .few), lt-ltb n (c₀ .left) (omega (arith, i .rest)))
+              (ap (Line n) (stands-is store links c₀ (n + 1) p′ at′ (left - 1) moved (omega (arith, i .rest)) ∙ ap (after links c₀) (add-one n))),
+          i .put ∙ ap (sets buf₀ 0) (take-all n (lineOf a) (omega arith) ∙ sym (take-all 255 (lineOf a) (omega (arith, i .few)))),
+        )
+
+    goes : (b ≡ 10 → ⊥) → (n < length (lineOf a)) × (getD a n 0 ≡ getD (lineOf a) n 0)
+    goes ne = line-goes a n (i .within) inside (λ e. ne (here ∙ e))
+
+    pub lining-bad : (b ≡ 10 → ⊥) → n ≡ 255 → (Bad ≡ nextLine store links c₀) × (buf ≡ lined store links c₀ buf₀)
+    unfolding nextLine lined
+    lining-bad ne e = (
+      rw (lt-ltb 255 (length (lineOf a)) (omega (arith, goes ne .0))),
+      i .put ∙ ap (λ (k : ℕ). sets buf₀ 0 (take k (lineOf a))) e,
+    )
+
+    pub lining-step : (b ≡ 10 → ⊥) → (n ≡ 255 → ⊥) → Lining store links c₀ buf₀ (set buf n b) (n + 1) p′ at′ (left - 1)
+    lining-step ne e = record {
+      stands = moved;
+      few = omega (arith, i .few);
+      within = omega (arith, goes ne .0);
+      rest = omega (arith, i .rest);
+      put = ap (λ (o : List ℕ). set o n b) (i .put) ∙ front-more buf₀ (lineOf a) n b (goes ne .0) (here ∙ goes ne .1);
+    }
+
+  module _ (buf : List ℕ) (n p at left : ℕ) (i : Lining store links c₀ buf₀ buf n p at left) (h : left ≤ 0) where
+    all : length (lineOf a) ≡ n
+    all = omega (arith, i .rest, i .within, line-most a, length-ahead store links c₀)
+
+    buffered : buf ≡ lined store links c₀ buf₀
+    unfolding lined
+    buffered = i .put ∙ ap (sets buf₀ 0) (take-all n (lineOf a) (omega (arith, all)) ∙ sym (take-all 255 (lineOf a) (omega (arith, all, i .few))))
+
+    pub lining-end : n ≡ 0 → (End ≡ nextLine store links c₀) × (buf ≡ lined store links c₀ buf₀)
+    unfolding nextLine
+    lining-end e = (
+      rw (all, le-ltb 255 n (i .few), le-ltb n (c₀ .left) (omega (arith, i .rest)), eq-eqb (c₀ .left) 0 (omega (arith, i .rest))),
+      buffered,
+    )
+
+    pub lining-cut : (n ≡ 0 → ⊥) → (Bad ≡ nextLine store links c₀) × (buf ≡ lined store links c₀ buf₀)
+    unfolding nextLine
+    lining-cut e = (
+      rw (all, le-ltb 255 n (i .few), le-ltb n (c₀ .left) (omega (arith, i .rest)), ne-eqb (c₀ .left) 0 (λ z. omega (arith, i .rest))),
+      buffered,
+    )

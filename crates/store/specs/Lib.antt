@@ -1,0 +1,6 @@
+-- What lies in the lent store: paper 01, "What is lent".
+pub mod Chain
+pub mod Entry
+pub mod Find
+pub mod Content
+pub mod Lines

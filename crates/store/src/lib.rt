@@ -1,0 +1,338 @@
+// What lies in the lent store: portions of 256 bytes chained by a table of links, and a directory that names the chains (paper 01, "What is lent").
+// This crate looks things up (the lowest free portion, the lowest empty entry, an entry by kind and name, the form being recorded) and reads
+// contents, whole or line by line. Every function answers on any memory: past the end 0 is read, and a damaged size is read no further than all
+// portions reach. What changes the memory is in `moves`, what makes it sound in `shelf`.
+ghost use mathlib.Core.Path.{_≡_};
+ghost use Prim.Native.Nat.{_+_, _*_, _<_, min};
+ghost use lib.ListN.{length, getD, set};
+ghost use lib.Seq.{sets};
+ghost use Rattle.store.specs.Chain.{needed, freeCount};
+ghost use Rattle.store.specs.Entry.{entry, kind, nameLength, name, first, size, ofKind};
+ghost use Rattle.store.specs.Find.{lowestFree, lowestEmpty, recorded, sameName, titled, titledAt};
+ghost use Rattle.store.specs.Content.{portionAfter, placeAfter, extent, content, cursorAt};
+ghost use Rattle.store.specs.Lines.{nextLine, lined};
+
+pub enum Found {
+    At(usize),
+    Nothing,
+}
+
+// Where a reader stands: a portion, a place in it, and how many bytes are left.
+pub struct Cursor {
+    pub portion: usize,
+    pub at: usize,
+    pub left: usize,
+}
+
+// What a reader finds next: a line of a length, with the reader behind its LF; the end; or no line of at most 255 bytes.
+pub enum Next {
+    Line(usize, Cursor),
+    End,
+    Bad,
+}
+
+// How many portions hold so many bytes.
+pub fn needed_for(size: usize) -> usize
+    ensures { λ r. ⌜ r ≡ needed size ⌝ }
+{
+    let whole = size / 256;
+    if size % 256 != 0 {
+        return whole + 1;
+    }
+    if whole == 0 { 1 } else { whole }
+}
+
+pub fn free_count(links: &[u16]) -> usize
+    ensures { λ r. ⌜ r ≡ freeCount (now (links .entry)) ⌝ }
+{
+    let mut n: usize = 0;
+    let mut i = 0;
+    while i < links.len() {
+        if links[i] == 65535 {
+            n += 1;
+        }
+        i += 1;
+    }
+    n
+}
+
+pub fn lowest_free(links: &[u16]) -> Found
+    ensures { λ r. ⌜ r ≡ lowestFree (now (links .entry)) ⌝ }
+{
+    let mut i = 0;
+    while i < links.len() {
+        if links[i] == 65535 {
+            return Found::At(i);
+        }
+        i += 1;
+    }
+    Found::Nothing
+}
+
+// Byte o of entry i.
+fn field(directory: &[u8], i: usize, o: usize) -> usize
+    requires { ⌜ o < 16 ⌝ }
+    ensures { λ r. ⌜ (r ≡ getD (entry (now (directory .entry)) i) o 0) × (r < 256) ⌝ }
+{
+    if directory.len() / 16 < i {
+        return 0;
+    }
+    let from = i * 16;
+    if directory.len() - from <= o {
+        return 0;
+    }
+    directory[from + o] as usize
+}
+
+pub fn kind_at(directory: &[u8], i: usize) -> usize
+    ensures { λ r. ⌜ (r ≡ kind (entry (now (directory .entry)) i)) × (r < 256) ⌝ }
+{
+    field(directory, i, 0)
+}
+
+pub fn first_at(directory: &[u8], i: usize) -> usize
+    ensures { λ r. ⌜ (r ≡ first (entry (now (directory .entry)) i)) × (r < 65536) ⌝ }
+{
+    let lo = field(directory, i, 10);
+    let hi = field(directory, i, 11);
+    lo + 256 * hi
+}
+
+pub fn size_at(directory: &[u8], i: usize) -> usize
+    ensures { λ r. ⌜ (r ≡ size (entry (now (directory .entry)) i)) × (r < 4294967296) ⌝ }
+{
+    let a = field(directory, i, 12);
+    let b = field(directory, i, 13);
+    let c = field(directory, i, 14);
+    let d = field(directory, i, 15);
+    a + 256 * b + 65536 * c + 16777216 * d
+}
+
+pub fn name_length_at(directory: &[u8], i: usize) -> usize
+    ensures { λ r. ⌜ (r ≡ nameLength (entry (now (directory .entry)) i)) × (r < 256) ⌝ }
+{
+    field(directory, i, 1)
+}
+
+// The name of entry i: 8 zero-filled bytes.
+pub fn name_at(directory: &[u8], i: usize) -> [u8; 8]
+    ensures { λ r. ⌜ r ≡ name (entry (now (directory .entry)) i) ⌝ }
+{
+    let a = field(directory, i, 2) as u8;
+    let b = field(directory, i, 3) as u8;
+    let c = field(directory, i, 4) as u8;
+    let d = field(directory, i, 5) as u8;
+    let e = field(directory, i, 6) as u8;
+    let f = field(directory, i, 7) as u8;
+    let g = field(directory, i, 8) as u8;
+    let h = field(directory, i, 9) as u8;
+    [a, b, c, d, e, f, g, h]
+}
+
+pub fn lowest_empty(directory: &[u8]) -> Found
+    ensures { λ r. ⌜ r ≡ lowestEmpty (now (directory .entry)) ⌝ }
+{
+    let n = directory.len() / 16;
+    let mut i = 0;
+    while i < n {
+        if kind_at(directory, i) == 0 {
+            return Found::At(i);
+        }
+        i += 1;
+    }
+    Found::Nothing
+}
+
+// The form being recorded.
+pub fn recording(directory: &[u8]) -> Found
+    ensures { λ r. ⌜ r ≡ recorded (now (directory .entry)) ⌝ }
+{
+    let n = directory.len() / 16;
+    let mut i = 0;
+    while i < n {
+        if kind_at(directory, i) == 3 {
+            return Found::At(i);
+        }
+        i += 1;
+    }
+    Found::Nothing
+}
+
+pub fn is_of_kind(picture: bool, k: usize) -> bool
+    ensures { λ r. ⌜ r ≡ ofKind picture k ⌝ }
+{
+    if picture {
+        return k == 2;
+    }
+    if k == 1 {
+        return true;
+    }
+    k == 3
+}
+
+fn same_name(directory: &[u8], i: usize, title: [u8; 8]) -> bool
+    ensures { λ r. ⌜ r ≡ sameName (entry (now (directory .entry)) i) title ⌝ }
+{
+    let mut k = 0;
+    while k < 8 {
+        if field(directory, i, 2 + k) != title[k] as usize {
+            return false;
+        }
+        k += 1;
+    }
+    true
+}
+
+fn is_titled(directory: &[u8], picture: bool, title: [u8; 8], i: usize) -> bool
+    ensures { λ r. ⌜ r ≡ titled (now (directory .entry)) picture title i ⌝ }
+{
+    let k = kind_at(directory, i);
+    if !is_of_kind(picture, k) {
+        return false;
+    }
+    same_name(directory, i, title)
+}
+
+// The entry of a kind, picture or form, that bears a name of 8 zero-filled bytes.
+pub fn find(directory: &[u8], picture: bool, title: [u8; 8]) -> Found
+    ensures { λ r. ⌜ r ≡ titledAt (now (directory .entry)) picture title ⌝ }
+{
+    let n = directory.len() / 16;
+    let mut i = 0;
+    while i < n {
+        if is_titled(directory, picture, title, i) {
+            return Found::At(i);
+        }
+        i += 1;
+    }
+    Found::Nothing
+}
+
+// The byte at place `at` of portion p.
+fn byte_at(store: &[u8], p: usize, at: usize) -> u8
+    ensures { λ r. ⌜ r ≡ getD (now (store .entry)) (p * 256 + at) 0 ⌝ }
+{
+    if store.len() / 256 < p {
+        return 0;
+    }
+    let from = p * 256;
+    if store.len() - from <= at {
+        return 0;
+    }
+    store[from + at]
+}
+
+// The link of portion p.
+pub fn link_at(links: &[u16], p: usize) -> usize
+    ensures { λ r. ⌜ (r ≡ getD (now (links .entry)) p 0) × (r < 65536) ⌝ }
+{
+    if p < links.len() {
+        links[p] as usize
+    } else {
+        0
+    }
+}
+
+fn portion_after(links: &[u16], p: usize, at: usize) -> usize
+    ensures { λ r. ⌜ r ≡ portionAfter (now (links .entry)) p at ⌝ }
+{
+    if at < 255 {
+        return p;
+    }
+    link_at(links, p)
+}
+
+fn place_after(at: usize) -> usize
+    ensures { λ r. ⌜ r ≡ placeAfter at ⌝ }
+{
+    if at < 255 { at + 1 } else { 0 }
+}
+
+// How many bytes of entry i are read.
+fn extent_at(links: &[u16], directory: &[u8], i: usize) -> usize
+    ensures { λ r. ⌜ r ≡ extent (now (links .entry)) (entry (now (directory .entry)) i) ⌝ }
+{
+    let s = size_at(directory, i);
+    if s / 256 < links.len() {
+        return s;
+    }
+    links.len() * 256
+}
+
+// A reader at the start of entry i.
+pub fn reader(links: &[u16], directory: &[u8], i: usize) -> Cursor
+    ensures { λ r. ⌜ r ≡ cursorAt (now (links .entry)) (now (directory .entry)) i ⌝ }
+{
+    let p = first_at(directory, i);
+    let left = extent_at(links, directory, i);
+    Cursor {
+        portion: p,
+        at: 0,
+        left,
+    }
+}
+
+fn least(a: usize, b: usize) -> usize
+    ensures { λ r. ⌜ r ≡ min a b ⌝ }
+{
+    if a < b { a } else { b }
+}
+
+// Copies the content of entry i to the front of `out`, as much of it as fits: how many bytes that are.
+pub fn copy_out(store: &[u8], links: &[u16], directory: &[u8], i: usize, out: &mut [u8]) -> usize
+    ensures copied { λ r. ⌜ now (out .exit) ≡ sets (now (out .entry)) 0 (content (now (store .entry)) (now (links .entry)) (now (directory .entry)) i) ⌝ }
+    ensures length { λ r. ⌜ r ≡ min (length (content (now (store .entry)) (now (links .entry)) (now (directory .entry)) i)) (length (now (out .entry))) ⌝ }
+{
+    let mut p = first_at(directory, i);
+    let n = least(extent_at(links, directory, i), out.len());
+    let mut at: usize = 0;
+    let mut k: usize = 0;
+    while k < n {
+        out[k] = byte_at(store, p, at);
+        p = portion_after(links, p, at);
+        at = place_after(at);
+        k += 1;
+    }
+    n
+}
+
+// Stores a byte, where there is a place for it.
+pub fn put(into: &mut [u8], at: usize, b: u8)
+    ensures { λ _. ⌜ now (into .exit) ≡ set (now (into .entry)) at b ⌝ }
+{
+    if at < into.len() {
+        into[at] = b;
+    }
+}
+
+// The next line ahead of a reader, copied without its LF to the front of a buffer that has 255 bytes or more.
+pub fn line_into(store: &[u8], links: &[u16], place: Cursor, buffer: &mut [u8]) -> Next
+    ensures { λ r. ⌜ (r ≡ nextLine (now (store .entry)) (now (links .entry)) place) × (now (buffer .exit) ≡ lined (now (store .entry)) (now (links .entry)) place (now (buffer .entry))) ⌝ }
+{
+    let mut p = place.portion;
+    let mut at = place.at;
+    let mut left = place.left;
+    let mut n: usize = 0;
+    while 0 < left {
+        let b = byte_at(store, p, at);
+        p = portion_after(links, p, at);
+        at = place_after(at);
+        left -= 1;
+        if b == 10 {
+            return Next::Line(
+                n,
+                Cursor {
+                    portion: p,
+                    at,
+                    left,
+                },
+            );
+        }
+        if n == 255 {
+            return Next::Bad;
+        }
+        put(buffer, n, b);
+        n += 1;
+    }
+    if n == 0 { Next::End } else { Next::Bad }
+}
