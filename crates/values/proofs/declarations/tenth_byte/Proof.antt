@@ -1,0 +1,21 @@
+use borrow.Author.Tests.{lt-ltb, le-ltb}
+use borrow.Author.Needs.{needs}
+use Rattle.values.proofs.declarations.tenth_byte.Statement.{statement}
+use Rattle.values.proofs.declarations.tenth_byte.Tie as tie
+use Rattle.values.proofs.declarations.tenth_byte.Reads as reads
+use Rattle.values.proofs.declarations.tenth_byte.Lts as lts
+
+-- src/declarations.rt:18:17
+array-read-result : tie.Need-array-read-result
+array-read-result c = search needs
+
+-- src/declarations.rt:15:1
+returns : tie.Need-returns
+returns c = rw (lt-ltb _ 10 (c .if1 .taken))
+
+-- src/declarations.rt:15:1
+returns-2 : tie.Need-returns-2
+returns-2 c = rw (le-ltb _ 10 (c .if1 .left))
+
+pub tenth-byte-spec : {M : Type 1} → statement M
+tenth-byte-spec = tie.close (tie.spec array-read-result returns returns-2)
