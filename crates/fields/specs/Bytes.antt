@@ -1,0 +1,33 @@
+-- Classes of bytes, and how far a run of one class goes.
+-- Assumes nothing.
+use Prim.Native.Nat.{ℕ, suc, _+_, _-_, _*_}
+use mathlib.Core.Bool.{Bool, true, false, cond, _||_, not}
+use mathlib.Core.List.{List, [], _∷_}
+use lib.Dec.{eqb}
+use Rattle.fit.specs.Bytes.{between}
+use Rattle.fields.specs.declared.Class.{Class}
+use Rattle.fields.specs.declared.Class.the-variants.{Digit, Quoted, Inside, Named, Mode, Side}
+
+-- Digit: 0 to 9. Quoted: "Other bytes are 32 to 126", "Quoted text holds no quote" (34). Inside: what is no LF (10).
+-- Named: "codes 32 to 126 without `*` and quote". Mode: "m N or R". Side: "j L, R, C, N or Z"
+abbrev pub inClass : Class → ℕ → Bool
+inClass Digit b = between 48 57 b
+inClass Quoted b = between 32 33 b || between 35 126 b
+inClass Inside b = not (eqb b 10)
+inClass Named b = between 32 33 b || (between 35 41 b || between 43 126 b)
+inClass Mode b = eqb b 78 || eqb b 82
+inClass Side b = eqb b 76 || (eqb b 82 || (eqb b 67 || (eqb b 78 || eqb b 90)))
+
+-- how many bytes of the class stand at the front
+unfoldable pub run : Class → List ℕ → ℕ
+run k [] = 0
+run k (b ∷ bs) = cond (inClass k b) (suc (run k bs)) 0
+
+-- a digit's number, and 0 of another byte
+abbrev pub digitOf : ℕ → ℕ
+digitOf b = cond (between 48 57 b) (b - 48) 0
+
+-- the number that digits write, after v
+unfoldable pub valueFrom : ℕ → List ℕ → ℕ
+valueFrom v [] = v
+valueFrom v (d ∷ ds) = valueFrom (v * 10 + digitOf d) ds

@@ -1,0 +1,135 @@
+-- Paper 01, "Data": "One or more elements side by side: quoted text, or `V`/`C` and a digit, then at most one of `Ln`, `Rn`, `Mp.n`".
+-- Assumes nothing.
+use Prim.Native.Nat.{ℕ, zero, suc, _+_, _-_}
+use mathlib.Core.Bool.{Bool, true, false, cond, _&&_}
+use mathlib.Core.List.{List, [], _∷_}
+use lib.ListN.{length, getD}
+use lib.Dec.{eqb, ltb, leb}
+use Rattle.fit.specs.Bytes.{between}
+use Rattle.fields.specs.Bytes.{digitOf}
+use Rattle.fields.specs.Field.{numberAt, textAt, byteAt}
+use Rattle.fields.specs.declared.Field.{Field}
+use Rattle.fields.specs.declared.Field.the-variants.{Is, Not}
+use Rattle.fields.specs.declared.Part.{Part}
+use Rattle.fields.specs.declared.Part.the-variants.{Whole, First, Last, Middle}
+use Rattle.fields.specs.declared.What.{What}
+use Rattle.fields.specs.declared.What.the-variants.{Text, Variable, Counter}
+use Rattle.fields.specs.declared.Element.{Element}
+use Rattle.fields.specs.declared.Step.{Step}
+use Rattle.fields.specs.declared.Step.the-variants.{Next, Stop}
+use Rattle.fields.specs.declared.Modifier.{Modifier}
+use Rattle.fields.specs.declared.Modifier.the-variants.{Takes, Wrong}
+use Rattle.fields.specs.declared.Limits.{Limits}
+use Rattle.fields.specs.declared.Limits.the-variants.{Within, Outside}
+
+-- `Ln`: the first n, after the letter
+abbrev pub first : ℕ → Field → Modifier
+first at (Is n e) = Takes (First n) e
+first at (Not p) = Wrong at
+
+-- `Rn`: the last n
+abbrev pub last : ℕ → Field → Modifier
+last at (Is n e) = Takes (Last n) e
+last at (Not p) = Wrong at
+
+-- `Mp.n`: n from place p
+abbrev pub middle-n : ℕ → ℕ → Field → Modifier
+middle-n p at (Is n e) = Takes (Middle p n) e
+middle-n p at (Not q) = Wrong at
+
+abbrev pub middle-dot : ℕ → List ℕ → ℕ → Field → Modifier
+middle-dot p s at (Is d e) = middle-n p e (numberAt s e)
+middle-dot p s at (Not q) = Wrong at
+
+abbrev pub middle : List ℕ → ℕ → Field → Modifier
+middle s at (Is p e) = middle-dot p s e (byteAt 46 s e)
+middle s at (Not q) = Wrong at
+
+-- a modifier at a place, or none
+unfoldable pub modifierAt : List ℕ → ℕ → Modifier
+modifierAt s at =
+    cond (eqb (getD s at 0) 76) (first (at + 1) (numberAt s (at + 1)))
+    (cond (eqb (getD s at 0) 82) (last (at + 1) (numberAt s (at + 1)))
+    (cond (eqb (getD s at 0) 77) (middle s (at + 1) (numberAt s (at + 1)))
+    (Takes Whole at)))
+
+-- an element that goes wrong at q is at fault from its first byte on, or at the LF where the line ends too soon
+abbrev pub pointed : List ℕ → ℕ → ℕ → ℕ
+pointed s at q = cond (ltb q (length s)) at q
+
+abbrev pub quotedFrom : ℕ → Field → Step
+quotedFrom at (Is n e) = Next (record { what = Text; at = at; length = n + 2 })
+quotedFrom at (Not p) = Stop p
+
+-- the variable or counter of a digit
+abbrev pub heldFrom : Bool → ℕ → Part → What
+heldFrom true digit p = Counter (digitOf digit) p
+heldFrom false digit p = Variable (digitOf digit) p
+
+abbrev pub modified : Bool → ℕ → List ℕ → ℕ → Modifier → Step
+modified counter digit s at (Takes p e) = Next (record { what = heldFrom counter digit p; at = at; length = e - at })
+modified counter digit s at (Wrong q) = Stop (pointed s at q)
+
+-- after `V` or `C`
+unfoldable pub heldAt : Bool → List ℕ → ℕ → Step
+heldAt counter s at =
+    cond (between 48 57 (getD s (at + 1) 0))
+    (modified counter (getD s (at + 1) 0) s at (modifierAt s (at + 2)))
+    (Stop (pointed s at (at + 1)))
+
+-- the element at a place, or none
+unfoldable pub elementAt : List ℕ → ℕ → Step
+elementAt s at =
+    cond (eqb (getD s at 0) 34) (quotedFrom at (textAt s at))
+    (cond (eqb (getD s at 0) 86) (heldAt false s at)
+    (cond (eqb (getD s at 0) 67) (heldAt true s at)
+    (Stop at)))
+
+-- the place after an element
+abbrev pub after : Element → ℕ
+after e = e .at + e .length
+
+abbrev pub follow : Step → (ℕ → List Element) → List Element
+follow (Next e) f = e ∷ f (after e)
+follow (Stop p) f = []
+
+-- at most n elements side by side from a place on
+unfoldable pub elementsFrom : ℕ → List ℕ → ℕ → List Element
+elementsFrom zero s at = []
+elementsFrom (suc n) s at = follow (elementAt s at) (elementsFrom n s)
+
+-- all elements side by side from a place on: each takes a byte at least, so there are no more than bytes
+unfoldable pub elements : List ℕ → ℕ → List Element
+elements s at = elementsFrom (length s - at) s at
+
+-- how many bytes they take
+unfoldable pub total : List Element → ℕ
+total [] = 0
+total (e ∷ es) = e .length + total es
+
+abbrev pub stopped : ℕ → Step → ℕ
+stopped at (Next e) = at
+stopped at (Stop p) = p
+
+-- one or more elements to the end of the line. As a field data has no value (0)
+unfoldable pub dataAt : List ℕ → ℕ → Field
+dataAt s at =
+    let e : ℕ = at + total (elements s at) in
+    cond (ltb at e && eqb e (length s)) (Is 0 e) (Not (stopped e (elementAt s e)))
+
+-- "n and p from 1 to 32"
+abbrev pub partGood : Part → Bool
+partGood Whole = true
+partGood (First n) = between 1 32 n
+partGood (Last n) = between 1 32 n
+partGood (Middle p n) = between 1 32 p && between 1 32 n
+
+abbrev pub whatGood : What → Bool
+whatGood Text = true
+whatGood (Variable n p) = partGood p
+whatGood (Counter n p) = partGood p
+
+-- whether all modifiers are within their limits, or the place of the first element that is outside
+unfoldable pub limits : List Element → Limits
+limits [] = Within
+limits (e ∷ es) = cond (whatGood (e .what)) (limits es) (Outside (e .at))
