@@ -11,7 +11,7 @@ use Rattle.values.specs.declared.declarations.Declared.{Declared}
 use Rattle.values.specs.declared.counters.Counters.{Counters}
 use Rattle.values.specs.declared.counters.Entered.{Entered}
 use Rattle.values.specs.declared.counters.Entered.the-variants.{Taken, Undeclared, Unfit}
-use Rattle.values.specs.Declarations.{lengthAt, sideAt, widthAt, variableDeclared, counterDeclared}
+use Rattle.values.specs.Declarations.{tenth, lengthAt, sideAt, widthAt, variableDeclared, counterDeclared}
 use Rattle.values.specs.Counters.{tenTo, counterSet, counterValue}
 
 -- ---- what may be entered
@@ -106,7 +106,24 @@ fieldSound d k f = allIn isZero f || (variableDeclared d k && keeps (sideAt d k)
 
 -- "counters with set or unset (then 0)"; a set one is declared and below 10^w
 unfoldable pub counterSound : Declared → Counters → ℕ → Bool
-counterSound d c k = cond (counterSet c k) (counterDeclared d k && ltb (counterValue c k) (tenTo (widthAt d k))) (counterBlank c k)
-  where
-    counterBlank : Counters → ℕ → Bool
-    counterBlank c k = true
+counterSound d c k =
+    (eqb (tenth (c .set) k) 0 && eqb (counterValue c k) 0) || (counterSet c k && (counterDeclared d k && ltb (counterValue c k) (tenTo (widthAt d k))))
+
+-- the test holds of n numbers from k on
+abbrev pub every : (ℕ → Bool) → ℕ → ℕ → Bool
+every q zero k = true
+every q (suc n) k = q k && every q n (suc k)
+
+abbrev pub soundAt : Declared → List ℕ → Counters → ℕ → Bool
+soundAt d values c k = fieldSound d k (fieldAt values k) && counterSound d c k
+
+-- the values' part of sound; with no form nothing is declared
+unfoldable pub valuesSound : Declared → List ℕ → Counters → Bool
+valuesSound d values c = every (soundAt d values c) 10 0
+
+-- "all declared values are set"
+abbrev pub setAt : Declared → List ℕ → Counters → ℕ → Bool
+setAt d values c k = (not (variableDeclared d k) || fieldSet (fieldAt values k)) && (not (counterDeclared d k) || counterSet c k)
+
+unfoldable pub allSet : Declared → List ℕ → Counters → Bool
+allSet d values c = every (setAt d values c) 10 0

@@ -2,6 +2,7 @@
 pub mod bytes;
 pub mod counters;
 pub mod declarations;
+pub mod stored;
 
 pub use counters::Counted;
 pub use counters::Counters;
