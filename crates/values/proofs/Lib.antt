@@ -2,3 +2,5 @@ pub mod Lists
 pub mod Writing
 pub mod Tens
 pub mod Fields
+pub mod Parts
+pub mod Laying

@@ -1,3 +1,4 @@
 pub mod Declarations
 pub mod Counters
 pub mod Stored
+pub mod Data
