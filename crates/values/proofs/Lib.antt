@@ -2,5 +2,4 @@ pub mod Lists
 pub mod Writing
 pub mod Tens
 pub mod Fields
-pub mod Parts
 pub mod Laying

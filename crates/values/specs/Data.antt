@@ -24,15 +24,12 @@ partOf (First n) v = take n v
 partOf (Last n) v = drop (length v - n) v
 partOf (Middle p n) v = take n (drop (p - 1) v)
 
--- how long a part of a value of n bytes is
-unfoldable pub partLength : Part → ℕ → ℕ
-partLength Whole n = n
-partLength (First k) n = min k n
-partLength (Last k) n = min k n
-partLength (Middle p k) n = min k (n - (p - 1))
+-- what stands between an element's quotes
+abbrev pub textIn : List ℕ → Element → List ℕ
+textIn line e = take (e .length - 2) (drop (e .at + 1) line)
 
 abbrev pub pieceFrom : What → List ℕ → List ℕ → Element → List ℕ
-pieceFrom Text line value e = take (e .length - 2) (drop (e .at + 1) line)
+pieceFrom Text line value e = textIn line e
 pieceFrom (Variable k p) line value e = partOf p value
 pieceFrom (Counter k p) line value e = partOf p value
 

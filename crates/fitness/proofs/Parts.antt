@@ -8,8 +8,9 @@ use lib.ListN.{length, drop, replicate, length-take, length-drop, length-replica
 use Rattle.fit.specs.Bytes.{allIn}
 use Rattle.fields.specs.declared.Part.{Part}
 use Rattle.fields.specs.declared.Part.the-variants.{Whole, First, Last, Middle}
-use Rattle.values.specs.Data.{partOf, partLength}
+use Rattle.values.specs.Data.{partOf}
+use Rattle.fitness.specs.Summary.{partLength}
 use Rattle.values.proofs.Lists.{all-take, all-drop, take-replicate, drop-replicate}
 
 pub length-part : (p : Part) (v : List ℕ) → length (partOf p v) ≡ partLength p (length v)
 unfolding partOf partLength

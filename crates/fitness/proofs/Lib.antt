@@ -1,0 +1,4 @@
+pub mod Parts
+pub mod Always
+pub mod Summing
+pub mod Answering
