@@ -82,6 +82,18 @@ entered-fits side m text h = go (eqb side 78) (eqb side 90) refl refl h
         rw (p, q) (and-both (eqb (length (padded side m text)) m) (allIn legal (padded side m text)) (eq-eqb (length (padded side m text)) m k)
         (all-padded legal side m text f (and-right (leb (length text) m) (allIn legal text) e)))
 
+-- a value that fits is no longer than m
+pub length-fits : (side m : ℕ) (v : List ℕ) → fits side m v ≡ true → length v ≤ m
+unfolding fits
+length-fits side m v h = go (eqb side 78) (eqb side 90) h
+  where
+    go : (n z : Bool)
+        → cond n (leb (length v) m && allIn legal v) (cond z (eqb (length v) m && allIn isDigit v) (eqb (length v) m && allIn legal v)) ≡ true
+        → length v ≤ m
+    go true z e = leb-true (length v) m (and-left (leb (length v) m) (allIn legal v) e)
+    go false true e = let q = eqb-true (length v) m (and-left (eqb (length v) m) (allIn isDigit v) e) in omega arith
+    go false false e = let q = eqb-true (length v) m (and-left (eqb (length v) m) (allIn legal v) e) in omega arith
+
 -- ---- the field
 
 behind-most : (side gap : ℕ) → before side gap + behind side gap ≤ gap

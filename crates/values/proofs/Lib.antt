@@ -3,3 +3,4 @@ pub mod Writing
 pub mod Tens
 pub mod Fields
 pub mod Laying
+pub mod Sound

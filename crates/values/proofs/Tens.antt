@@ -1,6 +1,6 @@
 -- Powers of ten, the digits of a counter as a loop writes them, and what a move means.
 use mathlib.Core.Path.{_≡_, refl, sym, ap, _∙_}
-use mathlib.Core.Bool.{Bool, true, false, cond, _&&_, false≢true}
+use mathlib.Core.Bool.{Bool, true, false, cond, _&&_, false≢true, and-false}
 use mathlib.Core.List.{List, [], _∷_}
 use Prim.Native.Nat.{ℕ, zero, suc, _+_, _-_, _*_, _/_, _%_, _^_, _≤_, _<_, min}
 use native.Mathlib.Nat.{one-le-pow, pow-le-pow-right, mod-lt, mod-add-mod, add-mod, div-add-mod', add-mul-mod-self-right, add-mul, one-mul}
@@ -131,6 +131,15 @@ module _ (d : Declared) (c : Counters) where
   pub moved-each : (k : ℕ) → length (c .value) ≡ 10 → k < 10 → counterValue (movedAll d c) k ≡ movedAt d c k
   unfolding movedAll
   moved-each k e h = rw (lt-ltb k 10 h) (moves-at 10 0 k (c .value) (omega arith) (omega arith) (omega arith))
+
+  -- a counter that is declared and set moves; one that is unset stays
+  pub moved-yes : (k : ℕ) → counterDeclared d k ≡ true → counterSet c k ≡ true → movedAt d c k ≡ moved (widthAt d k) (minusAt d k) (stepAt d k) (counterValue c k)
+  unfolding movedAt
+  moved-yes k p q = rw (p, q)
+
+  pub moved-no : (k : ℕ) → counterSet c k ≡ false → movedAt d c k ≡ counterValue c k
+  unfolding movedAt
+  moved-no k q = rw (q, and-false (counterDeclared d k))
 
 -- ---- a value entered
 
