@@ -1,7 +1,7 @@
 -- Laws of `reachesPast` and `answered`.
-use mathlib.Core.Path.{_≡_, refl, sym, ap, _∙_}
+use mathlib.Core.Path.{_≡_, sym, _∙_}
 use mathlib.Core.Bool.{Bool, true, false, cond, _||_, or-assoc, or-false}
-use mathlib.Core.List.{List, [], _∷_}
+use mathlib.Core.List.{List}
 use Prim.Native.Nat.{ℕ, _+_, _-_, _≤_, _<_}
 use native.Mathlib.Omega.{arith}
 use native.Mathlib.Decide.{decLe}
@@ -9,14 +9,12 @@ use lib.Dec.{ltb}
 use borrow.Author.Tests.{lt-ltb, le-ltb}
 use Rattle.fields.specs.declared.Part.the-variants.{Middle}
 use Rattle.fields.specs.declared.Element.{Element}
-use Rattle.fields.specs.declared.Step.{Step}
 use Rattle.fields.specs.declared.Step.the-variants.{Next, Stop}
 use Rattle.fields.specs.Data.{elementAt, elements, after}
 use Rattle.fields.proofs.Steps.{elements-next, elements-stop}
 use Rattle.values.specs.declared.declarations.Declared.{Declared}
-use Rattle.fitness.specs.declared.answers.DataAnswer.{DataAnswer}
 use Rattle.fitness.specs.declared.answers.DataAnswer.the-variants.{Good, Undeclared, Past}
-use Rattle.fitness.specs.Answers.{reachesPast, undeclaredBy, pastBy, someOf, answered, dataAnswer}
+use Rattle.fitness.specs.Answers.{reachesPast, undeclaredBy, pastBy, someOf, answered}
 
 -- ---- how far a modifier reaches
 

@@ -2,10 +2,10 @@
 use mathlib.Core.Path.{_≡_, refl, sym, ap, _∙_}
 use mathlib.Core.Bool.{Bool, true, false, _&&_, and-true, and-assoc, and-false}
 use mathlib.Core.List.{List, [], _∷_}
-use Prim.Native.Nat.{ℕ, zero, suc, _+_, _-_, _%_, _≤_, _<_, min}
+use Prim.Native.Nat.{ℕ, _+_, _<_, min}
 use native.Mathlib.Omega.{arith}
 use native.Mathlib.Decide.{decLe}
-use lib.Dec.{leb, eqb}
+use lib.Dec.{leb}
 use borrow.Author.Tests.{lt-leb, ne-eqb}
 use Rattle.fit.specs.declared.Kind.{Kind}
 use Rattle.fit.specs.declared.Kind.the-variants.{Shown, Code39, Interleaved, Ean13, Code128}
@@ -13,7 +13,7 @@ use Rattle.fit.specs.Fit.{fitLength}
 use Rattle.fields.specs.declared.Element.{Element}
 use Rattle.values.specs.declared.declarations.Declared.{Declared}
 use Rattle.fitness.specs.declared.summary.Summary.{Summary as Sum}
-use Rattle.fitness.specs.Summary.{leastOf, mostOf, goodOf, least, most, good, judged, upTo, summary, summaryOf, joined, decided, summed}
+use Rattle.fitness.specs.Summary.{leastOf, mostOf, goodOf, least, most, good, judged, upTo, summary, summaryOf, decided, summed}
 
 -- ---- lengths past 128
 

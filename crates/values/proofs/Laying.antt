@@ -1,17 +1,16 @@
 -- Data laid out piece by piece is the assembled data.
 use mathlib.Core.Path.{_≡_, refl, sym, ap, _∙_}
 use mathlib.Core.List.{List, [], _∷_, _++_}
-use Prim.Native.Nat.{ℕ, zero, suc, _+_, _-_, _≤_, _<_, min}
+use Prim.Native.Nat.{ℕ, _+_, _-_, _≤_, min}
 use native.Mathlib.Omega.{arith}
 use native.Mathlib.Decide.{decLe}
 use lib.ListN.{length, take, drop, replicate, length-append, length-replicate}
 use lib.Seq.{sets, sets-eq, length-sets, take-at}
 use Rattle.fields.specs.declared.What.{What}
-use Rattle.fields.specs.declared.What.the-variants.{Text, Variable, Counter}
 use Rattle.fields.specs.declared.Element.{Element}
 use Rattle.values.specs.declared.declarations.Declared.{Declared}
 use Rattle.values.specs.Counters.{digits, digitsOf}
-use Rattle.values.specs.Data.{Values, valueOf, pieceOf, pieceAt, assembled, Laid, row, shown, lay, laid}
+use Rattle.values.specs.Data.{Values, valueOf, pieceOf, pieceAt, assembled, row, shown, lay, laid}
 use Rattle.values.proofs.Lists.{length-digits}
 use Rattle.values.proofs.Writing.{sets-past, sets-append}
 

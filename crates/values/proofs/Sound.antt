@@ -1,16 +1,15 @@
 -- The values' part of sound: it holds of unset values, and entering, unsetting and moving keep it.
-use mathlib.Core.Path.{_≡_, refl, sym, ap, _∙_}
-use mathlib.Core.Bool.{Bool, true, false, cond, _&&_, _||_, not, false≢true}
+use mathlib.Core.Path.{_≡_, refl, ap, _∙_}
+use mathlib.Core.Bool.{Bool, true, false, cond, _&&_, _||_}
 use mathlib.Core.List.{List, [], _∷_, _++_, append-assoc}
 use mathlib.Core.Logic.{_⊎_, inl, inr, ⊎-elim}
-use Prim.Native.Nat.{ℕ, zero, suc, _+_, _-_, _*_, _≤_, _<_, min}
-use native.Mathlib.Numerals.{add-one}
+use Prim.Native.Nat.{ℕ, zero, suc, _+_, _-_, _*_, _≤_, _<_}
 use native.Mathlib.Omega.{arith}
 use native.Mathlib.Decide.{decLe, ℕ-discrete}
-use lib.ListN.{length, getD, set, take, drop, replicate, length-append, length-replicate, length-take, length-drop, length-set}
-use lib.Seq.{sets, length-sets, sets-eq, take-at, drop-at, take-all, take-set-le, drop-set-lt, drop-set-add, getD-set-same, getD-set-other}
-use lib.Dec.{eqb, leb, ltb}
-use borrow.Author.Tests.{le-leb, lt-ltb, le-ltb, eq-eqb, eqb-true, leb-true, ltb-true}
+use lib.ListN.{length, getD, set, take, drop, replicate, length-append, length-replicate, length-take}
+use lib.Seq.{sets, sets-eq, take-at, drop-at, take-set-le, drop-set-lt, drop-set-add, getD-set-same, getD-set-other}
+use lib.Dec.{eqb, ltb}
+use borrow.Author.Tests.{le-leb, lt-ltb, eqb-true, ltb-true}
 use Rattle.fit.specs.Bytes.{allIn}
 use Rattle.fit.proofs.Laws.{or-first, or-second}
 use Rattle.values.specs.declared.declarations.Declared.{Declared}
@@ -18,7 +17,7 @@ use Rattle.values.specs.declared.counters.Counters.{Counters}
 use Rattle.values.specs.Declarations.{tenth, lengthAt, sideAt, widthAt, minusAt, stepAt, variableDeclared, counterDeclared}
 use Rattle.values.specs.Counters.{tenTo, counters, noneSet, counterSet, counterValue, counted, counterEntered, movedAll}
 use Rattle.values.specs.declared.counters.Entered.the-variants.{Taken, Undeclared, Unfit}
-use Rattle.values.specs.Stored.{enters, padded, field, stored, fieldAt, valueIn, fieldSet, variableEntered, unset, fits, isZero, keeps, fieldSound, counterSound, every, soundAt, valuesSound, setAt, allSet}
+use Rattle.values.specs.Stored.{enters, padded, field, stored, fieldAt, valueIn, variableEntered, unset, fits, isZero, keeps, fieldSound, counterSound, every, soundAt, valuesSound, setAt, allSet}
 use Rattle.values.proofs.Lists.{and-left, and-right, and-both, all-take, all-drop, all-replicate}
 use Rattle.values.proofs.Tens.{moved-below, moved-each, moved-yes, moved-no, tenth-below}
 use Rattle.values.proofs.Fields.{entered-fits, length-fits}
@@ -176,13 +175,17 @@ module _ (d : Declared) (c : Counters) (k : ℕ) where
           → (z || (counterSet c k && (counterDeclared d k && ltb (counterValue c k) (tenTo (widthAt d k))))) ≡ true
           → ((tenth (c .set) k ≡ 0) × (counterValue c k ≡ 0)) ⊎ ((counterSet c k ≡ true) × (counterDeclared d k ≡ true) × (counterValue c k < tenTo (widthAt d k)))
       go true e g =
-          inl (eqb-true (tenth (c .set) k) 0 (and-left (eqb (tenth (c .set) k) 0) (eqb (counterValue c k) 0) e),
-          eqb-true (counterValue c k) 0 (and-right (eqb (tenth (c .set) k) 0) (eqb (counterValue c k) 0) e))
+          inl (
+            eqb-true (tenth (c .set) k) 0 (and-left (eqb (tenth (c .set) k) 0) (eqb (counterValue c k) 0) e),
+            eqb-true (counterValue c k) 0 (and-right (eqb (tenth (c .set) k) 0) (eqb (counterValue c k) 0) e),
+          )
       go false e g =
           let r = and-right (counterSet c k) (counterDeclared d k && ltb (counterValue c k) (tenTo (widthAt d k))) g in
-          inr (and-left (counterSet c k) (counterDeclared d k && ltb (counterValue c k) (tenTo (widthAt d k))) g,
-          and-left (counterDeclared d k) (ltb (counterValue c k) (tenTo (widthAt d k))) r,
-          ltb-true (counterValue c k) (tenTo (widthAt d k)) (and-right (counterDeclared d k) (ltb (counterValue c k) (tenTo (widthAt d k))) r))
+          inr (
+            and-left (counterSet c k) (counterDeclared d k && ltb (counterValue c k) (tenTo (widthAt d k))) g,
+            and-left (counterDeclared d k) (ltb (counterValue c k) (tenTo (widthAt d k))) r,
+            ltb-true (counterValue c k) (tenTo (widthAt d k)) (and-right (counterDeclared d k) (ltb (counterValue c k) (tenTo (widthAt d k))) r),
+          )
 
 -- ---- unset values
 
@@ -193,6 +196,7 @@ tenth-none k = go (ltb k 10)
     zeros zero i = refl
     zeros (suc n) zero = refl
     zeros (suc n) (suc i) = zeros n i
+
     go : (b : Bool) → _≡_ {A = ℕ} (cond b (getD (replicate 10 0) k 0) 0) 0
     go true = zeros 10 k
     go false = refl
@@ -227,10 +231,13 @@ module _ (d : Declared) (values : List ℕ) (c : Counters) (n : ℕ) (text : Lis
     where
       f : List ℕ
       f = field (padded (sideAt d n) (lengthAt d n) text)
+
       room : length (padded (sideAt d n) (lengthAt d n) text) ≤ 32
       room = padded-short (sideAt d n) (lengthAt d n) text e (omega arith)
+
       below : n < 10
       below = tenth-below (d .lengths) n (omega (arith, ltb-true 0 (lengthAt d n) p))
+
       at : (k : ℕ) → k < 10 → soundAt d (sets values (34 * n) f) c k ≡ true
       at k l = and-both (fieldSound d k (fieldAt (sets values (34 * n) f) k)) (counterSound d c k) (elim (ℕ-discrete k n) [
         | yes q ↦ rw (q, field-same values f n (length-field (padded (sideAt d n) (lengthAt d n) text) room) below whole)

@@ -1,20 +1,18 @@
 -- Powers of ten, the digits of a counter as a loop writes them, and what a move means.
 use mathlib.Core.Path.{_≡_, refl, sym, ap, _∙_}
-use mathlib.Core.Bool.{Bool, true, false, cond, _&&_, false≢true, and-false}
+use mathlib.Core.Bool.{Bool, true, false, cond, and-false}
 use mathlib.Core.List.{List, [], _∷_}
 use Prim.Native.Nat.{ℕ, zero, suc, _+_, _-_, _*_, _/_, _%_, _^_, _≤_, _<_, min}
 use native.Mathlib.Nat.{one-le-pow, pow-le-pow-right, mod-lt, mod-add-mod, add-mod, div-add-mod', add-mul-mod-self-right, add-mul, one-mul}
-use native.Mathlib.Numerals.{add-one, sub-one}
+use native.Mathlib.Numerals.{add-one}
 use native.Mathlib.Omega.{arith}
 use native.Mathlib.Decide.{ℕ-discrete}
 use lib.ListN.{length, getD, set, replicate, length-set}
-use lib.Dec.{eqb, ltb}
+use lib.Dec.{ltb}
 use lib.Seq.{sets, getD-set-same, getD-set-other}
-use mathlib.Core.Logic.{_⊎_}
 use borrow.Author.Tests.{lt-ltb, le-ltb, ltb-true}
 use Rattle.values.specs.declared.declarations.Declared.{Declared}
 use Rattle.values.specs.declared.counters.Counters.{Counters}
-use Rattle.values.specs.declared.counters.Counted.{Counted}
 use Rattle.values.specs.declared.counters.Entered.the-variants.{Taken, Undeclared, Unfit}
 use Rattle.values.specs.Declarations.{tenth, widthAt, minusAt, stepAt, counterDeclared}
 use Rattle.values.specs.Counters.{tenTo, digits, digitAt, digitsOf, counters, counterSet, counterValue, counted, counterEntered, moved, movedAt, movedFrom, movedAll}

@@ -1,9 +1,8 @@
 -- The paper's own values, computed.
 -- Assumes nothing.
-use Prim.Native.Nat.{ℕ}
 use mathlib.Core.Path.{_≡_, refl}
 use mathlib.Core.Bool.{true, false}
-use mathlib.Core.List.{List, [], _∷_}
+use mathlib.Core.List.{[]}
 use Rattle.fit.specs.Bytes.{between}
 use Rattle.fields.specs.Text.{bytes}
 use Rattle.fields.specs.Bytes.{run, valueFrom}
@@ -12,7 +11,7 @@ use Rattle.fields.specs.Data.{modifierAt, heldAt, elementAt, elementsFrom, elem
 use Rattle.fields.specs.declared.Part.the-variants.{Middle}
 use Rattle.values.specs.declared.declarations.Declared.{Declared}
 use Rattle.values.specs.declared.counters.Counters.{Counters}
-use Rattle.values.specs.declared.counters.Entered.the-variants.{Taken, Undeclared, Unfit}
+use Rattle.values.specs.declared.counters.Entered.the-variants.{Undeclared, Unfit}
 use Rattle.values.specs.Declarations.{nothing, withVariable, withCounter}
 use Rattle.values.specs.Counters.{tenTo, digits, noneSet, counterValue, counterEntered, moved, movedAt, movedAll}
 use Rattle.values.specs.Stored.{enters, padded, variableEntered}

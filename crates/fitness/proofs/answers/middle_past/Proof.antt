@@ -2,26 +2,19 @@ use Rattle.fitness.proofs.Answering.{middle-far, middle-near}
 use borrow.Author.Needs.{needs}
 use Rattle.fitness.proofs.answers.middle_past.Statement.{statement}
 use Rattle.fitness.proofs.answers.middle_past.Tie as tie
-use Rattle.fitness.proofs.answers.middle_past.Reads as reads
-use Rattle.fitness.proofs.answers.middle_past.Lts as lts
 
--- src/answers.rt:35:8
 add-if1 : tie.Need-add-if1
 add-if1 c = search needs
 
--- src/answers.rt:36:9
 returns : tie.Need-returns
 returns c = middle-far _ _ _ (c .if1 .taken)
 
--- src/answers.rt:38:5
 add-result : tie.Need-add-result
 add-result c = search needs
 
--- src/answers.rt:38:5
 sub-result : tie.Need-sub-result
 sub-result c = search needs
 
--- src/answers.rt:31:1
 returns-2 : tie.Need-returns-2
 returns-2 c = middle-near _ _ _ (c .if1 .left)
 

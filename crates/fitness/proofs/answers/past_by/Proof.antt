@@ -2,51 +2,36 @@ use Rattle.fitness.specs.Answers.{pastBy}
 use borrow.Author.Needs.{needs}
 use Rattle.fitness.proofs.answers.past_by.Statement.{statement}
 use Rattle.fitness.proofs.answers.past_by.Tie as tie
-use Rattle.fitness.proofs.answers.past_by.Reads as reads
-use Rattle.fitness.proofs.answers.past_by.Lts as lts
-use Rattle.fitness.proofs.answers.reaches_past.Reads as reaches-past-reads
-use Rattle.values.proofs.declarations.Declared.length_at.Reads as length-at-reads
-use Rattle.values.proofs.declarations.Declared.width_at.Reads as width-at-reads
 
--- src/answers.rt:55:23
 enum-told : tie.Need-enum-told
 enum-told c = search needs
 
--- src/answers.rt:56:24
 enum-known-what : tie.Need-enum-known-what
 enum-known-what c = search needs
 
--- src/answers.rt:56:49
 length-at-requires : tie.Need-length-at-requires
 length-at-requires c κs = search needs
 
--- src/answers.rt:56:33
 reaches-past-requires : tie.Need-reaches-past-requires
 reaches-past-requires c κs = search needs
 
--- src/answers.rt:57:23
 enum-known-what-2 : tie.Need-enum-known-what-2
 enum-known-what-2 c = search needs
 
--- src/answers.rt:57:48
 width-at-requires : tie.Need-width-at-requires
 width-at-requires c κs = search needs
 
--- src/answers.rt:57:32
 reaches-past-requires-2 : tie.Need-reaches-past-requires-2
 reaches-past-requires-2 c κs = search needs
 
--- src/answers.rt:51:1
 returns : tie.Need-returns
 unfolding pastBy
 returns c = rw (c .enum-told .given .1)
 
--- src/answers.rt:51:1
 returns-2 : tie.Need-returns-2
 unfolding pastBy
 returns-2 c = rw (c .before .before .before .what .given .1, ← c .before .length-at .ensures) (c .reaches-past .ensures)
 
--- src/answers.rt:51:1
 returns-3 : tie.Need-returns-3
 unfolding pastBy
 returns-3 c = rw (c .before .before .before .what2 .given .1, ← c .before .width-at .ensures) (c .reaches-past2 .ensures)

@@ -1,50 +1,37 @@
 use native.Mathlib.Omega.{arith}
 use borrow.Author.Tests.{le-ltb}
-use mathlib.Core.Path.{refl}
 use Rattle.fitness.specs.Answers.{reachesPast}
 use borrow.Author.Needs.{needs}
 use Rattle.fitness.proofs.answers.reaches_past.Statement.{statement}
 use Rattle.fitness.proofs.answers.reaches_past.Tie as tie
-use Rattle.fitness.proofs.answers.reaches_past.Reads as reads
-use Rattle.fitness.proofs.answers.reaches_past.Lts as lts
-use Rattle.fitness.proofs.answers.middle_past.Reads as middle-past-reads
 
--- src/answers.rt:23:24
 enum-told : tie.Need-enum-told
 enum-told c = search needs
 
--- src/answers.rt:24:21
 enum-known-p : tie.Need-enum-known-p
 enum-known-p c = search needs
 
--- src/answers.rt:25:20
 enum-known-p-2 : tie.Need-enum-known-p-2
 enum-known-p-2 c = search needs
 
--- src/answers.rt:26:22
 enum-known-p-3 : tie.Need-enum-known-p-3
 enum-known-p-3 c = search needs
 
--- src/answers.rt:26:31
 middle-past-requires : tie.Need-middle-past-requires
 middle-past-requires c κs = search needs
 
--- src/answers.rt:18:1
 returns : tie.Need-returns
 unfolding reachesPast
 returns c = rw (c .enum-told .given .1, le-ltb (c .before .before .args .m) 0 (omega arith))
 
--- src/answers.rt:18:1
 returns-2 : tie.Need-returns-2
 unfolding reachesPast
 returns-2 c = rw (c .before .p .given .1)
 
--- src/answers.rt:18:1
 returns-3 : tie.Need-returns-3
 unfolding reachesPast
 returns-3 c = rw (c .before .p2 .given .1)
 
--- src/answers.rt:18:1
 returns-4 : tie.Need-returns-4
 returns-4 c = rw (c .before .before .p3 .given .1) (c .middle-past .ensures)
 

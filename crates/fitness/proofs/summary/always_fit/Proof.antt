@@ -12,12 +12,6 @@ use Rattle.fitness.proofs.Summing.{decided-judged}
 use borrow.Author.Needs.{needs}
 use Rattle.fitness.proofs.summary.always_fit.Statement.{statement}
 use Rattle.fitness.proofs.summary.always_fit.Tie as tie
-use Rattle.fitness.proofs.summary.always_fit.Reads as reads
-use Rattle.fitness.proofs.summary.always_fit.Lts as lts
-use Rattle.fields.proofs.element_at.Reads as element-at-reads
-use Rattle.fitness.proofs.summary.Summary.decide.Reads as decide-reads
-use Rattle.fitness.proofs.summary.Summary.join.Reads as join-reads
-use Rattle.fitness.proofs.summary.summary_of.Reads as summary-of-reads
 
 abbrev Inv-loop : tie.InvT-loop
 Inv-loop line at d kind s₀ i₀ s i = summed kind line d s (elements line i) ≡ summed kind line d (summary 0 0 true) (elements line at)
@@ -25,55 +19,42 @@ Inv-loop line at d kind s₀ i₀ s i = summed kind line d s (elements line i) �
 abbrev μ-loop : tie.MeasureT-loop
 μ-loop line at d kind s₀ i₀ s i = length line - i
 
--- src/summary.rt:141:5
 loop-holds : tie.Need-loop-holds Inv-loop μ-loop
 loop-holds c = refl
 
--- src/summary.rt:142:29
 element-at-requires : tie.Need-element-at-requires Inv-loop μ-loop
 element-at-requires c κs = search needs
 
--- src/summary.rt:142:24
 enum-known-e : tie.Need-enum-known-e Inv-loop μ-loop
 enum-known-e c = search needs
 
--- src/summary.rt:143:13
 enum-told : tie.Need-enum-told Inv-loop μ-loop
 enum-told c = search needs
 
--- src/summary.rt:143:13
 decide-requires : tie.Need-decide-requires Inv-loop μ-loop
 decide-requires c κs = search needs
 
--- src/summary.rt:143:13
 returns : tie.Need-returns Inv-loop μ-loop
 returns c = let a = c .before .before .before .before .before .before .before .args in let l = c .before .before .before .before .before .loop in c .decide .ensures ∙ (ap (λ (s : Sum). decided s (a .kind)) (rw (elements-stop (now (a .line)) (l .i) _ (sym (c .before .before .before .element-at .ensures) ∙ c .before .enum-told .given .1)) at (l .inv)) ∙ decided-judged (a .kind) (now (a .line)) (a .d) _)
 
--- src/summary.rt:145:20
 summary-of-requires : tie.Need-summary-of-requires Inv-loop μ-loop
 summary-of-requires c κs = search needs
 
--- src/summary.rt:145:9
 join-requires : tie.Need-join-requires Inv-loop μ-loop
 join-requires c κs = search needs
 
--- src/summary.rt:146:13
 add-i : tie.Need-add-i Inv-loop μ-loop
 add-i c = let t = rw (← c .before .before .before .before .before .before .element-at .ensures, c .before .before .before .before .e .given .1) at (element-took (now (c .before .before .before .before .before .before .before .before .before .before .args .line)) (c .before .before .before .before .before .before .before .before .loop .i)) in omega (arith, t)
 
--- src/summary.rt:141:5
 loop-less : tie.Need-loop-less Inv-loop μ-loop
 loop-less c = let t = rw (← c .before .before .before .before .before .before .element-at .ensures, c .before .before .before .before .e .given .1) at (element-took (now (c .before .before .before .before .before .before .before .before .before .before .args .line)) (c .before .before .before .before .before .before .before .before .loop .i)) in omega (arith, t)
 
--- src/summary.rt:141:5
 loop-again : tie.Need-loop-again Inv-loop μ-loop
 loop-again c = let a = c .before .before .before .before .before .before .before .before .before .before .args in let l = c .before .before .before .before .before .before .before .before .loop in rw (c .before .join .ensures, c .before .before .summary-of .ensures) (rw (elements-next (now (a .line)) (l .i) _ (sym (c .before .before .before .before .before .before .element-at .ensures) ∙ c .before .before .before .before .e .given .1)) at (l .inv))
 
--- src/summary.rt:148:5
 decide-requires-2 : tie.Need-decide-requires-2 Inv-loop μ-loop
 decide-requires-2 c κs = search needs
 
--- src/summary.rt:132:1
 returns-2 : tie.Need-returns-2 Inv-loop μ-loop
 returns-2 c = let a = c .before .before .before .before .args in let l = c .before .before .loop in c .decide2 .ensures ∙ (ap (λ (s : Sum). decided s (a .kind)) (rw (elements-stop (now (a .line)) (l .i) _ (element-past (now (a .line)) (l .i) (c .before .loop-test .left))) at (l .inv)) ∙ decided-judged (a .kind) (now (a .line)) (a .d) _)
 

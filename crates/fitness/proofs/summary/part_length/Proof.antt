@@ -2,63 +2,46 @@ use Rattle.fitness.specs.Summary.{partLength}
 use borrow.Author.Needs.{needs}
 use Rattle.fitness.proofs.summary.part_length.Statement.{statement}
 use Rattle.fitness.proofs.summary.part_length.Tie as tie
-use Rattle.fitness.proofs.summary.part_length.Reads as reads
-use Rattle.fitness.proofs.summary.part_length.Lts as lts
-use Rattle.values.proofs.bytes.less.Reads as less-reads
-use Rattle.values.proofs.bytes.lesser.Reads as lesser-reads
 
--- src/summary.rt:25:24
 enum-told : tie.Need-enum-told
 enum-told c = search needs
 
--- src/summary.rt:26:21
 enum-known-p : tie.Need-enum-known-p
 enum-known-p c = search needs
 
--- src/summary.rt:26:27
 lesser-requires : tie.Need-lesser-requires
 lesser-requires c κs = search needs
 
--- src/summary.rt:27:20
 enum-known-p-2 : tie.Need-enum-known-p-2
 enum-known-p-2 c = search needs
 
--- src/summary.rt:27:26
 lesser-requires-2 : tie.Need-lesser-requires-2
 lesser-requires-2 c κs = search needs
 
--- src/summary.rt:28:22
 enum-known-p-3 : tie.Need-enum-known-p-3
 enum-known-p-3 c = search needs
 
--- src/summary.rt:28:49
 less-requires : tie.Need-less-requires
 less-requires c κs = search needs
 
--- src/summary.rt:28:41
 less-requires-2 : tie.Need-less-requires-2
 less-requires-2 c κs = search needs
 
--- src/summary.rt:28:31
 lesser-requires-3 : tie.Need-lesser-requires-3
 lesser-requires-3 c κs = search needs
 
--- src/summary.rt:21:1
 returns : tie.Need-returns
 unfolding partLength
 returns c = rw (c .enum-told .given .1)
 
--- src/summary.rt:21:1
 returns-2 : tie.Need-returns-2
 unfolding partLength
 returns-2 c = rw (c .before .before .p .given .1) (c .lesser .ensures)
 
--- src/summary.rt:21:1
 returns-3 : tie.Need-returns-3
 unfolding partLength
 returns-3 c = rw (c .before .before .p2 .given .1) (c .lesser2 .ensures)
 
--- src/summary.rt:21:1
 returns-4 : tie.Need-returns-4
 unfolding partLength
 returns-4 c = rw (c .before .before .before .before .p3 .given .1, ← c .before .before .less .ensures, ← c .before .less2 .ensures) (c .lesser3 .ensures)

@@ -7,9 +7,6 @@ use Rattle.values.proofs.Lists.{every-more, every-stop, every-end}
 use borrow.Author.Needs.{needs}
 use Rattle.values.proofs.stored.all_set.Statement.{statement}
 use Rattle.values.proofs.stored.all_set.Tie as tie
-use Rattle.values.proofs.stored.all_set.Reads as reads
-use Rattle.values.proofs.stored.all_set.Lts as lts
-use Rattle.values.proofs.stored.set_at.Reads as set-at-reads
 
 abbrev Inv-loop : tie.InvT-loop
 Inv-loop d values c k₀ k = every (setAt d values c) (10 - k) k ≡ every (setAt d values c) 10 0
@@ -17,32 +14,25 @@ Inv-loop d values c k₀ k = every (setAt d values c) (10 - k) k ≡ every (setA
 abbrev μ-loop : tie.MeasureT-loop
 μ-loop d values c k₀ k = 10 - k
 
--- src/stored.rt:236:5
 loop-holds : tie.Need-loop-holds Inv-loop μ-loop
 loop-holds c = refl
 
--- src/stored.rt:237:12
 set-at-requires : tie.Need-set-at-requires Inv-loop μ-loop
 set-at-requires c κs = search needs
 
--- src/stored.rt:238:13
 add-k : tie.Need-add-k Inv-loop μ-loop
 add-k c = search needs
 
--- src/stored.rt:236:5
 loop-less : tie.Need-loop-less Inv-loop μ-loop
 loop-less c = omega arith
 
--- src/stored.rt:236:5
 loop-again : tie.Need-loop-again Inv-loop μ-loop
 loop-again c = let a = c .before .before .before .before .before .args in let l = c .before .before .before .loop in sym (every-more (setAt (a .d) (now (a .values)) (a .c)) (l .k) (omega arith) (sym (c .before .set-at .ensures) ∙ c .if1 .taken)) ∙ l .inv
 
--- src/stored.rt:240:13
 returns : tie.Need-returns Inv-loop μ-loop
 unfolding allSet
 returns c = let a = c .before .before .before .before .before .args in let l = c .before .before .before .loop in sym (every-stop (setAt (a .d) (now (a .values)) (a .c)) (l .k) (omega arith) (sym (c .before .set-at .ensures) ∙ c .if1 .left)) ∙ l .inv
 
--- src/stored.rt:232:1
 returns-2 : tie.Need-returns-2 Inv-loop μ-loop
 unfolding allSet
 returns-2 c = let a = c .before .before .before .args in let l = c .before .loop in sym (every-end (setAt (a .d) (now (a .values)) (a .c)) (l .k) (omega arith)) ∙ l .inv

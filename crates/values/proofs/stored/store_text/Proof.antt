@@ -1,4 +1,4 @@
-use mathlib.Core.Path.{refl, sym, ap, _∙_}
+use mathlib.Core.Path.{refl, ap, _∙_}
 use mathlib.Core.List.{List}
 use Prim.Native.Nat.{ℕ, _+_}
 use native.Mathlib.Omega.{arith}
@@ -10,116 +10,82 @@ use Rattle.values.proofs.Fields.{size-room, field-built, padded-is}
 use borrow.Author.Needs.{needs}
 use Rattle.values.proofs.stored.store_text.Statement.{statement}
 use Rattle.values.proofs.stored.store_text.Tie as tie
-use Rattle.values.proofs.stored.store_text.Reads as reads
-use Rattle.values.proofs.stored.store_text.Lts as lts
-use Rattle.values.proofs.bytes.fill.Reads as fill-reads
-use Rattle.values.proofs.bytes.less.Reads as less-reads
-use Rattle.values.proofs.bytes.put.Reads as put-reads
-use Rattle.values.proofs.stored.at_back.Reads as at-back-reads
-use Rattle.values.proofs.stored.filler_of.Reads as filler-of-reads
-use Rattle.values.proofs.stored.in_front.Reads as in-front-reads
 
--- src/stored.rt:114:9
 filler-of-requires : tie.Need-filler-of-requires
 filler-of-requires c κs = search needs
 
--- src/stored.rt:115:31
 less-requires : tie.Need-less-requires
 less-requires c κs = search needs
 
--- src/stored.rt:115:9
 in-front-requires : tie.Need-in-front-requires
 in-front-requires c κs = search needs
 
--- src/stored.rt:116:31
 less-requires-2 : tie.Need-less-requires-2
 less-requires-2 c κs = search needs
 
--- src/stored.rt:116:9
 at-back-requires : tie.Need-at-back-requires
 at-back-requires c κs = search needs
 
--- src/stored.rt:117:16
 add-size : tie.Need-add-size
 add-size c = omega (arith, c .before .before .before .before .before .before .before .pre .1 .0, size-room (c .before .before .before .before .before .before .before .args .side) _ _ _ _ _ _ (c .before .before .before .before .before .before .before .pre .1 .1) (c .before .before .before .less .ensures) (c .before .less2 .ensures) (c .before .before .in-front .ensures) (c .at-back .ensures))
 
--- src/stored.rt:117:16
 add-size-2 : tie.Need-add-size-2
 add-size-2 c = omega (arith, c .before .before .before .before .before .before .before .pre .1 .0, size-room (c .before .before .before .before .before .before .before .args .side) _ _ _ _ _ _ (c .before .before .before .before .before .before .before .pre .1 .1) (c .before .before .before .less .ensures) (c .before .less2 .ensures) (c .before .before .in-front .ensures) (c .at-back .ensures))
 
--- src/stored.rt:118:5
 fill-requires : tie.Need-fill-requires
 fill-requires c κs = search needs
 
--- src/stored.rt:119:18
 add-fill : tie.Need-add-fill
 add-fill c = search needs
 
--- src/stored.rt:119:29
 cast-fill : tie.Need-cast-fill
 cast-fill c = omega (arith, c .before .before .before .before .before .before .before .before .before .before .before .before .pre .1 .0, size-room (c .before .before .before .before .before .before .before .before .before .before .before .before .args .side) _ _ _ _ _ _ (c .before .before .before .before .before .before .before .before .before .before .before .before .pre .1 .1) (c .before .before .before .before .before .before .before .before .less .ensures) (c .before .before .before .before .before .before .less2 .ensures) (c .before .before .before .before .before .before .before .in-front .ensures) (c .before .before .before .before .before .at-back .ensures))
 
--- src/stored.rt:119:5
 fill-requires-2 : tie.Need-fill-requires-2
 fill-requires-2 c κs = search needs
 
--- src/stored.rt:120:18
 add-fill-2 : tie.Need-add-fill-2
 add-fill-2 c = search needs
 
--- src/stored.rt:120:5
 fill-requires-3 : tie.Need-fill-requires-3
 fill-requires-3 c κs = search needs
 
--- src/stored.rt:121:17
 add-put : tie.Need-add-put
 add-put c = search needs
 
--- src/stored.rt:121:17
 add-put-2 : tie.Need-add-put-2
 add-put-2 c = omega (arith, c .before .before .before .before .before .before .before .before .before .before .before .before .before .before .before .before .before .before .before .before .pre .0, c .before .before .before .before .before .before .before .before .before .before .before .before .before .before .before .before .before .before .before .before .pre .1 .0, size-room (c .before .before .before .before .before .before .before .before .before .before .before .before .before .before .before .before .before .before .before .before .args .side) _ _ _ _ _ _ (c .before .before .before .before .before .before .before .before .before .before .before .before .before .before .before .before .before .before .before .before .pre .1 .1) (c .before .before .before .before .before .before .before .before .before .before .before .before .before .before .before .before .less .ensures) (c .before .before .before .before .before .before .before .before .before .before .before .before .before .before .less2 .ensures) (c .before .before .before .before .before .before .before .before .before .before .before .before .before .before .before .in-front .ensures) (c .before .before .before .before .before .before .before .before .before .before .before .before .before .at-back .ensures))
 
--- src/stored.rt:121:5
 put-requires : tie.Need-put-requires
 put-requires c κs = search needs
 
--- src/stored.rt:122:18
 add-fill-3 : tie.Need-add-fill-3
 add-fill-3 c = search needs
 
--- src/stored.rt:122:18
 add-fill-4 : tie.Need-add-fill-4
 add-fill-4 c = omega (arith, c .before .before .before .before .before .before .before .before .before .before .before .before .before .before .before .before .before .before .before .before .before .before .before .before .pre .0, c .before .before .before .before .before .before .before .before .before .before .before .before .before .before .before .before .before .before .before .before .before .before .before .before .pre .1 .0, size-room (c .before .before .before .before .before .before .before .before .before .before .before .before .before .before .before .before .before .before .before .before .before .before .before .before .args .side) _ _ _ _ _ _ (c .before .before .before .before .before .before .before .before .before .before .before .before .before .before .before .before .before .before .before .before .before .before .before .before .pre .1 .1) (c .before .before .before .before .before .before .before .before .before .before .before .before .before .before .before .before .before .before .before .before .less .ensures) (c .before .before .before .before .before .before .before .before .before .before .before .before .before .before .before .before .before .before .less2 .ensures) (c .before .before .before .before .before .before .before .before .before .before .before .before .before .before .before .before .before .before .before .in-front .ensures) (c .before .before .before .before .before .before .before .before .before .before .before .before .before .before .before .before .before .at-back .ensures))
 
--- src/stored.rt:122:18
 add-fill-5 : tie.Need-add-fill-5
 add-fill-5 c = omega (arith, c .before .before .before .before .before .before .before .before .before .before .before .before .before .before .before .before .before .before .before .before .before .before .before .before .pre .0, c .before .before .before .before .before .before .before .before .before .before .before .before .before .before .before .before .before .before .before .before .before .before .before .before .pre .1 .0, size-room (c .before .before .before .before .before .before .before .before .before .before .before .before .before .before .before .before .before .before .before .before .before .before .before .before .args .side) _ _ _ _ _ _ (c .before .before .before .before .before .before .before .before .before .before .before .before .before .before .before .before .before .before .before .before .before .before .before .before .pre .1 .1) (c .before .before .before .before .before .before .before .before .before .before .before .before .before .before .before .before .before .before .before .before .less .ensures) (c .before .before .before .before .before .before .before .before .before .before .before .before .before .before .before .before .before .before .less2 .ensures) (c .before .before .before .before .before .before .before .before .before .before .before .before .before .before .before .before .before .before .before .in-front .ensures) (c .before .before .before .before .before .before .before .before .before .before .before .before .before .before .before .before .before .at-back .ensures))
 
--- src/stored.rt:122:5
 fill-requires-4 : tie.Need-fill-requires-4
 fill-requires-4 c κs = search needs
 
--- src/stored.rt:123:18
 add-fill-6 : tie.Need-add-fill-6
 add-fill-6 c = search needs
 
--- src/stored.rt:123:18
 add-fill-7 : tie.Need-add-fill-7
 add-fill-7 c = omega (arith, c .before .before .before .before .before .before .before .before .before .before .before .before .before .before .before .before .before .before .before .before .before .before .before .before .before .before .before .before .pre .0, c .before .before .before .before .before .before .before .before .before .before .before .before .before .before .before .before .before .before .before .before .before .before .before .before .before .before .before .before .pre .1 .0, size-room (c .before .before .before .before .before .before .before .before .before .before .before .before .before .before .before .before .before .before .before .before .before .before .before .before .before .before .before .before .args .side) _ _ _ _ _ _ (c .before .before .before .before .before .before .before .before .before .before .before .before .before .before .before .before .before .before .before .before .before .before .before .before .before .before .before .before .pre .1 .1) (c .before .before .before .before .before .before .before .before .before .before .before .before .before .before .before .before .before .before .before .before .before .before .before .before .less .ensures) (c .before .before .before .before .before .before .before .before .before .before .before .before .before .before .before .before .before .before .before .before .before .before .less2 .ensures) (c .before .before .before .before .before .before .before .before .before .before .before .before .before .before .before .before .before .before .before .before .before .before .before .in-front .ensures) (c .before .before .before .before .before .before .before .before .before .before .before .before .before .before .before .before .before .before .before .before .before .at-back .ensures))
 
--- src/stored.rt:123:33
 less-requires-3 : tie.Need-less-requires-3
 less-requires-3 c κs = search needs
 
--- src/stored.rt:123:5
 fill-requires-5 : tie.Need-fill-requires-5
 fill-requires-5 c κs = search needs
 
--- src/stored.rt:109:1
 same-length : tie.Need-same-length
 same-length c = search needs
 
--- src/stored.rt:109:1
 returns : tie.Need-returns
 returns c = let a = c .before .before .before .before .before .before .before .before .before .before .before .before .before .before .before .before .before .before .before .before .before .before .before .before .before .before .before .before .before .before .before .before .args in
     let l = c .before .before .before .before .before .before .before .before .before .before .before .before .before .before .before .before .before .before .before .before .before .before .before .before .before .before .before .in-front .result in

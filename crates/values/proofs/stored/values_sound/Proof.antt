@@ -7,9 +7,6 @@ use Rattle.values.proofs.Lists.{every-more, every-stop, every-end}
 use borrow.Author.Needs.{needs}
 use Rattle.values.proofs.stored.values_sound.Statement.{statement}
 use Rattle.values.proofs.stored.values_sound.Tie as tie
-use Rattle.values.proofs.stored.values_sound.Reads as reads
-use Rattle.values.proofs.stored.values_sound.Lts as lts
-use Rattle.values.proofs.stored.sound_at.Reads as sound-at-reads
 
 abbrev Inv-loop : tie.InvT-loop
 Inv-loop d values c k₀ k = every (soundAt d values c) (10 - k) k ≡ every (soundAt d values c) 10 0
@@ -17,32 +14,25 @@ Inv-loop d values c k₀ k = every (soundAt d values c) (10 - k) k ≡ every (so
 abbrev μ-loop : tie.MeasureT-loop
 μ-loop d values c k₀ k = 10 - k
 
--- src/stored.rt:213:5
 loop-holds : tie.Need-loop-holds Inv-loop μ-loop
 loop-holds c = refl
 
--- src/stored.rt:214:12
 sound-at-requires : tie.Need-sound-at-requires Inv-loop μ-loop
 sound-at-requires c κs = search needs
 
--- src/stored.rt:215:13
 add-k : tie.Need-add-k Inv-loop μ-loop
 add-k c = search needs
 
--- src/stored.rt:213:5
 loop-less : tie.Need-loop-less Inv-loop μ-loop
 loop-less c = omega arith
 
--- src/stored.rt:213:5
 loop-again : tie.Need-loop-again Inv-loop μ-loop
 loop-again c = let a = c .before .before .before .before .before .args in let l = c .before .before .before .loop in sym (every-more (soundAt (a .d) (now (a .values)) (a .c)) (l .k) (omega arith) (sym (c .before .sound-at .ensures) ∙ c .if1 .taken)) ∙ l .inv
 
--- src/stored.rt:217:13
 returns : tie.Need-returns Inv-loop μ-loop
 unfolding valuesSound
 returns c = let a = c .before .before .before .before .before .args in let l = c .before .before .before .loop in sym (every-stop (soundAt (a .d) (now (a .values)) (a .c)) (l .k) (omega arith) (sym (c .before .sound-at .ensures) ∙ c .if1 .left)) ∙ l .inv
 
--- src/stored.rt:209:1
 returns-2 : tie.Need-returns-2 Inv-loop μ-loop
 unfolding valuesSound
 returns-2 c = let a = c .before .before .before .args in let l = c .before .loop in sym (every-end (soundAt (a .d) (now (a .values)) (a .c)) (l .k) (omega arith)) ∙ l .inv

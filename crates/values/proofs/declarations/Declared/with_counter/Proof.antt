@@ -3,45 +3,32 @@ use Rattle.values.specs.Declarations.{withCounter}
 use borrow.Author.Needs.{needs}
 use Rattle.values.proofs.declarations.Declared.with_counter.Statement.{statement}
 use Rattle.values.proofs.declarations.Declared.with_counter.Tie as tie
-use Rattle.values.proofs.declarations.Declared.with_counter.Reads as reads
-use Rattle.values.proofs.declarations.Declared.with_counter.Lts as lts
-use Rattle.values.proofs.bytes.lesser.Reads as lesser-reads
-use Rattle.values.proofs.declarations.flag.Reads as flag-reads
 
--- src/declarations.rt:127:25
 lesser-requires : tie.Need-lesser-requires
 lesser-requires c κs = search needs
 
--- src/declarations.rt:127:25
 cast-widths : tie.Need-cast-widths
 cast-widths c = search needs
 
--- src/declarations.rt:127:13
 array-write-widths : tie.Need-array-write-widths
 array-write-widths c = search needs
 
--- src/declarations.rt:128:24
 flag-requires : tie.Need-flag-requires
 flag-requires c κs = search needs
 
--- src/declarations.rt:128:13
 array-write-flags : tie.Need-array-write-flags
 array-write-flags c = search needs
 
--- src/declarations.rt:129:13
 mul-steps : tie.Need-mul-steps
 mul-steps c = search needs
 
--- src/declarations.rt:129:13
 array-write-steps : tie.Need-array-write-steps
 array-write-steps c = search needs
 
--- src/declarations.rt:130:13
 returns : tie.Need-returns
 unfolding withCounter
 returns c = rw (lt-ltb _ 10 (c .before .before .before .before .before .before .before .if1 .taken), c .before .lesser .ensures, c .flag .ensures)
 
--- src/declarations.rt:118:5
 returns-2 : tie.Need-returns-2
 unfolding withCounter
 returns-2 c = rw (le-ltb _ 10 (c .if1 .left))
