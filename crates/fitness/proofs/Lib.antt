@@ -2,3 +2,4 @@ pub mod Parts
 pub mod Always
 pub mod Summing
 pub mod Answering
+pub mod Filled
