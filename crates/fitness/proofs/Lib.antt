@@ -1,0 +1,5 @@
+pub mod Parts
+pub mod Always
+pub mod Summing
+pub mod Answering
+pub mod Filled

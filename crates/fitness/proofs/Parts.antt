@@ -1,0 +1,42 @@
+-- Laws of `partOf`: how long a part is, what its bytes are, and parts of equal bytes.
+use mathlib.Core.Path.{_≡_, refl, ap}
+use mathlib.Core.Bool.{Bool, true}
+use mathlib.Core.List.{List}
+use Prim.Native.Nat.{ℕ, _-_, _≤_, min}
+use native.Mathlib.Omega.{arith}
+use lib.ListN.{length, drop, replicate, length-take, length-drop, length-replicate}
+use Rattle.fit.specs.Bytes.{allIn}
+use Rattle.fields.specs.declared.Part.{Part}
+use Rattle.fields.specs.declared.Part.the-variants.{Whole, First, Last, Middle}
+use Rattle.values.specs.Data.{partOf}
+use Rattle.fitness.specs.Summary.{partLength}
+use Rattle.values.proofs.Lists.{all-take, all-drop, take-replicate, drop-replicate}
+
+pub length-part : (p : Part) (v : List ℕ) → length (partOf p v) ≡ partLength p (length v)
+unfolding partOf partLength
+length-part Whole v = refl
+length-part (First n) v = length-take n v
+length-part (Last n) v = rw length-drop (omega arith)
+length-part (Middle p n) v = rw (length-take, length-drop)
+
+pub all-part : (q : ℕ → Bool) (p : Part) (v : List ℕ) → allIn q v ≡ true → allIn q (partOf p v) ≡ true
+unfolding partOf
+all-part q Whole v h = h
+all-part q (First n) v h = all-take q n v h
+all-part q (Last n) v h = all-drop q (length v - n) v h
+all-part q (Middle p n) v h = all-take q n (drop (p - 1) v) (all-drop q (p - 1) v h)
+
+pub part-replicate : (p : Part) (m x : ℕ) → partOf p (replicate m x) ≡ replicate (partLength p m) x
+unfolding partOf partLength
+part-replicate Whole m x = refl
+part-replicate (First n) m x = take-replicate n m x
+part-replicate (Last n) m x =
+    rw (length-replicate, drop-replicate) (ap (λ (k : ℕ). replicate k x) (let e : m - (m - n) ≡ min n m = omega arith in e))
+part-replicate (Middle p n) m x = rw (drop-replicate, take-replicate)
+
+pub part-grows : (p : Part) (a b : ℕ) → a ≤ b → partLength p a ≤ partLength p b
+unfolding partLength
+part-grows Whole a b h = h
+part-grows (First n) a b h = omega arith
+part-grows (Last n) a b h = omega arith
+part-grows (Middle p n) a b h = omega arith

@@ -1,0 +1,23 @@
+use borrow.Author.Needs.{needs}
+use Rattle.fitness.proofs.summary.Summary.decide.Statement.{statement}
+use Rattle.fitness.proofs.summary.Summary.decide.Tie as tie
+
+fit-length-requires : tie.Need-fit-length-requires
+fit-length-requires c κs = search needs
+
+fit-length-requires-2 : tie.Need-fit-length-requires-2
+fit-length-requires-2 c κs = search needs
+
+both-requires : tie.Need-both-requires
+both-requires c κs = search needs
+
+both-requires-2 : tie.Need-both-requires-2
+both-requires-2 c κs = search needs
+
+returns : tie.Need-returns
+returns c = cc
+
+pub decide-spec : {M : Type 1} → statement M
+decide-spec =
+    tie.close
+    (tie.spec fit-length-requires fit-length-requires-2 both-requires both-requires-2 returns)

@@ -1,0 +1,18 @@
+use borrow.Author.Needs.{needs}
+use Rattle.fitness.proofs.summary.Summary.join.Statement.{statement}
+use Rattle.fitness.proofs.summary.Summary.join.Tie as tie
+
+sum-up-to-requires : tie.Need-sum-up-to-requires
+sum-up-to-requires c κs = search needs
+
+sum-up-to-requires-2 : tie.Need-sum-up-to-requires-2
+sum-up-to-requires-2 c κs = search needs
+
+both-requires : tie.Need-both-requires
+both-requires c κs = search needs
+
+returns : tie.Need-returns
+returns c = cc
+
+pub join-spec : {M : Type 1} → statement M
+join-spec = tie.close (tie.spec sum-up-to-requires sum-up-to-requires-2 both-requires returns)

@@ -1,0 +1,12 @@
+use borrow.Author.Tests.{eq-eqb, ne-eqb}
+use Rattle.fitness.proofs.summary.shortest.Statement.{statement}
+use Rattle.fitness.proofs.summary.shortest.Tie as tie
+
+returns : tie.Need-returns
+returns c = rw (eq-eqb _ 78 (c .if1 .taken))
+
+returns-2 : tie.Need-returns-2
+returns-2 c = rw (ne-eqb _ 78 (c .if1 .left))
+
+pub shortest-spec : {M : Type 1} → statement M
+shortest-spec = tie.close (tie.spec returns returns-2)

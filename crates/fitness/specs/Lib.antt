@@ -1,0 +1,4 @@
+pub mod Answers
+pub mod Permitted
+pub mod Summary
+pub mod Cases

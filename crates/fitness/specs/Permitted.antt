@@ -1,0 +1,23 @@
+-- "Fit data, for each permitted set of values".
+-- Assumes nothing.
+use Prim.Native.Nat.{ℕ, _^_, _<_}
+use mathlib.Core.Path.{_≡_}
+use mathlib.Core.Bool.{true}
+use mathlib.Core.List.{List}
+use Rattle.fit.specs.declared.Kind.{Kind}
+use Rattle.fit.specs.Fit.{fit}
+use Rattle.fields.specs.declared.Element.{Element}
+use Rattle.values.specs.declared.declarations.Declared.{Declared}
+use Rattle.values.specs.Declarations.{lengthAt, sideAt, widthAt}
+use Rattle.values.specs.Stored.{fits}
+use Rattle.values.specs.Data.{Values, assembled}
+
+-- every variable holds a value that fits its declaration, every counter a number of its width, independently; one that is not declared
+-- has length or width 0. A variable has one value however often it is named
+pub record Permitted (d : Declared) (v : Values) : Type 0 where
+  pub variables : (k : ℕ) → fits (sideAt d k) (lengthAt d k) (v .variable k) ≡ true
+  pub counters : (k : ℕ) → v .counter k < 10 ^ widthAt d k
+
+-- whatever is entered, the data is fit for the kind
+abbrev pub AlwaysFit : List ℕ → Declared → List Element → Kind → Type 0
+AlwaysFit line d es k = (v : Values) → Permitted d v → fit k (assembled line d v es) ≡ true

@@ -1,0 +1,91 @@
+// Answers 13 and 14 for a line's data.
+ghost use mathlib.Core.Path.{_≡_};
+ghost use mathlib.Core.Bool.{cond};
+ghost use Prim.Native.Nat.{_≤_};
+ghost use Rattle.fields.specs.Data.{elements};
+ghost use Rattle.fitness.specs.Answers.{reachesPast, undeclaredBy, pastBy, dataAnswer};
+use fields::Part;
+use fields::Step;
+use fields::What;
+use values::Declared;
+use values::bytes::either;
+
+// Good as far as 13 and 14 go; 13 a variable or counter is not declared; 14 a modifier reaches past the declared length.
+pub enum DataAnswer {
+    Good,
+    Undeclared,
+    Past,
+}
+
+fn reaches_past(p: Part, m: usize) -> bool
+    requires { ⌜ m ≤ 32 ⌝ }
+    ensures { λ r. ⌜ r ≡ reachesPast p m ⌝ }
+{
+    match p {
+        Part::Whole => false,
+        Part::First(n) => m < n,
+        Part::Last(n) => m < n,
+        Part::Middle(p, n) => middle_past(p, n, m),
+    }
+}
+
+// The sum of place and number may not fit a number: the place is held against what the number leaves.
+fn middle_past(p: usize, n: usize, m: usize) -> bool
+    requires { ⌜ m ≤ 32 ⌝ }
+    ensures { λ r. ⌜ r ≡ reachesPast (Part.Middle p n) m ⌝ }
+{
+    if m + 1 < n {
+        return true;
+    }
+    m + 1 - n < p
+}
+
+fn undeclared_by(d: Declared, what: What) -> bool
+    ensures { λ r. ⌜ r ≡ undeclaredBy d what ⌝ }
+{
+    match what {
+        What::Text => false,
+        What::Variable(k, _) => !d.variable_declared(k),
+        What::Counter(k, _) => !d.counter_declared(k),
+    }
+}
+
+fn past_by(d: Declared, what: What) -> bool
+    ensures { λ r. ⌜ r ≡ pastBy d what ⌝ }
+{
+    match what {
+        What::Text => false,
+        What::Variable(k, p) => reaches_past(p, d.length_at(k)),
+        What::Counter(k, p) => reaches_past(p, d.width_at(k)),
+    }
+}
+
+fn past_or_good(past: bool) -> DataAnswer
+    ensures { λ r. ⌜ r ≡ cond past DataAnswer.Past DataAnswer.Good ⌝ }
+{
+    if past {
+        DataAnswer::Past
+    } else {
+        DataAnswer::Good
+    }
+}
+
+// The lower of 13 and 14 that applies to the data from a place of a line on.
+pub fn data_answer(line: &[u8], at: usize, d: Declared) -> DataAnswer
+    ensures { λ r. ⌜ r ≡ dataAnswer d (elements (now (line .entry)) at) ⌝ }
+{
+    let mut past = false;
+    let mut i = at;
+    while i < line.len() {
+        let Step::Next(e) = fields::element_at(line, i) else {
+            return past_or_good(past);
+        };
+        let what = e.what;
+        if undeclared_by(d, what) {
+            return DataAnswer::Undeclared;
+        }
+        past = either(past, past_by(d, what));
+        i = e.at + e.length;
+    }
+    past_or_good(past)
+}

@@ -1,0 +1,155 @@
+// Fit data, decided from a summary of what its elements can show.
+ghost use mathlib.Core.Path.{_≡_};
+ghost use mathlib.Core.Bool.{_||_};
+ghost use Prim.Native.Nat.{_+_};
+ghost use mathlib.Core.List.{[]};
+ghost use lib.Dec.{eqb};
+ghost use Rattle.fields.specs.Data.{elements};
+ghost use Rattle.fitness.specs.Summary.{partLength, fewest, takesAll, leastOf, mostOf, goodOf, judged, upTo, summary, summaryOf, joined, decided};
+use fields::Element;
+use fields::Part;
+use fields::Step;
+use fields::What;
+use fit::Kind;
+use values::Declared;
+use values::bytes::both;
+use values::bytes::front;
+use values::bytes::less;
+use values::bytes::lesser;
+
+// How short and how long data can be, up to 129, and whether every byte is of the kind's class.
+pub struct Summary {
+    pub least: usize,
+    pub most: usize,
+    pub good: bool,
+}
+
+fn part_length(p: Part, n: usize) -> usize
+    ensures { λ r. ⌜ r ≡ partLength p n ⌝ }
+{
+    match p {
+        Part::Whole => n,
+        Part::First(k) => lesser(k, n),
+        Part::Last(k) => lesser(k, n),
+        Part::Middle(p, k) => lesser(k, less(n, less(p, 1))),
+    }
+}
+
+fn shortest(side: u8, m: usize) -> usize
+    ensures { λ r. ⌜ r ≡ fewest side m ⌝ }
+{
+    if side == b'N' { 0 } else { m }
+}
+
+fn takes_all(k: Kind) -> bool
+    ensures { λ r. ⌜ r ≡ takesAll k ⌝ }
+{
+    match k {
+        Kind::Shown => true,
+        Kind::Code39 => false,
+        Kind::Interleaved => false,
+        Kind::Ean13 => false,
+        Kind::Code128 => true,
+    }
+}
+
+fn variable_good(k: Kind, side: u8, n: usize) -> bool
+    ensures { λ r. ⌜ r ≡ (takesAll k || (eqb side 90 || eqb n 0)) ⌝ }
+{
+    if takes_all(k) {
+        return true;
+    }
+    if side == b'Z' {
+        return true;
+    }
+    n == 0
+}
+
+fn variable_summary(d: Declared, kind: Kind, e: Element, k: usize, p: Part) -> Summary
+    ensures { λ r. ⌜ r ≡ summary (leastOf [] d e (What.Variable k p)) (mostOf [] d e (What.Variable k p)) (goodOf kind [] d e (What.Variable k p)) ⌝ }
+{
+    let m = d.length_at(k);
+    let side = d.side_at(k);
+    let most = part_length(p, m);
+    let least = part_length(p, shortest(side, m));
+    let good = variable_good(kind, side, most);
+    Summary { least, most, good }
+}
+
+fn summary_of(line: &[u8], d: Declared, kind: Kind, e: Element) -> Summary
+    ensures { λ r. ⌜ r ≡ summaryOf kind (now (line .entry)) d e ⌝ }
+{
+    let what = e.what;
+    match what {
+        What::Text => {
+            let t = values::piece(line, front(line, 0), e);
+            let n = t.len();
+            let good = fit::all_in(kind, t);
+            Summary {
+                least: n,
+                most: n,
+                good,
+            }
+        }
+        What::Variable(k, p) => variable_summary(d, kind, e, k, p),
+        What::Counter(k, p) => {
+            let n = part_length(p, d.width_at(k));
+            Summary {
+                least: n,
+                most: n,
+                good: true,
+            }
+        }
+    }
+}
+
+// The sum, up to 129.
+fn sum_up_to(a: usize, b: usize) -> usize
+    ensures { λ r. ⌜ r ≡ upTo (a + b) ⌝ }
+{
+    if a < 129 {
+        if b < 129 {
+            return lesser(129, a + b);
+        }
+    }
+    129
+}
+
+impl Summary {
+    fn join(self, t: Summary) -> Summary
+        ensures { λ r. ⌜ r ≡ joined self t ⌝ }
+    {
+        let least = sum_up_to(self.least, t.least);
+        let most = sum_up_to(self.most, t.most);
+        let good = both(self.good, t.good);
+        Summary { least, most, good }
+    }
+
+    fn decide(self, kind: Kind) -> bool
+        ensures { λ r. ⌜ r ≡ decided self kind ⌝ }
+    {
+        let short = fit::fit_length(kind, self.least);
+        let long = fit::fit_length(kind, self.most);
+        both(short, both(long, self.good))
+    }
+}
+
+// Whether the data from a place of a line on is fit for a kind, whatever permitted values it is shown with.
+pub fn always_fit(line: &[u8], at: usize, d: Declared, kind: Kind) -> bool
+    ensures { λ r. ⌜ r ≡ judged (now (line .entry)) d (elements (now (line .entry)) at) kind ⌝ }
+{
+    let mut s = Summary {
+        least: 0,
+        most: 0,
+        good: true,
+    };
+    let mut i = at;
+    while i < line.len() {
+        let Step::Next(e) = fields::element_at(line, i) else {
+            return s.decide(kind);
+        };
+        s = s.join(summary_of(line, d, kind, e));
+        i = e.at + e.length;
+    }
+    s.decide(kind)
+}

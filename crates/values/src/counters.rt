@@ -1,0 +1,161 @@
+// Counters: their digits, their values, and their move after each label.
+ghost use mathlib.Core.Path.{_≡_};
+ghost use Rattle.values.specs.Counters.{tenTo, digitAt, digitsOf, noneSet, counterSet, counterValue, counterEntered, moved, movedAt, movedAll};
+use crate::bytes::both;
+use crate::bytes::lesser;
+use crate::bytes::wide32;
+use crate::declarations::Declared;
+use crate::declarations::tenth_byte;
+use crate::declarations::tenth_number;
+
+// The session's ten counters: set (0 or 1) and value (0 where unset).
+pub struct Counters {
+    pub set: [u8; 10],
+    pub value: [u32; 10],
+}
+
+// What becomes of a value that is entered: taken; [13] not declared; [17] it does not fit.
+pub enum Entered {
+    Taken,
+    Undeclared,
+    Unfit,
+}
+
+// The answer to a value for a counter, and the counters after it.
+pub struct Counted {
+    pub answer: Entered,
+    pub counters: Counters,
+}
+
+const TENS: [u32; 10] = [
+    1,
+    10,
+    100,
+    1000,
+    10000,
+    100000,
+    1000000,
+    10000000,
+    100000000,
+    1000000000,
+];
+
+// A power of ten, up to the ninth.
+pub fn ten(w: usize) -> u32
+    ensures { λ r. ⌜ r ≡ tenTo w ⌝ }
+{
+    if w < 10 { TENS[w] } else { 1000000000 }
+}
+
+// The digit that stands before k others.
+fn digit_at(n: u32, k: usize) -> u8
+    ensures { λ r. ⌜ r ≡ digitAt n k ⌝ }
+{
+    (n / ten(k) % 10) as u8 + 48
+}
+
+// A counter's w digits, at the front of nine bytes.
+pub fn digits_of(n: u32, w: usize) -> [u8; 9]
+    ensures { λ r. ⌜ r ≡ digitsOf n w ⌝ }
+{
+    let width = lesser(w, 9);
+    let mut out = [0u8; 9];
+    let mut i = 0;
+    while i < width {
+        out[i] = digit_at(n, width - 1 - i);
+        i += 1;
+    }
+    out
+}
+
+// A counter of w digits moved by a step.
+pub fn move_by(n: u32, w: usize, minus: bool, step: u32) -> u32
+    ensures { λ r. ⌜ r ≡ moved w minus step n ⌝ }
+{
+    let t = ten(w);
+    let a = n % t;
+    let b = step % t;
+    if minus {
+        (a + (t - b)) % t
+    } else {
+        (a + b) % t
+    }
+}
+
+impl Counters {
+    pub fn none() -> Counters
+        ensures { λ r. ⌜ r ≡ noneSet ⌝ }
+    {
+        Counters {
+            set: [0; 10],
+            value: [0; 10],
+        }
+    }
+
+    pub fn is_set(self, k: usize) -> bool
+        ensures { λ r. ⌜ r ≡ counterSet self k ⌝ }
+    {
+        let set = self.set;
+        tenth_byte(set, k) == 1
+    }
+
+    pub fn value_at(self, k: usize) -> u32
+        ensures { λ r. ⌜ r ≡ counterValue self k ⌝ }
+    {
+        let value = self.value;
+        tenth_number(value, k)
+    }
+}
+
+// `?Cn,value`.
+pub fn set_counter(d: Declared, c: Counters, n: usize, value: usize) -> Counted
+    ensures { λ r. ⌜ r ≡ counterEntered d c n value ⌝ }
+{
+    let w = d.width_at(n);
+    if w < 1 {
+        return Counted {
+            answer: Entered::Undeclared,
+            counters: c,
+        };
+    }
+    if wide32(ten(w)) <= value {
+        return Counted {
+            answer: Entered::Unfit,
+            counters: c,
+        };
+    }
+    let mut set = c.set;
+    let mut values = c.value;
+    set[n] = 1;
+    values[n] = value as u32;
+    Counted {
+        answer: Entered::Taken,
+        counters: Counters { set, value: values },
+    }
+}
+
+// Counter k after a label.
+fn moved_at(d: Declared, c: Counters, k: usize) -> u32
+    ensures { λ r. ⌜ r ≡ movedAt d c k ⌝ }
+{
+    let n = c.value_at(k);
+    if both(d.counter_declared(k), c.is_set(k)) {
+        return move_by(n, d.width_at(k), d.minus_at(k), d.step_at(k));
+    }
+    n
+}
+
+// All ten after a label.
+pub fn move_all(d: Declared, c: Counters) -> Counters
+    ensures { λ r. ⌜ r ≡ movedAll d c ⌝ }
+{
+    let set = c.set;
+    let mut value = c.value;
+    let mut i: usize = 0;
+    while i < 10 {
+        let n = moved_at(d, c, i);
+        value[i] = n;
+        i += 1;
+    }
+    Counters { set, value }
+}
