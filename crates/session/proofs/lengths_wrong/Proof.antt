@@ -1,0 +1,44 @@
+use Rattle.session.specs.Lent.{lengthsWrong}
+use borrow.Author.Needs.{needs}
+use Rattle.session.proofs.lengths_wrong.Statement.{statement}
+use Rattle.session.proofs.lengths_wrong.Tie as tie
+use Rattle.session.proofs.lengths_wrong.Reads as reads
+use Rattle.session.proofs.lengths_wrong.Lts as lts
+use Rattle.session.proofs.directory_wrong.Reads as directory-wrong-reads
+use Rattle.session.proofs.either.Reads as either-reads
+use Rattle.session.proofs.page_wrong.Reads as page-wrong-reads
+use Rattle.session.proofs.store_wrong.Reads as store-wrong-reads
+
+page-wrong-requires : tie.Need-page-wrong-requires
+page-wrong-requires c κs = search needs
+
+store-wrong-requires : tie.Need-store-wrong-requires
+store-wrong-requires c κs = search needs
+
+directory-wrong-requires : tie.Need-directory-wrong-requires
+directory-wrong-requires c κs = search needs
+
+either-requires : tie.Need-either-requires
+either-requires c κs = search needs
+
+either-requires-2 : tie.Need-either-requires-2
+either-requires-2 c κs = search needs
+
+either-requires-3 : tie.Need-either-requires-3
+either-requires-3 c κs = search needs
+
+returns : tie.Need-returns
+unfolding lengthsWrong
+returns c = cc
+
+pub lengths-wrong-spec : {M : Type 1} → statement M
+lengths-wrong-spec =
+    tie.close
+    (tie.spec
+    page-wrong-requires
+    store-wrong-requires
+    directory-wrong-requires
+    either-requires
+    either-requires-2
+    either-requires-3
+    returns)
