@@ -3,8 +3,9 @@
  *   compare CALLS FIRST-SEED
  *
  * After each call the answer, the counts, the session and every lent byte must be the same, and so must the bytes beyond
- * what was lent. The first difference is told with the seed of its session and ends the run. At the end: how often each
- * call gave each answer. With -DSELF the station is the peer again, which tries the generator and this program alone. */
+ * what was lent. Of the peer alone it is also asked that a refusal changes nothing, that a call changes only what it may, and
+ * that memory is sound after every taken call. The first difference is told with the seed of its session and ends the
+ * run. At the end: how often each call gave each answer. With -DSELF the station is the peer again, which tries the generator and this program alone. */
 #include <inttypes.h>
 #include <stdio.h>
 #include <stdlib.h>
@@ -23,8 +24,9 @@ static const struct station the_station = {station_open, station_command, statio
 
 static const char *const call_names[] = {"open", "command", "label"};
 
+/* before: the peer's memory as it was before the call. */
 struct pair {
-    struct desk station, peer;
+    struct desk station, peer, before;
 };
 
 static uint64_t reached[3][22], other;
@@ -81,10 +83,58 @@ static int slices_same(const struct pair *p)
     return 1;
 }
 
+/* ---- what the peer alone owes ---- */
+
+static void keep(struct pair *p)
+{
+    for (int s = 0; s < SLICES; s++)
+        if (s != FONT && s != INPUT)
+            memcpy(p->before.bytes[s], p->peer.bytes[s], p->peer.room[s]);
+}
+
+/* A slice that the call may change with this answer. Counts are stored at every answer of a command. */
+static int may_change(enum call_kind call, unsigned answer, enum slice s)
+{
+    switch (call) {
+    case OPEN: return s == SESSION || (answer == 0 && s != OUTPUT && s != COUNTS);
+    case COMMAND: return s == COUNTS || (answer == 0 && s != PAGE);
+    default: return answer == 0 && (s == SESSION || s == PAGE);
+    }
+}
+
+static int is_sound(const struct pair *p, const struct event *e)
+{
+    uint8_t *const *b = p->peer.bytes;
+    struct memory m = {b[BACKGROUND], (unsigned)(e->length[BACKGROUND] / ROW_BYTES), b[STORE], (uint16_t *)(void *)b[LINKS],
+                       (unsigned)e->length[LINKS], b[DIRECTORY], (unsigned)(e->length[DIRECTORY] / ENTRY), b[VALUE]};
+    struct session session;
+    struct facts facts;
+
+    read_image(b[SESSION], &session);
+    return sound(&m, &session, &facts);
+}
+
+static void check_promises(const struct pair *p, const struct generator *g, const struct event *e, unsigned answer, uint64_t calls)
+{
+    for (int s = 0; s < SLICES; s++)
+        if (s != FONT && s != INPUT && !may_change(e->call, answer, (enum slice)s)
+            && memcmp(p->before.bytes[s], p->peer.bytes[s], p->peer.room[s]) != 0) {
+            tell_difference(g, e, calls);
+            printf("the peer answered %u and changed %s\n", answer, slice_names[s]);
+            exit(1);
+        }
+    if (answer == 0 && !is_sound(p, e)) {
+        tell_difference(g, e, calls);
+        printf("the peer took the call and left memory that is not sound\n");
+        exit(1);
+    }
+}
+
 static void make_call(struct pair *p, struct generator *g, const struct event *e, uint64_t calls)
 {
     uint8_t ours, theirs;
 
+    keep(p);
     put_on_desk(&p->station, INPUT, e->bytes, e->count);
     put_on_desk(&p->peer, INPUT, e->bytes, e->count);
     ours = call_station(&the_station, &p->station, e->call, e->length);
@@ -96,6 +146,7 @@ static void make_call(struct pair *p, struct generator *g, const struct event *e
             tell_slice(p, (enum slice)s);
         exit(1);
     }
+    check_promises(p, g, e, theirs, calls);
     if (theirs < 22)
         reached[e->call][theirs]++;
     else
@@ -140,6 +191,7 @@ int main(int argc, char **argv)
         case SET_UP:
             set_up_desk(&p.station, e.room, e.fill);
             set_up_desk(&p.peer, e.room, e.fill);
+            set_up_desk(&p.before, e.room, e.fill);
             break;
         case NEW_FONT: both_fonts(&p, &e); break;
         case POKE: poke(&p, &e); break;
@@ -149,5 +201,6 @@ int main(int argc, char **argv)
     tell_reached(calls);
     clear_away(&p.station);
     clear_away(&p.peer);
+    clear_away(&p.before);
     return 0;
 }

@@ -87,12 +87,12 @@ static void note_declaration(struct declared *d, const char *line)
     unsigned n, m;
     char j;
 
-    if (sscanf(line, "V%1u,%2u,%c", &n, &m, &j) == 3 && n < 10) {
+    if (sscanf(line, "V%1u,%2u,%c", &n, &m, &j) == 3 && n < 10 && m >= 1 && m <= 32) {
         d->v[n] = true;
         d->m[n] = m;
         d->justify[n] = j;
     }
-    if (sscanf(line, "C%1u,%1u,", &n, &m) == 2 && n < 10) {
+    if (sscanf(line, "C%1u,%1u,", &n, &m) == 2 && n < 10 && m >= 1) {
         d->c[n] = true;
         d->w[n] = m;
     }
@@ -160,7 +160,7 @@ static void put_digits(struct generator *g, unsigned value)
 {
     char digits[32];
 
-    snprintf(digits, sizeof digits, "%s%u", chance(g, 8) ? chance(g, 50) ? "0" : "000" : "", value);
+    snprintf(digits, sizeof digits, "%s%u", rarely(g, g->plain ? 3 : 80) ? chance(g, 50) ? "0" : "000" : "", value);
     put_words(g, digits);
 }
 
@@ -204,12 +204,12 @@ static void put_comma(struct generator *g)
     put(g, ',');
 }
 
-static const char *const name_pool[] = {"A", "TEST", "a", "Test", "LOGO1", "X Y", " ", "12345678", "A ", "b", "C", "D", "e~"};
+static const char *const name_pool[] = {"A", "TEST", "a", "Test", "LOGO1", "X Y", " ", "12345678", "A ", "b", "C", "D", "e~", "zA@", "`{["};
 static const char *const bad_names[] = {"", "123456789", "A*", "*", "**", "          ", "*a", "abcdefghijklmnop"};
 
 static void put_cased(struct generator *g, uint8_t byte)
 {
-    if (byte >= 'A' && byte <= 'Z' && chance(g, 30))
+    if (byte >= 'A' && byte <= 'Z' && chance(g, g->plain ? 2 : 30))
         byte = (uint8_t)(byte + 32);
     put(g, byte);
 }
@@ -421,7 +421,7 @@ static void put_corner(struct generator *g, char word)
 /* Elements of no bytes until the line is as long as a line may be, or a little longer. */
 static void pad_data(struct generator *g)
 {
-    size_t to = between(g, 235, 257);
+    size_t to = between(g, chance(g, 40) ? 253 : 235, 257);
 
     while (g->line.length + 2 <= to)
         put_words(g, "\"\"");
@@ -435,7 +435,7 @@ static void put_text_line(struct generator *g, const struct declared *d)
     put_number(g, 1, 9, 2);
     put_words(g, chance(g, 70) ? ",N," : ",R,");
     put_any_data(g, d);
-    if (chance(g, 5))
+    if (chance(g, g->plain ? 12 : 5))
         pad_data(g);
 }
 
@@ -522,7 +522,7 @@ static void put_counter(struct generator *g, const struct declared *d)
     put_comma(g);
     put_number(g, 1, 9, 3);
     put_comma(g);
-    put_words(g, chance(g, 40) ? "+" : chance(g, 50) ? "-" : "");
+    put_words(g, chance(g, g->plain ? 70 : 40) ? "+" : chance(g, g->plain ? 95 : 50) ? "-" : "");
     put_number(g, 0, 99999, chance(g, 70) ? 3 : 99999);
     put_comma(g);
     put_prompt(g);
@@ -628,29 +628,91 @@ static size_t pack_runs(struct generator *g, uint8_t *out, size_t total, size_t 
     return length;
 }
 
-/* A legal picture; its size is given. */
+/* So many bytes packed into exactly so much room: some as runs of one, so that the size comes out. */
+static size_t pack_to_size(struct generator *g, uint8_t *out, size_t total, size_t room)
+{
+    size_t pairs = room - total, length = 0;
+
+    while (total-- > 0) {
+        if (pairs > total || (pairs > 0 && chance(g, 50))) {
+            out[length++] = 193;
+            out[length++] = (uint8_t)random_number(g);
+            pairs--;
+        } else {
+            out[length++] = (uint8_t)below(g, 192);
+        }
+    }
+    return length;
+}
+
+/* Now and then the packed size is a whole number of portions, or the most there may be. */
+static size_t pack_picture(struct generator *g, uint8_t *out, size_t total, size_t room)
+{
+    size_t whole = room + PICTURE_HEAD == MOST_PICTURE && chance(g, 50) ? room : (total + PICTURE_HEAD + 255) / 256 * 256 - PICTURE_HEAD;
+
+    if (chance(g, 30) && whole <= room && total <= whole && whole <= 2 * total)
+        return pack_to_size(g, out, total, whole);
+    return pack_runs(g, out, total, room);
+}
+
+struct shape {
+    unsigned width, height, line;
+};
+
+static struct shape usual_shape(struct generator *g, size_t room)
+{
+    struct shape s = {chance(g, 90) ? between(g, 1, 80) : between(g, 1, 2048),
+                      chance(g, 90) ? between(g, 1, 20) : between(g, 1, chance(g, 10) ? 4000 : 300), 0};
+
+    s.line = (s.width + 15) / 16 * 2;
+    if (s.line < 256 && chance(g, 20))
+        s.line += 2;
+    while ((size_t)s.line * s.height > (room - 200) * 20)
+        s.height = (s.height + 1) / 2;
+    return s;
+}
+
+/* At and just past the most dots, lines and line bytes. */
+static struct shape edge_shape(struct generator *g)
+{
+    struct shape s = {between(g, 1, 16), between(g, 3999, 4001), 2};
+
+    if (chance(g, 60)) {
+        s.width = between(g, 2046, 2049);
+        s.height = between(g, 1, 3);
+        s.line = between(g, 255, 258);
+    }
+    return s;
+}
+
+/* Fills what a picture may have. */
+static struct shape greatest_shape(struct generator *g)
+{
+    struct shape s = {between(g, 1, 2048), between(g, 65, 127), 256};
+
+    return s;
+}
+
+/* A legal picture, but for some at the edge; its size is given. */
 static size_t make_picture(struct generator *g, uint8_t *out, size_t room)
 {
     static const uint8_t versions[] = {0, 2, 3, 4, 5};
-    unsigned width = chance(g, 90) ? between(g, 1, 80) : between(g, 1, 2048);
-    unsigned height = chance(g, 90) ? between(g, 1, 20) : between(g, 1, chance(g, 10) ? 4000 : 300);
-    unsigned line = (width + 15) / 16 * 2, left = below(g, 3), top = below(g, 3);
+    struct shape s = chance(g, 4) ? edge_shape(g)
+                   : room == MOST_PICTURE && chance(g, 15) ? greatest_shape(g)
+                                                           : usual_shape(g, room);
+    unsigned left = below(g, 3), top = below(g, 3);
 
-    if (line < 256 && chance(g, 20))
-        line += 2;
-    while ((size_t)line * height > (room - 200) * 20)
-        height = (height + 1) / 2;
     for (unsigned i = 0; i < PICTURE_HEAD; i++)
         out[i] = chance(g, 50) ? 0 : (uint8_t)random_number(g);
     out[0] = 10;
-    out[1] = versions[below(g, 5)];
+    out[1] = chance(g, 2) ? (uint8_t)below(g, 8) : versions[below(g, 5)];
     out[2] = out[3] = out[65] = 1;
     put_word_at(out, 4, left);
     put_word_at(out, 6, top);
-    put_word_at(out, 8, left + width - 1);
-    put_word_at(out, 10, top + height - 1);
-    put_word_at(out, 66, line);
-    return PICTURE_HEAD + pack_runs(g, out + PICTURE_HEAD, (size_t)line * height, room - PICTURE_HEAD);
+    put_word_at(out, 8, left + s.width - 1);
+    put_word_at(out, 10, top + s.height - 1);
+    put_word_at(out, 66, s.line);
+    return PICTURE_HEAD + pack_picture(g, out + PICTURE_HEAD, (size_t)s.line * s.height, room - PICTURE_HEAD);
 }
 
 static size_t damage_picture(struct generator *g, uint8_t *picture, size_t size)
@@ -672,7 +734,7 @@ static size_t damage_picture(struct generator *g, uint8_t *picture, size_t size)
 static void put_load(struct generator *g)
 {
     static uint8_t picture[MOST_PICTURE + 100];
-    size_t room = g->small ? 400 : chance(g, 5) ? MOST_PICTURE : chance(g, 30) ? 3000 : 700;
+    size_t room = g->small ? 400 : chance(g, g->portions > 300 ? 40 : 5) ? MOST_PICTURE : chance(g, 30) ? 3000 : 700;
     size_t size = make_picture(g, picture, room);
     size_t told;
 
@@ -935,21 +997,12 @@ static void make_input(struct generator *g)
 
 /* ---- fonts ---- */
 
-static void make_font(struct generator *g)
+/* A font with cells of this size, and of its codes about so many in a hundred. */
+static size_t write_font(struct generator *g, uint8_t *font, unsigned width, unsigned height, unsigned share)
 {
-    unsigned width = chance(g, 85) ? between(g, 1, 10) : between(g, 1, 32);
-    unsigned height = chance(g, 85) ? between(g, 1, 9) : between(g, 1, 64);
-    unsigned row = (width + 7) / 8, share = chance(g, 60) ? 90 : below(g, 100);
-    uint8_t spare = width % 8 ? (uint8_t)(0xff00 >> width % 8) : 0xff;
-    uint8_t *at = g->font;
+    unsigned row = (width + 7) / 8;
+    uint8_t spare = width % 8 ? (uint8_t)(0xff00 >> width % 8) : 0xff, *at = font;
 
-    if (g->small) {
-        width = between(g, 1, 10);
-        height = between(g, 1, 5);
-        row = (width + 7) / 8;
-        spare = width % 8 ? (uint8_t)(0xff00 >> width % 8) : 0xff;
-        share = below(g, 50);
-    }
     memcpy(at, (const uint8_t[]){1, 2, 0, (uint8_t)width, (uint8_t)height}, 5);
     at += 5;
     for (unsigned code = 32; code <= 126; code++) {
@@ -962,7 +1015,27 @@ static void make_font(struct generator *g)
             *at++ = (uint8_t)random_number(g) & (i % row == row - 1 ? spare : 0xff);
     }
     memcpy(at, (const uint8_t[]){255, 0, 0}, 3);
-    g->font_length = (size_t)(at + 3 - g->font);
+    return (size_t)(at + 3 - font);
+}
+
+static void make_font(struct generator *g)
+{
+    unsigned width = chance(g, 85) ? between(g, 1, 10) : between(g, 1, 32);
+    unsigned height = chance(g, 85) ? between(g, 1, 9) : between(g, 1, 64);
+    unsigned share = chance(g, 60) ? 90 : below(g, 100);
+
+    if (g->small)
+        g->font_length = write_font(g, g->font, between(g, 1, 10), between(g, 1, 5), below(g, 50));
+    else
+        g->font_length = write_font(g, g->font, width, height, share);
+}
+
+/* Cells at and past the limits, all else right. */
+static size_t write_edge_font(struct generator *g, uint8_t *font)
+{
+    static const unsigned widths[] = {0, 1, 8, 32, 33}, heights[] = {0, 1, 64, 65};
+
+    return write_font(g, font, widths[below(g, 5)], heights[below(g, 4)], g->small ? 2 : 20);
 }
 
 static void make_bad_font(struct generator *g)
@@ -971,7 +1044,8 @@ static void make_bad_font(struct generator *g)
     uint8_t *font = g->bad_font;
 
     memcpy(font, g->font, length);
-    switch (below(g, 8)) {
+    switch (below(g, 9)) {
+    case 8: length = write_edge_font(g, font); break;
     case 0: length = below(g, (unsigned)length + 1); break;
     case 1: font[length++] = (uint8_t)below(g, 3); break;
     case 2: font[length - 3 + below(g, 3)] = (uint8_t)random_number(g); break;
@@ -1054,11 +1128,13 @@ static void damage_links(struct generator *g)
 
 static void damage_entry(struct generator *g)
 {
+    static const unsigned edges[] = {31, 32, 33, 126, 127, '*', '"', 'a', 'z', '`', '{', 0};
     unsigned i = below(g, g->entries), k = below(g, g->entries);
     const uint8_t *e = entry(g, i);
 
-    switch (below(g, 6)) {
+    switch (below(g, 7)) {
     case 0: damage_byte(g, DIRECTORY, 16 * i + below(g, 16)); break;
+    case 6: add_poke(g, DIRECTORY, 16 * i + 2 + below(g, e[1] ? e[1] : 8), (uint8_t)some_of(g, edges, 12)); break;
     case 1: poke_number(g, DIRECTORY, 16 * i, below(g, 5), 1); break;
     case 2: poke_number(g, DIRECTORY, 16 * i + 12, entry_size(e) + below(g, 600) - 300, 4); break;
     case 3: poke_number(g, DIRECTORY, 16 * i + 10, below(g, g->portions + 1), 2); break;
@@ -1110,6 +1186,102 @@ static void damage_form_slightly(struct generator *g)
         damage_store(g);
 }
 
+/* ---- a form put into the memory by hand ---- */
+
+static void forged_line(struct generator *g, const struct declared *d)
+{
+    static const char *const strange[] = {"", ";", "FE", "P1", "ZT", "N", "Q1,1", "GM\"A\",200", "VC", "FS\"A\"", "R1,1 ", "C0,1,-0,\"\"",
+                                          "C0,1,+0,\"\"", "C0,1,0,\"\"", "GG0,0,\"a\"", "GG0,0,\"A\"", "R00,0", "R0,00"};
+    unsigned k = below(g, 100);
+
+    g->line.length = 0;
+    g->spoil = chance(g, 2) ? (int)below(g, 6) : -1;
+    if (k < 6)
+        put_words(g, strange[below(g, sizeof strange / sizeof strange[0])]);
+    else if (k < 22)
+        put_variable(g, d);
+    else if (k < 36)
+        put_counter(g, d);
+    else
+        put_drawing(g, d);
+}
+
+static size_t forged_content(struct generator *g, uint8_t *content, size_t room)
+{
+    struct declared d;
+    size_t size = 0;
+    unsigned lines = below(g, 6);
+
+    memset(&d, 0, sizeof d);
+    g->plain = true;
+    while (lines--) {
+        forged_line(g, &d);
+        if (size + g->line.length + 1 > room)
+            break;
+        memcpy(content + size, g->line.bytes, g->line.length);
+        content[size + g->line.length] = 0;
+        note_declaration(&d, (const char *)content + size);
+        size += g->line.length;
+        content[size++] = '\n';
+    }
+    g->plain = false;
+    return size > 0 && chance(g, 3) ? size - 1 : size;
+}
+
+/* Any free portion, not only the lowest. */
+static unsigned some_free(struct generator *g, const bool *taken)
+{
+    unsigned first = below(g, g->portions);
+
+    for (unsigned i = 0; i < g->portions; i++) {
+        unsigned portion = (first + i) % g->portions;
+        if (link_of(g, portion) == 65535 && !taken[portion])
+            return portion;
+    }
+    return 65535;
+}
+
+static unsigned some_empty(struct generator *g)
+{
+    unsigned first = below(g, g->entries);
+
+    for (unsigned i = 0; i < g->entries; i++)
+        if (entry(g, (first + i) % g->entries)[0] == EMPTY)
+            return (first + i) % g->entries;
+    return 65535;
+}
+
+/* The lines are as they might be sent, mostly in normal form: recording would have taken some rows of them and not others. */
+static void forge_form(struct generator *g)
+{
+    static uint8_t content[1100];
+    bool taken[MOST_PORTIONS] = {false};
+    unsigned i = some_empty(g), portion = some_free(g, taken), first = portion;
+    const char *name = name_pool[below(g, sizeof name_pool / sizeof name_pool[0])];
+    size_t size = forged_content(g, content, g->small ? 200 : 1000), length = strlen(name);
+
+    if (i == 65535 || portion == 65535)
+        return;
+    for (size_t from = 0;; from += 256) {
+        unsigned after = 65534;
+        taken[portion] = true;
+        if (size > from + 256 && (after = some_free(g, taken)) == 65535)
+            return;  /* too little room: what is poked so far stays, and is not sound */
+        for (size_t k = from; k < size && k < from + 256; k++)
+            add_poke(g, STORE, portion * 256 + (k - from), content[k]);
+        poke_number(g, LINKS, 2 * portion, after, 2);
+        if (after == 65534)
+            break;
+        portion = after;
+    }
+    poke_number(g, DIRECTORY, 16 * i, chance(g, 80) ? FORM : RECORDING, 1);
+    poke_number(g, DIRECTORY, 16 * i + 1, (unsigned)length, 1);
+    for (size_t k = 0; k < length; k++)
+        add_poke(g, DIRECTORY, 16 * i + 2 + k, name[k] >= 'a' && name[k] <= 'z' && chance(g, 90) ? (uint8_t)(name[k] - 32) : (uint8_t)name[k]);
+    poke_number(g, DIRECTORY, 16 * i + 10, first, 2);
+    poke_number(g, DIRECTORY, 16 * i + 12, (unsigned)size, 4);
+}
+
 static void damage_values(struct generator *g)
 {
     unsigned n = below(g, 10);
@@ -1133,17 +1305,19 @@ static void damage(struct generator *g)
     unsigned k = below(g, 100);
 
     g->poke_count = g->poke_next = 0;
-    if (k < 25)
+    if (k < 20)
         damage_session(g);
-    else if (k < 33)
+    else if (k < 28)
         damage_links(g);
-    else if (k < 50)
+    else if (k < 42)
         damage_entry(g);
-    else if (k < 66)
+    else if (k < 55)
         damage_store(g);
-    else if (k < 80)
+    else if (k < 67)
         damage_form_slightly(g);
-    else if (k < 92)
+    else if (k < 83)
+        forge_form(g);
+    else if (k < 93)
         damage_values(g);
     else
         damage_background(g);
@@ -1211,6 +1385,12 @@ static void choose_sizes(struct generator *g)
     g->rows = chance(g, 90) ? between(g, 1, 60) : chance(g, 90) ? between(g, 1, 400) : between(g, 1, 4000);
     g->portions = chance(g, 90) ? between(g, 1, 20) : chance(g, 85) ? between(g, 1, 150) : between(g, 1, 2024);
     g->entries = chance(g, 90) ? between(g, 1, 6) : chance(g, 85) ? between(g, 1, 30) : between(g, 1, 512);
+    if (rarely(g, 4))
+        g->rows = 4000;
+    if (rarely(g, 4))
+        g->portions = 2024;
+    if (rarely(g, 4))
+        g->entries = 512;
     if (g->small) {
         g->rows = 40;
         g->portions = 16;
@@ -1235,7 +1415,7 @@ static void new_session(struct generator *g, struct event *e)
     usual_lengths(g->length, g->rows, g->portions, g->entries, chance(g, 30) ? below(g, 40) : below(g, g->small ? 200 : 3000));
     memset(e, 0, sizeof *e);
     e->kind = SET_UP;
-    e->fill = chance(g, 60) ? 0 : (uint8_t)random_number(g);
+    e->fill = chance(g, 60) ? 0 : chance(g, 30) ? 0xff : (uint8_t)random_number(g);
     usual_room(e->room, g->length, MOST_FONT, MOST_INPUT);
     for (int s = 0; s < SLICES; s++)
         e->room[s] += beyond[s];

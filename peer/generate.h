@@ -26,7 +26,7 @@ struct event {
     size_t count;
 };
 
-enum { MOST_POKES = 64, MOST_INPUT = 70000, MOST_FONT = 30000 };
+enum { MOST_POKES = 1200, MOST_INPUT = 70000, MOST_FONT = 30000 };
 
 struct poke {
     enum slice slice;
@@ -60,6 +60,7 @@ struct generator {
     bool font_due;
 
     struct line line;
+    bool plain;                      /* numbers without leading zeros, names in capitals, steps with their sign */
     int spoil;                       /* which field of the line is put outside its limits; below zero none */
     bool opened;
     enum call_kind last_call;

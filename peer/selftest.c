@@ -1,4 +1,4 @@
-/* selftest.c: paper 01's sample session and its ten proof cases, as far as the three calls show them.
+/* selftest.c: paper 01's sample session and its ten proof cases, as far as the three calls show them, and drawing dot by dot.
  *
  *   selftest                   runs all of them
  *   selftest bars TYPE W DATA  writes the modules of one symbol, narrow 1 and wide W, as 1 (bar) and 0, for zint-check
@@ -252,6 +252,141 @@ static void limit_cases(void)
     clear_away(&b.desk);
 }
 
+/* ---- drawing, dot by dot ---- */
+
+static int inside(const struct bench *b, int x, int y)
+{
+    return x < (int)low_first(b->desk.bytes[SESSION]) && y < (int)low_first(b->desk.bytes[SESSION] + 2);
+}
+
+/* Where dot (x,y) of a box of wide by high goes when it is turned r quarters clockwise. */
+static void turn_dot(int r, int wide, int high, int x, int y, int *to_x, int *to_y)
+{
+    static const int signs[4][4] = {{1, 0, 0, 1}, {0, -1, 1, 0}, {-1, 0, 0, -1}, {0, 1, -1, 0}};
+    int left = signs[r][0] < 0 ? wide - 1 : signs[r][1] < 0 ? high - 1 : 0;
+    int top = signs[r][2] < 0 ? wide - 1 : signs[r][3] < 0 ? high - 1 : 0;
+
+    *to_x = left + signs[r][0] * x + signs[r][1] * y;
+    *to_y = top + signs[r][2] * x + signs[r][3] * y;
+}
+
+/* The line with its turn and corner against the same line unturned at 0,0, each dot moved by itself. */
+static int turns_well(struct bench *flat, struct bench *turned, const char *format, int x, int y, int r, int wide, int high)
+{
+    char line[256];
+    int seen = 0, wrong = 0, to_x, to_y;
+
+    send(flat, "N");
+    send(turned, "N");
+    sprintf(line, format, 0, 0, 0);
+    if (send(flat, line) != 0)
+        return 0;
+    sprintf(line, format, x, y, r);
+    if (send(turned, line) != 0)
+        return 0;
+    for (int v = 0; v < high; v++)
+        for (int u = 0; u < wide; u++) {
+            turn_dot(r, wide, high, u, v, &to_x, &to_y);
+            if (!inside(turned, x + to_x, y + to_y))
+                continue;
+            seen += dot(flat, BACKGROUND, u, v);
+            wrong += dot(flat, BACKGROUND, u, v) != dot(turned, BACKGROUND, x + to_x, y + to_y);
+        }
+    return wrong == 0 && seen == (int)black_dots(turned, BACKGROUND);
+}
+
+static void turn_cases(void)
+{
+    static uint8_t font[1024];
+    struct bench flat, turned;
+    size_t length = telling_font(font);
+    int well = 1;
+
+    open_bench(&flat, 400, font, length);
+    open_bench(&turned, 300, font, length);
+    send(&turned, "q333");
+    send(&turned, "Q277,0");
+    for (int r = 0; r < 4; r++)
+        for (int x = 0; x < 340; x += 29) {
+            well &= turns_well(&flat, &turned, "A%d,%d,%d,3,5,N,\"Turned text\"", x, 3 * x / 4, r, 11 * 24, 10);
+            well &= turns_well(&flat, &turned, "A%d,%d,%d,1,2,R,\"~Turned text~\"", x, x, r, 13 * 8, 4);
+            well &= turns_well(&flat, &turned, "B%d,%d,%d,1,1,2,24,N,\"Turned\"", x, 3 * x / 4, r, 11 * 8 + 13, 24);
+            well &= turns_well(&flat, &turned, "B%d,%d,%d,2,2,5,30,N,\"1234\"", x, 3 * x / 4, r, 81, 30);
+        }
+    check("text and bars turn as their dots do, cut at the edge", well);
+    clear_away(&flat.desk);
+    clear_away(&turned.desk);
+}
+
+/* Rectangles in each ink, kept dot by dot in a second page. */
+static void rectangle_cases(void)
+{
+    static uint8_t plain[300][608];
+    struct bench b;
+    unsigned state = 1, wrong = 0;
+
+    open_bench(&b, 300, empty_font, sizeof empty_font);
+    send(&b, "q333");
+    send(&b, "R7,5");
+    memset(plain, 0, sizeof plain);
+    for (int i = 0; i < 300; i++) {
+        char line[64];
+        unsigned n[5];
+        for (int k = 0; k < 5; k++)
+            n[k] = (state = state * 1103515245u + 12345u) >> 16;
+        unsigned x = n[0] % 350, y = n[1] % 310, wide = n[2] % 90 + 1, high = n[3] % 60 + 1, ink = n[4] % 3;
+        sprintf(line, "L%c%u,%u,%u,%u", "OWE"[ink], x, y, wide, high);
+        wrong += send(&b, line) != 0;
+        for (unsigned v = y + 5; v < y + 5 + high && v < 300; v++)
+            for (unsigned u = x + 7; u < x + 7 + wide && u < 333; u++)
+                plain[v][u] = ink == 0 ? 1 : ink == 1 ? 0 : !plain[v][u];
+    }
+    for (int y = 0; y < 300; y++)
+        for (int x = 0; x < 608; x++)
+            wrong += dot(&b, BACKGROUND, x, y) != plain[y][x];
+    check("300 rectangles in three inks, dot by dot", wrong == 0);
+
+    send(&b, "ZB");
+    send(&b, "P1");
+    wrong = label(&b) != 0;
+    for (int y = 0; y < 300; y++)
+        for (int x = 0; x < 608; x++)
+            wrong += dot(&b, PAGE, x, y) != (x < 333 && plain[299 - y][332 - x]);
+    check("with ZB the page is turned by 180 degrees, dot by dot", wrong == 0);
+    clear_away(&b.desk);
+}
+
+/* A picture of 21 by 9 dots with line bytes to spare, drawn at many places. */
+static void picture_case(void)
+{
+    uint8_t picture[300] = "GM\"P\",182\n", *head = picture + 10, *body = head + 128;
+    struct bench b;
+    unsigned wrong = 0;
+
+    memcpy(head, (const uint8_t[]){10, 5, 1, 1, 3, 0, 2, 0, 23, 0, 10, 0}, 12);
+    head[65] = 1;
+    head[66] = 6;
+    for (int i = 0; i < 54; i++)
+        body[i] = (uint8_t)(i * 61 % 192);
+    open_bench(&b, 60, empty_font, sizeof empty_font);
+    send(&b, "q101");
+    wrong += send_bytes(&b, picture, 10 + 182) != 0;
+    for (int at = 0; at < 110; at++) {
+        char line[64];
+        sprintf(line, "GG%d,%d,\"p\"", at, at / 2);
+        send(&b, "N");
+        wrong += send(&b, line) != 0;
+        for (int y = 0; y < 60; y++)
+            for (int x = 0; x < 608; x++) {
+                int u = x - at, v = y - at / 2;
+                int black = x < 101 && u >= 0 && u < 21 && v >= 0 && v < 9 && !(body[6 * v + u / 8] >> (7 - u % 8) & 1);
+                wrong += dot(&b, BACKGROUND, x, y) != black;
+            }
+    }
+    check("a picture at 110 places, dot by dot", wrong == 0);
+    clear_away(&b.desk);
+}
+
 /* ---- the modules of one symbol ---- */
 
 static int write_modules(const char *type, int wide, const char *data)
@@ -290,5 +425,8 @@ int main(int argc, char **argv)
     frame_case();
     variable_case();
     limit_cases();
+    turn_cases();
+    rectangle_cases();
+    picture_case();
     return failures != 0;
 }
