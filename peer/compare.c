@@ -1,0 +1,206 @@
+/* compare.c: the station and the peer on the same calls, each on its own copy of the lent memory.
+ *
+ *   compare CALLS FIRST-SEED
+ *
+ * After each call the answer, the counts, the session and every lent byte must be the same, and so must the bytes beyond
+ * what was lent. Of the peer alone it is also asked that a refusal changes nothing, that a call changes only what it may, and
+ * that memory is sound after every taken call. The first difference is told with the seed of its session and ends the
+ * run. At the end: how often each call gave each answer. With -DSELF the station is the peer again, which tries the generator and this program alone. */
+#include <inttypes.h>
+#include <stdio.h>
+#include <stdlib.h>
+#include <string.h>
+
+#include "desk.h"
+#include "generate.h"
+#include "peer.h"
+#include "station.h"
+
+#ifdef SELF
+static const struct station the_station = {peer_open, peer_command, peer_label};
+#else
+static const struct station the_station = {station_open, station_command, station_label};
+#endif
+
+static const char *const call_names[] = {"open", "command", "label"};
+
+/* before: the peer's memory as it was before the call. */
+struct pair {
+    struct desk station, peer, before;
+};
+
+static uint64_t reached[3][22], other;
+
+static void write_bytes(const uint8_t *bytes, size_t count)
+{
+    for (size_t i = 0; i < count && i < 300; i++) {
+        if (bytes[i] >= 32 && bytes[i] < 127)
+            putchar(bytes[i]);
+        else
+            printf("\\x%02x", bytes[i]);
+    }
+    if (count > 300)
+        printf("... (%zu bytes)", count);
+    putchar('\n');
+}
+
+static void tell_difference(const struct generator *g, const struct event *e, uint64_t calls)
+{
+    printf("difference at call %" PRIu64 ", a %s; its session has seed %" PRIu64 "\n", calls, call_names[e->call],
+           session_seed(g));
+    printf("lent:");
+    for (int s = 0; s < SLICES; s++)
+        printf(" %s %zu", slice_names[s], e->length[s]);
+    putchar('\n');
+    if (e->call == COMMAND) {
+        printf("input: ");
+        write_bytes(e->bytes, e->count);
+    }
+}
+
+/* The first place where a slice differs; true if there is one. */
+static int tell_slice(const struct pair *p, enum slice s)
+{
+    const uint8_t *a = p->station.bytes[s], *b = p->peer.bytes[s];
+    size_t differing = 0, first = 0;
+
+    for (size_t i = p->peer.room[s]; i-- > 0;)
+        if (a[i] != b[i]) {
+            differing++;
+            first = i;
+        }
+    if (differing > 0)
+        printf("%s: byte %zu is %u in the station's, %u in the peer's; %zu bytes differ\n", slice_names[s], first, a[first],
+               b[first], differing);
+    return differing > 0;
+}
+
+static int slices_same(const struct pair *p)
+{
+    for (int s = 0; s < SLICES; s++)
+        if (memcmp(p->station.bytes[s], p->peer.bytes[s], p->peer.room[s]) != 0)
+            return 0;
+    return 1;
+}
+
+/* ---- what the peer alone owes ---- */
+
+static void keep(struct pair *p)
+{
+    for (int s = 0; s < SLICES; s++)
+        if (s != FONT && s != INPUT)
+            memcpy(p->before.bytes[s], p->peer.bytes[s], p->peer.room[s]);
+}
+
+/* A slice that the call may change with this answer. Counts are stored at every answer of a command. */
+static int may_change(enum call_kind call, unsigned answer, enum slice s)
+{
+    switch (call) {
+    case OPEN: return s == SESSION || (answer == 0 && s != OUTPUT && s != COUNTS);
+    case COMMAND: return s == COUNTS || (answer == 0 && s != PAGE);
+    default: return answer == 0 && (s == SESSION || s == PAGE);
+    }
+}
+
+static int is_sound(const struct pair *p, const struct event *e)
+{
+    uint8_t *const *b = p->peer.bytes;
+    struct memory m = {b[BACKGROUND], (unsigned)(e->length[BACKGROUND] / ROW_BYTES), b[STORE], (uint16_t *)(void *)b[LINKS],
+                       (unsigned)e->length[LINKS], b[DIRECTORY], (unsigned)(e->length[DIRECTORY] / ENTRY), b[VALUE]};
+    struct session session;
+    struct facts facts;
+
+    read_image(b[SESSION], &session);
+    return sound(&m, &session, &facts);
+}
+
+static void check_promises(const struct pair *p, const struct generator *g, const struct event *e, unsigned answer, uint64_t calls)
+{
+    for (int s = 0; s < SLICES; s++)
+        if (s != FONT && s != INPUT && !may_change(e->call, answer, (enum slice)s)
+            && memcmp(p->before.bytes[s], p->peer.bytes[s], p->peer.room[s]) != 0) {
+            tell_difference(g, e, calls);
+            printf("the peer answered %u and changed %s\n", answer, slice_names[s]);
+            exit(1);
+        }
+    if (answer == 0 && !is_sound(p, e)) {
+        tell_difference(g, e, calls);
+        printf("the peer took the call and left memory that is not sound\n");
+        exit(1);
+    }
+}
+
+static void make_call(struct pair *p, struct generator *g, const struct event *e, uint64_t calls)
+{
+    uint8_t ours, theirs;
+
+    keep(p);
+    put_on_desk(&p->station, INPUT, e->bytes, e->count);
+    put_on_desk(&p->peer, INPUT, e->bytes, e->count);
+    ours = call_station(&the_station, &p->station, e->call, e->length);
+    theirs = call_station(&peer_station, &p->peer, e->call, e->length);
+    if (ours != theirs || !slices_same(p)) {
+        tell_difference(g, e, calls);
+        printf("answer: station %u, peer %u\n", ours, theirs);
+        for (int s = 0; s < SLICES; s++)
+            tell_slice(p, (enum slice)s);
+        exit(1);
+    }
+    check_promises(p, g, e, theirs, calls);
+    if (theirs < 22)
+        reached[e->call][theirs]++;
+    else
+        other++;
+    tell_answer(g, theirs);
+}
+
+static void poke(struct pair *p, const struct event *e)
+{
+    p->station.bytes[e->slice][e->at] = e->byte;
+    p->peer.bytes[e->slice][e->at] = e->byte;
+}
+
+static void both_fonts(struct pair *p, const struct event *e)
+{
+    put_on_desk(&p->station, FONT, e->bytes, e->count);
+    put_on_desk(&p->peer, FONT, e->bytes, e->count);
+}
+
+static void tell_reached(uint64_t calls)
+{
+    printf("%" PRIu64 " calls, no difference\nanswer      open   command     label\n", calls);
+    for (int a = 0; a < 22; a++)
+        printf("%6d %9" PRIu64 " %9" PRIu64 " %9" PRIu64 "\n", a, reached[OPEN][a], reached[COMMAND][a], reached[LABEL][a]);
+    if (other)
+        printf("other answers: %" PRIu64 "\n", other);
+}
+
+int main(int argc, char **argv)
+{
+    uint64_t wanted = argc > 1 ? strtoull(argv[1], NULL, 10) : 10000, calls = 0;
+    uint64_t seed = argc > 2 ? strtoull(argv[2], NULL, 10) : 1;
+    static struct generator g;
+    static struct pair p;
+    struct event e;
+
+    printf("first seed %" PRIu64 "\n", seed);
+    start_generator(&g, seed, false, &p.peer);
+    while (calls < wanted) {
+        next_event(&g, &e);
+        switch (e.kind) {
+        case SET_UP:
+            set_up_desk(&p.station, e.room, e.fill);
+            set_up_desk(&p.peer, e.room, e.fill);
+            set_up_desk(&p.before, e.room, e.fill);
+            break;
+        case NEW_FONT: both_fonts(&p, &e); break;
+        case POKE: poke(&p, &e); break;
+        case CALL: make_call(&p, &g, &e, ++calls); break;
+        }
+    }
+    tell_reached(calls);
+    clear_away(&p.station);
+    clear_away(&p.peer);
+    clear_away(&p.before);
+    return 0;
+}

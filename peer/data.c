@@ -1,0 +1,253 @@
+/* data.c: what a form declares, which data is fit, and which bytes data shows. */
+#include <string.h>
+
+#include "peer.h"
+
+uint32_t power_of_ten(unsigned digits)
+{
+    uint32_t power = 1;
+
+    while (digits--)
+        power *= 10;
+    return power;
+}
+
+/* ---- declared, and within the declared length ---- */
+
+static bool is_declared(const struct element *e, const struct declarations *d)
+{
+    switch (e->kind) {
+    case 'V': return d->v[e->number].declared;
+    case 'C': return d->c[e->number].declared;
+    default: return true;
+    }
+}
+
+static unsigned declared_length(const struct element *e, const struct declarations *d)
+{
+    return e->kind == 'V' ? d->v[e->number].length : d->c[e->number].digits;
+}
+
+/* The last place that a modifier asks for. */
+static unsigned reach(const struct element *e)
+{
+    return e->modifier == 'M' ? e->place + e->n - 1 : e->n;
+}
+
+static bool reaches_past(const struct element *e, const struct declarations *d)
+{
+    return e->kind != '"' && e->modifier != 0 && reach(e) > declared_length(e, d);
+}
+
+/* ---- fit for each permitted set of values ---- */
+
+/* What an element may show, over all permitted values. A text variable of one byte or more takes any legal byte in any
+ * place, so its piece is never surely digits; one of kind N may also show nothing at all. */
+struct extent {
+    unsigned least, most;
+    bool digits, code_39;
+};
+
+static bool in_code_39(uint8_t byte)
+{
+    return (byte >= '0' && byte <= '9') || (byte >= 'A' && byte <= 'Z') || (byte != 0 && strchr("-. $/+%", byte));
+}
+
+static struct extent extent_of(const struct element *e, const struct declarations *d)
+{
+    struct extent x = {0, 0, true, true};
+
+    if (e->kind == '"') {
+        x.least = x.most = e->length;
+        for (unsigned i = 0; i < e->length; i++) {
+            x.digits &= e->text[i] >= '0' && e->text[i] <= '9';
+            x.code_39 &= in_code_39(e->text[i]);
+        }
+        return x;
+    }
+    x.least = x.most = e->modifier ? e->n : declared_length(e, d);
+    if (e->kind == 'V') {
+        x.digits = x.code_39 = d->v[e->number].justify == 'Z';
+        if (d->v[e->number].justify == 'N')
+            x.least = 0;
+    }
+    return x;
+}
+
+/* All lengths reach their greatest together, when every value is as long as it may be, and their least when every value
+ * of kind N is empty. So sums decide, one variable named twice included. */
+static bool data_fits(const struct command *c, const struct declarations *d)
+{
+    struct extent all = {0, 0, true, true};
+
+    for (unsigned i = 0; i < c->elements; i++) {
+        struct extent x = extent_of(&c->element[i], d);
+        all.least += x.least;
+        all.most += x.most;
+        all.digits &= x.digits;
+        all.code_39 &= x.code_39;
+    }
+    if (all.most > MOST_DATA)
+        return false;
+    if (c->word == W_A)
+        return true;
+    switch (c->type) {
+    case CODE_39: return all.code_39 && all.least >= 1;
+    case INTERLEAVED: return all.digits && all.least >= 2 && all.most % 2 == 0;
+    case EAN_13: return all.digits && all.most == 12;
+    case CODE_128: return all.least >= 1;
+    }
+    return false;
+}
+
+static enum answer judge_data(const struct command *c, const struct declarations *d)
+{
+    for (unsigned i = 0; i < c->elements; i++)
+        if (!is_declared(&c->element[i], d))
+            return NOT_DECLARED;
+    for (unsigned i = 0; i < c->elements; i++)
+        if (reaches_past(&c->element[i], d))
+            return PAST_LENGTH;
+    return data_fits(c, d) ? TAKEN : UNFIT_DATA;
+}
+
+static enum answer declare_variable(const struct command *c, struct declarations *d)
+{
+    struct variable *v = &d->v[c->n[0]];
+
+    if (v->declared)
+        return DECLARED_BEFORE;
+    v->declared = true;
+    v->length = (uint8_t)c->n[1];
+    v->justify = c->letter;
+    return TAKEN;
+}
+
+static enum answer declare_counter(const struct command *c, struct declarations *d)
+{
+    struct declared_counter *k = &d->c[c->n[0]];
+
+    if (k->declared)
+        return DECLARED_BEFORE;
+    k->declared = true;
+    k->digits = (uint8_t)c->n[1];
+    k->step = c->minus ? -(int32_t)c->n[2] : (int32_t)c->n[2];
+    return TAKEN;
+}
+
+enum answer judge_line(const struct command *c, struct declarations *d)
+{
+    switch (c->word) {
+    case W_V: return declare_variable(c, d);
+    case W_C: return declare_counter(c, d);
+    case W_A:
+    case W_B: return judge_data(c, d);
+    default: return TAKEN;
+    }
+}
+
+/* ---- values ---- */
+
+static bool all_digits(const uint8_t *bytes, unsigned length)
+{
+    for (unsigned i = 0; i < length; i++)
+        if (bytes[i] < '0' || bytes[i] > '9')
+            return false;
+    return true;
+}
+
+static bool all_legal(const uint8_t *bytes, unsigned length)
+{
+    for (unsigned i = 0; i < length; i++)
+        if (bytes[i] < 32 || bytes[i] > 126 || bytes[i] == '"')
+            return false;
+    return true;
+}
+
+/* "Z is 1 to m digits [...] Others take 0 to m bytes, each 32 to 126 and no quote." */
+bool text_fits(const struct variable *v, const uint8_t *text, unsigned length)
+{
+    if (length > v->length)
+        return false;
+    return v->justify == 'Z' ? length >= 1 && all_digits(text, length) : all_legal(text, length);
+}
+
+/* The same of a value as it is stored, padded. */
+bool stored_value_fits(const struct variable *v, const uint8_t *field)
+{
+    unsigned length = field[1];
+
+    return (v->justify == 'N' ? length <= v->length : length == v->length) && text_fits(v, field + 2, length);
+}
+
+/* "Values are stored as padded." */
+void store_value(const struct variable *v, const uint8_t *text, unsigned length, uint8_t *field)
+{
+    unsigned room = v->justify == 'N' ? length : v->length, left = 0;
+
+    if (v->justify == 'R' || v->justify == 'Z')
+        left = room - length;
+    if (v->justify == 'C')
+        left = (room - length) / 2;
+    memset(field, 0, FIELD);
+    field[0] = 1;
+    field[1] = (uint8_t)room;
+    memset(field + 2, v->justify == 'Z' ? '0' : ' ', room);
+    memcpy(field + 2 + left, text, length);
+}
+
+/* ---- what data shows ---- */
+
+/* "On a short N value a modifier takes what exists." */
+static unsigned show_piece(const struct element *e, const uint8_t *value, unsigned length, uint8_t *out)
+{
+    unsigned first = 0, count = length;
+
+    if (e->modifier == 'M') {
+        first = e->place - 1 < length ? e->place - 1 : length;
+        count = length - first;
+    }
+    if (e->modifier && e->n < count)
+        count = e->n;
+    if (e->modifier == 'R')
+        first = length - count;
+    memcpy(out, value + first, count);
+    return count;
+}
+
+static unsigned show_variable(const struct element *e, const uint8_t *field, uint8_t *out)
+{
+    return show_piece(e, field + 2, field[1], out);
+}
+
+static unsigned show_text(const struct element *e, uint8_t *out)
+{
+    memcpy(out, e->text, e->length);
+    return e->length;
+}
+
+static unsigned show_counter(const struct element *e, unsigned digits, uint32_t value, uint8_t *out)
+{
+    uint8_t written[9];
+
+    for (unsigned i = digits; i-- > 0; value /= 10)
+        written[i] = (uint8_t)('0' + value % 10);
+    return show_piece(e, written, digits, out);
+}
+
+unsigned show_data(const struct command *c, const struct declarations *d, const uint8_t *values,
+                   const struct counter *counters, uint8_t *out)
+{
+    unsigned length = 0;
+
+    for (unsigned i = 0; i < c->elements; i++) {
+        const struct element *e = &c->element[i];
+
+        switch (e->kind) {
+        case 'V': length += show_variable(e, values + e->number * FIELD, out + length); break;
+        case 'C': length += show_counter(e, d->c[e->number].digits, counters[e->number].value, out + length); break;
+        default: length += show_text(e, out + length); break;
+        }
+    }
+    return length;
+}

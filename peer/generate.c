@@ -1,0 +1,1531 @@
+/* generate.c: see generate.h. */
+#include "generate.h"
+
+#include <stdio.h>
+#include <string.h>
+
+#include "peer.h"
+
+/* ---- chance ---- */
+
+static uint64_t random_number(struct generator *g)
+{
+    uint64_t z = (g->state += 0x9e3779b97f4a7c15u);
+
+    z = (z ^ z >> 30) * 0xbf58476d1ce4e5b9u;
+    z = (z ^ z >> 27) * 0x94d049bb133111ebu;
+    return z ^ z >> 31;
+}
+
+static unsigned below(struct generator *g, unsigned n)
+{
+    return (unsigned)(random_number(g) % n);
+}
+
+static unsigned between(struct generator *g, unsigned least, unsigned most)
+{
+    return least + below(g, most - least + 1);
+}
+
+static bool chance(struct generator *g, unsigned in_hundred)
+{
+    return below(g, 100) < in_hundred;
+}
+
+static bool rarely(struct generator *g, unsigned in_thousand)
+{
+    return below(g, 1000) < in_thousand;
+}
+
+/* ---- what stands on the desk ---- */
+
+struct declared {
+    bool v[10], c[10];
+    unsigned m[10], w[10];
+    char justify[10];
+};
+
+struct view {
+    unsigned recording, active, owed;       /* 65535 none */
+    struct declared of_recording, of_active;
+    unsigned unset;                         /* declared values of the active form that are not set */
+};
+
+static const uint8_t *entry(const struct generator *g, unsigned i)
+{
+    return g->desk->bytes[DIRECTORY] + 16 * i;
+}
+
+static unsigned link_of(const struct generator *g, unsigned portion)
+{
+    const uint8_t *at = g->desk->bytes[LINKS] + 2 * portion;
+
+    return at[0] | (unsigned)at[1] << 8;
+}
+
+/* The bytes of a form, as far as the chain goes. */
+static size_t form_bytes(const struct generator *g, unsigned i, uint8_t *out, size_t room)
+{
+    const uint8_t *e = entry(g, i);
+    uint32_t size = entry_size(e);
+    unsigned portion = entry_first(e);
+    size_t done = 0;
+
+    while (done < size && done < room && portion < g->portions) {
+        size_t part = size - done < 256 ? size - done : 256;
+        if (part > room - done)
+            part = room - done;
+        memcpy(out + done, g->desk->bytes[STORE] + 256 * portion, part);
+        done += part;
+        portion = link_of(g, portion);
+    }
+    return done;
+}
+
+static void note_declaration(struct declared *d, const char *line)
+{
+    unsigned n, m;
+    char j;
+
+    if (sscanf(line, "V%1u,%2u,%c", &n, &m, &j) == 3 && n < 10 && m >= 1 && m <= 32) {
+        d->v[n] = true;
+        d->m[n] = m;
+        d->justify[n] = j;
+    }
+    if (sscanf(line, "C%1u,%1u,", &n, &m) == 2 && n < 10 && m >= 1) {
+        d->c[n] = true;
+        d->w[n] = m;
+    }
+}
+
+static void declared_in(const struct generator *g, unsigned i, struct declared *d)
+{
+    static uint8_t text[8192];
+    size_t length = form_bytes(g, i, text, sizeof text - 1), from = 0;
+
+    text[length] = 0;
+    for (size_t at = 0; at < length; at++)
+        if (text[at] == '\n') {
+            text[at] = 0;
+            note_declaration(d, (const char *)text + from);
+            from = at + 1;
+        }
+}
+
+static unsigned low_first(const uint8_t *bytes)
+{
+    return bytes[0] | (unsigned)bytes[1] << 8;
+}
+
+static void look(const struct generator *g, struct view *v)
+{
+    const uint8_t *session = g->desk->bytes[SESSION];
+
+    memset(v, 0, sizeof *v);
+    v->recording = 65535;
+    v->active = low_first(session + 9);
+    v->owed = low_first(session + 11);
+    for (unsigned i = 0; i < g->entries; i++)
+        if (entry(g, i)[0] == RECORDING)
+            v->recording = i;
+    if (v->recording != 65535)
+        declared_in(g, v->recording, &v->of_recording);
+    if (v->active < g->entries)
+        declared_in(g, v->active, &v->of_active);
+    for (unsigned i = 0; i < 10; i++) {
+        v->unset += v->of_active.v[i] && g->desk->bytes[VALUE][34 * i] == 0;
+        v->unset += v->of_active.c[i] && session[15 + 5 * i] == 0;
+    }
+}
+
+/* ---- fields of a line ---- */
+
+static void put(struct generator *g, uint8_t byte)
+{
+    g->line.bytes[g->line.length++] = byte;
+}
+
+static void put_words(struct generator *g, const char *text)
+{
+    while (*text)
+        put(g, (uint8_t)*text++);
+}
+
+static bool spoilt(struct generator *g)
+{
+    return g->spoil-- == 0;
+}
+
+static void put_digits(struct generator *g, unsigned value)
+{
+    char digits[32];
+
+    snprintf(digits, sizeof digits, "%s%u", rarely(g, g->plain ? 3 : 80) ? chance(g, 50) ? "0" : "000" : "", value);
+    put_words(g, digits);
+}
+
+static void put_outside(struct generator *g, unsigned least, unsigned most)
+{
+    switch (below(g, least > 0 ? 5 : 4)) {
+    case 0: put_words(g, "999999999"); break;
+    case 1: put_words(g, chance(g, 20) ? "0000000001" : "100000"); break;
+    case 4: put_digits(g, least - 1); break;
+    default: put_digits(g, most + 1); break;
+    }
+}
+
+/* A number within its limits, mostly up to usual. */
+static void put_number(struct generator *g, unsigned least, unsigned most, unsigned usual)
+{
+    if (usual < least)
+        usual = least;
+    if (usual > most)
+        usual = most;
+    if (spoilt(g))
+        put_outside(g, least, most);
+    else if (chance(g, 4))
+        put_digits(g, chance(g, 50) ? least : most);
+    else
+        put_digits(g, chance(g, 92) ? between(g, least, usual) : between(g, least, most));
+}
+
+static void put_x(struct generator *g)
+{
+    put_number(g, 0, 2047, chance(g, 80) ? 100 : 620);
+}
+
+static void put_y(struct generator *g, unsigned most)
+{
+    put_number(g, 0, most, g->rows + (chance(g, 10) ? 20 : 0));
+}
+
+static void put_comma(struct generator *g)
+{
+    put(g, ',');
+}
+
+static const char *const name_pool[] = {"A", "TEST", "a", "Test", "LOGO1", "X Y", " ", "12345678", "A ", "b", "C", "D", "e~", "zA@", "`{["};
+static const char *const bad_names[] = {"", "123456789", "A*", "*", "**", "          ", "*a", "abcdefghijklmnop"};
+
+static void put_cased(struct generator *g, uint8_t byte)
+{
+    if (byte >= 'A' && byte <= 'Z' && chance(g, g->plain ? 2 : 30))
+        byte = (uint8_t)(byte + 32);
+    put(g, byte);
+}
+
+/* A stored name of the kind, if there is one. */
+static bool put_stored_name(struct generator *g, uint8_t kind)
+{
+    unsigned first = below(g, g->entries);
+
+    for (unsigned i = 0; i < g->entries; i++) {
+        const uint8_t *e = entry(g, (first + i) % g->entries);
+        if (e[0] != kind)
+            continue;
+        for (unsigned k = 0; k < e[1] && k < 8; k++)
+            put_cased(g, e[2 + k]);
+        return true;
+    }
+    return false;
+}
+
+static void put_name(struct generator *g, uint8_t kind, unsigned stored_in_hundred)
+{
+    put(g, '"');
+    if (spoilt(g))
+        put_words(g, bad_names[below(g, 8)]);
+    else if (!chance(g, stored_in_hundred) || !put_stored_name(g, kind))
+        put_words(g, name_pool[below(g, sizeof name_pool / sizeof name_pool[0])]);
+    put(g, '"');
+}
+
+static uint8_t text_byte(struct generator *g)
+{
+    uint8_t byte = (uint8_t)between(g, 32, 126);
+
+    return byte == '"' ? 'Q' : byte;
+}
+
+static void put_text(struct generator *g, unsigned length)
+{
+    while (length--)
+        put(g, text_byte(g));
+}
+
+static void put_prompt(struct generator *g)
+{
+    put(g, '"');
+    put_text(g, spoilt(g) ? between(g, 25, 30) : chance(g, 10) ? 24 : below(g, 8));
+    put(g, '"');
+}
+
+/* ---- data ---- */
+
+/* At most one modifier of a value of so many bytes; gives what it shows. */
+static unsigned put_modifier(struct generator *g, unsigned length)
+{
+    unsigned n = between(g, 1, length), place = 1;
+    bool past = chance(g, 6);
+
+    if (chance(g, 50))
+        return length;
+    if (past)
+        n = between(g, length + 1, length + 3);
+    switch (below(g, 3)) {
+    case 0: put(g, 'L'); break;
+    case 1: put(g, 'R'); break;
+    default:
+        place = past ? between(g, 1, 5) : between(g, 1, length - n + 1);
+        put(g, 'M');
+        if (spoilt(g))
+            put_outside(g, 1, 32);
+        else
+            put_digits(g, place);
+        put(g, '.');
+    }
+    if (spoilt(g))
+        put_outside(g, 1, 32);
+    else
+        put_digits(g, n);
+    return n;
+}
+
+/* A declared variable (of kind Z only, if digits are asked for) or counter with a modifier; gives what it shows, or 0. */
+static unsigned put_value(struct generator *g, const struct declared *d, bool digits)
+{
+    unsigned first = below(g, 20);
+
+    for (unsigned i = 0; i < 20; i++) {
+        unsigned k = (first + i) % 20;
+        if (k < 10 && d->v[k] && (!digits || d->justify[k] == 'Z')) {
+            put(g, 'V');
+            put(g, (uint8_t)('0' + k));
+            return put_modifier(g, d->m[k]);
+        }
+        if (k >= 10 && d->c[k - 10]) {
+            put(g, 'C');
+            put(g, (uint8_t)('0' + k - 10));
+            return put_modifier(g, d->w[k - 10]);
+        }
+    }
+    return 0;
+}
+
+static void put_quoted(struct generator *g, unsigned length)
+{
+    put(g, '"');
+    put_text(g, length);
+    put(g, '"');
+}
+
+static void put_from(struct generator *g, const char *bytes, unsigned length)
+{
+    put(g, '"');
+    while (length--)
+        put(g, (uint8_t)bytes[below(g, (unsigned)strlen(bytes))]);
+    put(g, '"');
+}
+
+static void put_any_element(struct generator *g, const struct declared *d)
+{
+    if (chance(g, 45) || put_value(g, d, false) == 0)
+        put_quoted(g, chance(g, 4) ? between(g, 60, 135) : below(g, 10));
+}
+
+static void put_stray(struct generator *g)
+{
+    put(g, chance(g, 50) ? 'V' : 'C');
+    put(g, (uint8_t)('0' + below(g, 10)));
+    put_modifier(g, between(g, 1, 32));
+}
+
+static void put_any_data(struct generator *g, const struct declared *d)
+{
+    unsigned count = between(g, 1, chance(g, 10) ? 9 : 3);
+
+    while (count--)
+        put_any_element(g, d);
+    if (chance(g, 3))
+        put_stray(g);
+}
+
+/* Digits shown in all: a sum that fits type 2, E30 or 3, unless it is spoilt. */
+static void put_digit_data(struct generator *g, const struct declared *d, char type)
+{
+    unsigned total = 0, fill, tries = below(g, 4);
+
+    while (tries-- && total < 12)
+        total += put_value(g, d, true);
+    if (type == 'E')
+        fill = total < 12 ? 12 - total : 0;
+    else if (type == '2')
+        fill = total % 2 + 2 * below(g, chance(g, 5) ? 60 : 5);
+    else
+        fill = below(g, chance(g, 5) ? 130 : 9);
+    if (chance(g, 10))
+        fill += below(g, 3);
+    if (total + fill == 0 || (type == '2' && total + fill < 2))
+        fill += 2;
+    if (fill > 0 || chance(g, 5))
+        put_from(g, type == '3' ? "0123456789ABCDEFGHIJKLMNOPQRSTUVWXYZ-. $/+%" : "0123456789", fill);
+    if (chance(g, 4))
+        put_from(g, "aA#*1", 1);
+    if (chance(g, 4))
+        put_any_element(g, d);
+    if (chance(g, 2))
+        put_stray(g);
+}
+
+/* ---- the commands ---- */
+
+static void put_rectangle(struct generator *g)
+{
+    static const char *const words[] = {"LO", "LE", "LW"};
+
+    put_words(g, words[below(g, 3)]);
+    put_x(g);
+    put_comma(g);
+    put_y(g, 2047);
+    put_comma(g);
+    put_number(g, 1, 2047, 60);
+    put_comma(g);
+    put_number(g, 1, 2047, 12);
+}
+
+static void put_frame(struct generator *g)
+{
+    put(g, 'X');
+    put_x(g);
+    put_comma(g);
+    put_y(g, 4095);
+    put_comma(g);
+    put_number(g, 1, 80, 5);
+    put_comma(g);
+    put_x(g);
+    put_comma(g);
+    put_y(g, 4095);
+}
+
+static void put_corner(struct generator *g, char word)
+{
+    put(g, (uint8_t)word);
+    put_x(g);
+    put_comma(g);
+    put_y(g, 4095);
+    put_comma(g);
+    put_number(g, 0, 3, 3);
+    put_comma(g);
+}
+
+/* Elements of no bytes until the line is as long as a line may be, or a little longer. */
+static void pad_data(struct generator *g)
+{
+    size_t to = between(g, chance(g, 40) ? 253 : 235, 257);
+
+    while (g->line.length + 2 <= to)
+        put_words(g, "\"\"");
+}
+
+static void put_text_line(struct generator *g, const struct declared *d)
+{
+    put_corner(g, 'A');
+    put_number(g, 1, 6, 2);
+    put_comma(g);
+    put_number(g, 1, 9, 2);
+    put_words(g, chance(g, 70) ? ",N," : ",R,");
+    put_any_data(g, d);
+    if (chance(g, g->plain ? 12 : 5))
+        pad_data(g);
+}
+
+static void put_bars_line(struct generator *g, const struct declared *d)
+{
+    static const char types[] = "32E1";
+    char type = types[below(g, 4)];
+    unsigned narrow = chance(g, 80) ? between(g, 1, 2) : between(g, 1, 6);
+
+    put_corner(g, 'B');
+    put_words(g, type == 'E' ? "E30" : (const char[]){type, 0});
+    put_comma(g);
+    if (spoilt(g))
+        put_outside(g, 1, 6);
+    else
+        put_digits(g, narrow);
+    put_comma(g);
+    if (spoilt(g))
+        put_digits(g, chance(g, 50) ? between(g, 0, narrow) : 11);
+    else
+        put_digits(g, between(g, narrow + 1, chance(g, 80) ? narrow + 2 : 10));
+    put_comma(g);
+    put_number(g, 24, 1000, 40);
+    put_words(g, ",N,");
+    if (type == '1')
+        put_any_data(g, d);
+    else
+        put_digit_data(g, d, type);
+    if (chance(g, 3))
+        pad_data(g);
+}
+
+static void put_picture_line(struct generator *g)
+{
+    put_words(g, "GG");
+    put_x(g);
+    put_comma(g);
+    put_y(g, 4095);
+    put_comma(g);
+    put_name(g, PICTURE, 93);
+}
+
+static void put_origin(struct generator *g)
+{
+    put(g, 'R');
+    put_number(g, 0, 2048, 40);
+    put_comma(g);
+    put_number(g, 0, 4096, g->rows / 3 + 1);
+}
+
+static unsigned pick_number(struct generator *g, const bool *declared)
+{
+    unsigned n = below(g, 10);
+
+    for (unsigned i = 0; i < 10 && declared[n] && chance(g, 75); i++)
+        n = (n + 1) % 10;
+    return n;
+}
+
+static void put_variable(struct generator *g, const struct declared *d)
+{
+    static const char kinds[] = "LRCNZZZN";
+
+    put(g, 'V');
+    if (spoilt(g))
+        put_outside(g, 0, 9);
+    else
+        put_digits(g, pick_number(g, d->v));
+    put_comma(g);
+    put_number(g, 1, 32, 6);
+    put_comma(g);
+    put(g, (uint8_t)kinds[below(g, 8)]);
+    put_comma(g);
+    put_prompt(g);
+}
+
+static void put_counter(struct generator *g, const struct declared *d)
+{
+    put(g, 'C');
+    if (spoilt(g))
+        put_outside(g, 0, 9);
+    else
+        put_digits(g, pick_number(g, d->c));
+    put_comma(g);
+    put_number(g, 1, 9, 3);
+    put_comma(g);
+    put_words(g, chance(g, g->plain ? 70 : 40) ? "+" : chance(g, g->plain ? 95 : 50) ? "-" : "");
+    put_number(g, 0, 99999, chance(g, 70) ? 3 : 99999);
+    put_comma(g);
+    put_prompt(g);
+}
+
+/* A value for a variable of m bytes, mostly one that fits. */
+static void put_value_text(struct generator *g, unsigned m, char justify)
+{
+    unsigned length = chance(g, 8) ? between(g, m + 1, m + 6) : between(g, 0, m);
+
+    if (chance(g, 2))
+        length = between(g, 100, 250);
+    if (justify == 'Z' && length == 0 && chance(g, 90))
+        length = 1;
+    if (justify == 'Z' && chance(g, 95))
+        put_from(g, "0123456789", length);
+    else
+        put_quoted(g, length);
+}
+
+static unsigned ten_to(unsigned w)
+{
+    unsigned power = 1;
+
+    while (w--)
+        power *= 10;
+    return power;
+}
+
+static void put_counter_value(struct generator *g, unsigned w)
+{
+    unsigned power = ten_to(w > 9 ? 9 : w);
+
+    if (chance(g, 10) && w < 9)
+        put_digits(g, power + below(g, 20));
+    else if (chance(g, 40))
+        put_digits(g, power - 1 - below(g, power < 4 ? power : 4));
+    else
+        put_digits(g, below(g, power));
+}
+
+/* Sets a declared value, an unset one if there is one. */
+static void put_ask(struct generator *g, const struct view *v)
+{
+    unsigned first = below(g, 20), found = 20;
+
+    for (unsigned i = 0; i < 20 && found == 20; i++) {
+        unsigned k = (first + i) % 20, n = k % 10;
+        bool declared = k < 10 ? v->of_active.v[n] : v->of_active.c[n];
+        bool set = k < 10 ? g->desk->bytes[VALUE][34 * n] != 0 : g->desk->bytes[SESSION][15 + 5 * n] != 0;
+        if (declared && (!set || (v->unset == 0 && chance(g, 50))))
+            found = k;
+    }
+    if (found == 20 || chance(g, 3))
+        found = below(g, 20);
+    put_words(g, found < 10 ? "?V" : "?C");
+    if (spoilt(g))
+        put_outside(g, 0, 9);
+    else
+        put_digits(g, found % 10);
+    put_comma(g);
+    if (found < 10)
+        put_value_text(g, v->of_active.m[found] ? v->of_active.m[found] : 5, v->of_active.justify[found]);
+    else
+        put_counter_value(g, v->of_active.w[found - 10] ? v->of_active.w[found - 10] : 3);
+}
+
+static void put_print(struct generator *g)
+{
+    put(g, 'P');
+    if (chance(g, 1))
+        put_words(g, "65535");
+    else
+        put_number(g, 1, 65535, 3);
+}
+
+/* ---- pictures ---- */
+
+static void put_word_at(uint8_t *head, unsigned at, unsigned value)
+{
+    head[at] = (uint8_t)value;
+    head[at + 1] = (uint8_t)(value >> 8);
+}
+
+/* Packs so many bytes in runs of any length, across lines too. */
+static size_t pack_runs(struct generator *g, uint8_t *out, size_t total, size_t room)
+{
+    size_t length = 0;
+
+    while (total > 0 && length + 2 <= room) {
+        unsigned run = chance(g, 50) ? 1 : between(g, 1, 63);
+        uint8_t value = chance(g, 30) ? 0xff : chance(g, 30) ? 0 : (uint8_t)random_number(g);
+
+        if (room - length < 8 + 2 * (total / 63 + 1))
+            run = 63;  /* little room left */
+        if (run > total)
+            run = (unsigned)total;
+        if (run > 1 || value >= 192)
+            out[length++] = (uint8_t)(192 + run);
+        out[length++] = value;
+        total -= run;
+    }
+    return length;
+}
+
+/* So many bytes packed into exactly so much room: some as runs of one, so that the size comes out. */
+static size_t pack_to_size(struct generator *g, uint8_t *out, size_t total, size_t room)
+{
+    size_t pairs = room - total, length = 0;
+
+    while (total-- > 0) {
+        if (pairs > total || (pairs > 0 && chance(g, 50))) {
+            out[length++] = 193;
+            out[length++] = (uint8_t)random_number(g);
+            pairs--;
+        } else {
+            out[length++] = (uint8_t)below(g, 192);
+        }
+    }
+    return length;
+}
+
+/* Now and then the packed size is a whole number of portions, or the most there may be. */
+static size_t pack_picture(struct generator *g, uint8_t *out, size_t total, size_t room)
+{
+    size_t whole = room + PICTURE_HEAD == MOST_PICTURE && chance(g, 50) ? room : (total + PICTURE_HEAD + 255) / 256 * 256 - PICTURE_HEAD;
+
+    if (chance(g, 30) && whole <= room && total <= whole && whole <= 2 * total)
+        return pack_to_size(g, out, total, whole);
+    return pack_runs(g, out, total, room);
+}
+
+struct shape {
+    unsigned width, height, line;
+};
+
+static struct shape usual_shape(struct generator *g, size_t room)
+{
+    struct shape s = {chance(g, 90) ? between(g, 1, 80) : between(g, 1, 2048),
+                      chance(g, 90) ? between(g, 1, 20) : between(g, 1, chance(g, 10) ? 4000 : 300), 0};
+
+    s.line = (s.width + 15) / 16 * 2;
+    if (s.line < 256 && chance(g, 20))
+        s.line += 2;
+    while ((size_t)s.line * s.height > (room - 200) * 20)
+        s.height = (s.height + 1) / 2;
+    return s;
+}
+
+/* At and just past the most dots, lines and line bytes. */
+static struct shape edge_shape(struct generator *g)
+{
+    struct shape s = {between(g, 1, 16), between(g, 3999, 4001), 2};
+
+    if (chance(g, 60)) {
+        s.width = between(g, 2046, 2049);
+        s.height = between(g, 1, 3);
+        s.line = between(g, 255, 258);
+    }
+    return s;
+}
+
+/* Fills what a picture may have. */
+static struct shape greatest_shape(struct generator *g)
+{
+    struct shape s = {between(g, 1, 2048), between(g, 65, 127), 256};
+
+    return s;
+}
+
+/* A legal picture, but for some at the edge; its size is given. */
+static size_t make_picture(struct generator *g, uint8_t *out, size_t room)
+{
+    static const uint8_t versions[] = {0, 2, 3, 4, 5};
+    struct shape s = chance(g, 4) ? edge_shape(g)
+                   : room == MOST_PICTURE && chance(g, 15) ? greatest_shape(g)
+                                                           : usual_shape(g, room);
+    unsigned left = below(g, 3), top = below(g, 3);
+
+    for (unsigned i = 0; i < PICTURE_HEAD; i++)
+        out[i] = chance(g, 50) ? 0 : (uint8_t)random_number(g);
+    out[0] = 10;
+    out[1] = chance(g, 2) ? (uint8_t)below(g, 8) : versions[below(g, 5)];
+    out[2] = out[3] = out[65] = 1;
+    put_word_at(out, 4, left);
+    put_word_at(out, 6, top);
+    put_word_at(out, 8, left + s.width - 1);
+    put_word_at(out, 10, top + s.height - 1);
+    put_word_at(out, 66, s.line);
+    return PICTURE_HEAD + pack_picture(g, out + PICTURE_HEAD, (size_t)s.line * s.height, room - PICTURE_HEAD);
+}
+
+static size_t damage_picture(struct generator *g, uint8_t *picture, size_t size)
+{
+    static const uint8_t places[] = {0, 1, 2, 3, 4, 5, 6, 7, 8, 9, 10, 11, 65, 66, 67, 128, 129};
+
+    switch (below(g, 8)) {
+    case 0: return size - 1;
+    case 1: picture[size] = (uint8_t)random_number(g); return size + 1;
+    case 2: picture[128] = 192; return size;
+    case 3: picture[between(g, 128, (unsigned)size - 1)] = (uint8_t)random_number(g); return size;
+    case 4: return between(g, 1, 130) < size ? between(g, 1, 130) : size;
+    case 5: picture[places[below(g, 17)]] = (uint8_t)below(g, 13); return size;
+    default: picture[places[below(g, 17)]] ^= (uint8_t)(1u << below(g, 8)); return size;
+    }
+}
+
+/* GM with its bytes after the LF. */
+static void put_load(struct generator *g)
+{
+    static uint8_t picture[MOST_PICTURE + 100];
+    size_t room = g->small ? 400 : chance(g, g->portions > 300 ? 40 : 5) ? MOST_PICTURE : chance(g, 30) ? 3000 : 700;
+    size_t size = make_picture(g, picture, room);
+    size_t told;
+
+    if (chance(g, 30))
+        size = damage_picture(g, picture, size);
+    told = size;
+    if (chance(g, 4))
+        told = size + between(g, 1, 300);  /* bytes lack, unless more lines follow */
+    put_words(g, "GM");
+    put_name(g, PICTURE, 10);
+    put_comma(g);
+    if (spoilt(g))
+        put_outside(g, 1, MOST_PICTURE);
+    else
+        put_digits(g, (unsigned)told);
+    put(g, '\n');
+    memcpy(g->line.bytes + g->line.length, picture, size);
+    g->line.length += size;
+}
+
+/* ---- which command ---- */
+
+static void put_comment(struct generator *g)
+{
+    unsigned length = chance(g, 15) ? between(g, 250, 258) : below(g, 20);
+
+    if (chance(g, 30))
+        return;  /* an empty line */
+    put(g, ';');
+    while (--length < 300 && length > 0) {
+        uint8_t byte = (uint8_t)random_number(g);
+        put(g, byte == '\n' ? 0 : byte);
+    }
+}
+
+static bool has_stored(const struct generator *g, uint8_t kind)
+{
+    for (unsigned i = 0; i < g->entries; i++)
+        if (entry(g, i)[0] == kind)
+            return true;
+    return false;
+}
+
+static void put_drawing(struct generator *g, const struct declared *d)
+{
+    unsigned k = below(g, 100);
+
+    if (k < 33)
+        put_text_line(g, d);
+    else if (k < 62)
+        put_bars_line(g, d);
+    else if (k < 74)
+        put_rectangle(g);
+    else if (k < 80)
+        put_frame(g);
+    else if (k < 94 && (has_stored(g, PICTURE) || chance(g, 10)))
+        put_picture_line(g);
+    else
+        put_origin(g);
+}
+
+static void put_small_word(struct generator *g)
+{
+    static const char *const words[] = {"ZT", "ZB", "VC", "FI", "GI", "FE", "N"};
+
+    put_words(g, words[below(g, 7)]);
+}
+
+static void put_named(struct generator *g, const char *word, uint8_t kind, unsigned stored)
+{
+    put_words(g, word);
+    put_name(g, kind, stored);
+}
+
+/* Of 6: there is no such command, or it belongs to the manual and is not built. */
+static void put_strange(struct generator *g)
+{
+    static const char *const words[] = {"D6", "S4", "I1", "j1", "M", "FA", "GW0,0,1,1", "TS1,1,1,1,1,1", "U", "FI\"A\"", "PC", "P2,3",
+                                        "RESET", "LS0,0,1,5,5", "?", "Q240,B40-8", "N1", "V", "C", "A", "B", "X", "L", "F", "G", "Z",
+                                        "ZC", "FIX", "VC1", "GI ", " FI", "fi", "zT", "P", "P+1", "P-1", "q", "?V0", "?C0,-1",
+                                        "?V0,5", "?C0,\"5\"", "FK*", "FK\"", "GG1,1,A", "R1,2,3", "LO1,2,3", "LO1,2,3,4,5"};
+
+    put_words(g, words[below(g, sizeof words / sizeof words[0])]);
+}
+
+static void put_recording_line(struct generator *g, const struct view *v)
+{
+    unsigned k = below(g, 100);
+
+    if (k < 14)
+        put_variable(g, &v->of_recording);
+    else if (k < 23)
+        put_counter(g, &v->of_recording);
+    else if (k < 88)
+        put_drawing(g, &v->of_recording);
+    else if (k < 97)
+        put_words(g, "FE");
+    else if (k < 98)
+        put_small_word(g);
+    else if (k < 99)
+        put_print(g);
+    else
+        put_load(g);
+}
+
+static void put_listing(struct generator *g)
+{
+    unsigned k = below(g, 3);
+
+    if (k == 0)
+        put_words(g, "FI");
+    else if (k == 1)
+        put_words(g, "GI");
+    else
+        put_named(g, "FP", FORM, 85);
+}
+
+static void put_erasure(struct generator *g)
+{
+    bool form = chance(g, 35);
+
+    if (chance(g, 6))
+        put_words(g, form ? "FK\"*\"" : "GK\"*\"");
+    else
+        put_named(g, form ? "FK" : "GK", form ? FORM : PICTURE, 85);
+}
+
+static void put_setting(struct generator *g)
+{
+    switch (below(g, 6)) {
+    case 0: put(g, 'Q'); put_number(g, 1, g->rows, g->rows); put_comma(g); put_number(g, 0, 240, 240); break;
+    case 1: put(g, 'q'); put_number(g, 80, 608, 608); break;
+    case 2: put_origin(g); break;
+    case 3: put_small_word(g); break;
+    default: put_words(g, chance(g, 50) ? "ZT" : "ZB"); break;
+    }
+}
+
+/* Nothing recorded, nothing owed: first what leads to a label, else anything. */
+static void put_idle_line(struct generator *g, const struct view *v)
+{
+    static const struct declared nothing;
+    unsigned k = below(g, 100);
+
+    if (v->active != 65535 && v->unset > 0 && chance(g, 75)) {
+        if (chance(g, 6))
+            put_print(g);  /* too early */
+        else
+            put_ask(g, v);
+        return;
+    }
+    if (v->active != 65535 && v->unset == 0 && chance(g, 40)) {
+        put_print(g);
+        return;
+    }
+    if (v->active == 65535 && has_stored(g, FORM) && chance(g, 45)) {
+        put_named(g, "FR", FORM, 92);
+        return;
+    }
+    if (k < 18)
+        put_named(g, "FS", FORM, 8);
+    else if (k < 24)
+        put_named(g, "FR", FORM, 80);
+    else if (k < 44)
+        put_drawing(g, &nothing);
+    else if (k < 62)
+        put_load(g);
+    else if (k < 71)
+        put_erasure(g);
+    else if (k < 80)
+        put_listing(g);
+    else if (k < 88)
+        put_setting(g);
+    else if (k < 93)
+        put_print(g);
+    else if (k < 96)
+        put_ask(g, v);
+    else if (k < 97)
+        put_variable(g, &v->of_active);
+    else if (k < 98)
+        put_counter(g, &v->of_active);
+    else
+        put_small_word(g);
+}
+
+/* One byte dropped, put in, changed or doubled; the result mostly has no written form. */
+static void disturb(struct generator *g)
+{
+    static const char likely[] = ",,\"\"0129LRMVCN +-.;EAB*";
+    struct line *l = &g->line;
+    size_t at = l->length ? below(g, (unsigned)l->length) : 0;
+    uint8_t byte = chance(g, 85) ? (uint8_t)likely[below(g, sizeof likely - 1)] : (uint8_t)random_number(g);
+
+    switch (below(g, 4)) {
+    case 0:
+        if (l->length > 0)
+            memmove(l->bytes + at, l->bytes + at + 1, --l->length - at);
+        break;
+    case 1:
+        memmove(l->bytes + at + 1, l->bytes + at, l->length - at);
+        l->bytes[at] = byte;
+        l->length++;
+        break;
+    case 2:
+        if (l->length > 0)
+            l->bytes[at] = byte;
+        break;
+    default:
+        l->length = at;
+        break;
+    }
+}
+
+/* A line of 256 bytes or more without an LF among them. */
+static void put_long(struct generator *g)
+{
+    size_t to = chance(g, 50) ? 256 : between(g, 256, 400);
+
+    while (g->line.length < to)
+        put(g, (uint8_t)(g->line.length % 90 + 33));
+    if (chance(g, 60))
+        put_words(g, "\nFI\n");
+}
+
+static void put_rest(struct generator *g)
+{
+    if (chance(g, 25))
+        put_words(g, "N\nFI\n;\nLO0,0,5,5");
+}
+
+static void make_input(struct generator *g)
+{
+    struct view v;
+    unsigned k = below(g, 1000);
+
+    look(g, &v);
+    g->line.length = 0;
+    g->spoil = chance(g, 7) ? (int)below(g, 6) : -1;
+    if (k < 8) {
+        put_long(g);
+        return;
+    }
+    if (k < 38)
+        put_comment(g);
+    else if (k < 58)
+        put_strange(g);
+    else if (v.recording != 65535)
+        put_recording_line(g, &v);
+    else
+        put_idle_line(g, &v);
+    if (rarely(g, 40))
+        disturb(g);
+    if (rarely(g, 10))
+        return;  /* no LF, or a GM that lacks bytes */
+    put(g, '\n');
+    put_rest(g);
+    if (rarely(g, 4))
+        g->line.length = below(g, (unsigned)g->line.length + 1);
+}
+
+/* ---- fonts ---- */
+
+/* A font with cells of this size, and of its codes about so many in a hundred. */
+static size_t write_font(struct generator *g, uint8_t *font, unsigned width, unsigned height, unsigned share)
+{
+    unsigned row = (width + 7) / 8;
+    uint8_t spare = width % 8 ? (uint8_t)(0xff00 >> width % 8) : 0xff, *at = font;
+
+    memcpy(at, (const uint8_t[]){1, 2, 0, (uint8_t)width, (uint8_t)height}, 5);
+    at += 5;
+    for (unsigned code = 32; code <= 126; code++) {
+        unsigned content = 1 + height * row;
+        if (!chance(g, share))
+            continue;
+        memcpy(at, (const uint8_t[]){2, (uint8_t)content, (uint8_t)(content >> 8), (uint8_t)code}, 4);
+        at += 4;
+        for (unsigned i = 0; i < height * row; i++)
+            *at++ = (uint8_t)random_number(g) & (i % row == row - 1 ? spare : 0xff);
+    }
+    memcpy(at, (const uint8_t[]){255, 0, 0}, 3);
+    return (size_t)(at + 3 - font);
+}
+
+static void make_font(struct generator *g)
+{
+    unsigned width = chance(g, 85) ? between(g, 1, 10) : between(g, 1, 32);
+    unsigned height = chance(g, 85) ? between(g, 1, 9) : between(g, 1, 64);
+    unsigned share = chance(g, 60) ? 90 : below(g, 100);
+
+    if (g->small)
+        g->font_length = write_font(g, g->font, between(g, 1, 10), between(g, 1, 5), below(g, 50));
+    else
+        g->font_length = write_font(g, g->font, width, height, share);
+}
+
+/* Cells at and past the limits, all else right. */
+static size_t write_edge_font(struct generator *g, uint8_t *font)
+{
+    static const unsigned widths[] = {0, 1, 8, 32, 33}, heights[] = {0, 1, 64, 65};
+
+    return write_font(g, font, widths[below(g, 5)], heights[below(g, 4)], g->small ? 2 : 20);
+}
+
+static void make_bad_font(struct generator *g)
+{
+    size_t length = g->font_length;
+    uint8_t *font = g->bad_font;
+
+    memcpy(font, g->font, length);
+    switch (below(g, 9)) {
+    case 8: length = write_edge_font(g, font); break;
+    case 0: length = below(g, (unsigned)length + 1); break;
+    case 1: font[length++] = (uint8_t)below(g, 3); break;
+    case 2: font[length - 3 + below(g, 3)] = (uint8_t)random_number(g); break;
+    case 3: font[below(g, length < 9 ? (unsigned)length : 9)] = (uint8_t)below(g, 70); break;
+    case 4: font[below(g, 5)] = (uint8_t)random_number(g); break;
+    case 5: length = below(g, 8); break;
+    default: font[below(g, (unsigned)length)] = (uint8_t)random_number(g); break;
+    }
+    g->bad_font_length = length;
+}
+
+/* ---- damage ---- */
+
+static void add_poke(struct generator *g, enum slice s, size_t at, uint8_t byte)
+{
+    if (g->poke_count == MOST_POKES || at >= g->desk->room[s])
+        return;
+    g->undo[g->poke_count] = (struct poke){s, at, g->desk->bytes[s][at]};
+    g->pokes[g->poke_count++] = (struct poke){s, at, byte};
+}
+
+static void poke_number(struct generator *g, enum slice s, size_t at, unsigned value, unsigned bytes)
+{
+    for (unsigned i = 0; i < bytes; i++)
+        add_poke(g, s, at + i, (uint8_t)(value >> (8 * i)));
+}
+
+static uint8_t near_byte(struct generator *g, uint8_t byte)
+{
+    switch (below(g, 4)) {
+    case 0: return (uint8_t)(byte + 1);
+    case 1: return (uint8_t)(byte - 1);
+    case 2: return byte ^ (uint8_t)(1u << below(g, 8));
+    default: return (uint8_t)random_number(g);
+    }
+}
+
+static void damage_byte(struct generator *g, enum slice s, size_t at)
+{
+    add_poke(g, s, at, near_byte(g, g->desk->bytes[s][at]));
+}
+
+static unsigned some_of(struct generator *g, const unsigned *values, unsigned count)
+{
+    return values[below(g, count)];
+}
+
+static void damage_session(struct generator *g)
+{
+    unsigned n = below(g, 10);
+    unsigned w[] = {0, 79, 80, 100, 607, 608, 609, 65535}, l[] = {0, 1, g->rows / 2, g->rows, g->rows + 1, 65535};
+    unsigned o[] = {0, 5, 2048, 2049, 4096, 4097, 65535}, a[] = {0, 1, 2, g->entries - 1, g->entries, 65534, 65535};
+    unsigned p[] = {0, 1, 2, 3, 65534, 65535}, c[] = {0, 1, 9, 10, 99, 100, 999, 1000, 999999999, 1000000000, 4294967295u};
+
+    switch (below(g, 11)) {
+    case 0: poke_number(g, SESSION, 0, some_of(g, w, 8), 2); break;
+    case 1: poke_number(g, SESSION, 2, some_of(g, l, 6), 2); break;
+    case 2: poke_number(g, SESSION, 4, below(g, 3), 1); break;
+    case 3: poke_number(g, SESSION, 5, some_of(g, o, 7), 2); break;
+    case 4: poke_number(g, SESSION, 7, some_of(g, o, 7), 2); break;
+    case 5: poke_number(g, SESSION, 9, some_of(g, a, 7), 2); break;
+    case 6: poke_number(g, SESSION, 11, some_of(g, p, 6), 2); break;
+    case 7: poke_number(g, SESSION, 13, some_of(g, p, 6), 2); break;
+    case 8: poke_number(g, SESSION, 15 + 5 * n, below(g, 3), 1); break;
+    case 9:
+        poke_number(g, SESSION, 15 + 5 * n, below(g, 3), 1);
+        poke_number(g, SESSION, 16 + 5 * n, some_of(g, c, 11), 4);
+        break;
+    default: damage_byte(g, SESSION, below(g, 65)); break;
+    }
+}
+
+static void damage_links(struct generator *g)
+{
+    unsigned portion = below(g, g->portions);
+    unsigned to[] = {65534, 65535, below(g, g->portions), g->portions, g->portions - 1, 65533};
+
+    poke_number(g, LINKS, 2 * portion, some_of(g, to, 6), 2);
+}
+
+static void damage_entry(struct generator *g)
+{
+    static const unsigned edges[] = {31, 32, 33, 126, 127, '*', '"', 'a', 'z', '`', '{', 0};
+    unsigned i = below(g, g->entries), k = below(g, g->entries);
+    const uint8_t *e = entry(g, i);
+
+    switch (below(g, 7)) {
+    case 0: damage_byte(g, DIRECTORY, 16 * i + below(g, 16)); break;
+    case 6: add_poke(g, DIRECTORY, 16 * i + 2 + below(g, e[1] ? e[1] : 8), (uint8_t)some_of(g, edges, 12)); break;
+    case 1: poke_number(g, DIRECTORY, 16 * i, below(g, 5), 1); break;
+    case 2: poke_number(g, DIRECTORY, 16 * i + 12, entry_size(e) + below(g, 600) - 300, 4); break;
+    case 3: poke_number(g, DIRECTORY, 16 * i + 10, below(g, g->portions + 1), 2); break;
+    case 4:  /* its name on another entry */
+        for (unsigned b = 1; b < 10; b++)
+            add_poke(g, DIRECTORY, 16 * k + b, e[b]);
+        break;
+    default:  /* two entries change places */
+        for (unsigned b = 0; b < 16 && i != k; b++) {
+            add_poke(g, DIRECTORY, 16 * k + b, e[b]);
+            add_poke(g, DIRECTORY, 16 * i + b, entry(g, k)[b]);
+        }
+    }
+}
+
+/* A byte of the store: in a form or picture if there is one, often just behind its end. */
+static void damage_store(struct generator *g)
+{
+    unsigned i = below(g, g->entries);
+    const uint8_t *e = entry(g, i);
+    unsigned portion = entry_first(e), size = entry_size(e), steps;
+
+    if (e[0] == EMPTY || portion >= g->portions || chance(g, 20)) {
+        damage_byte(g, STORE, below(g, g->portions * 256));
+        return;
+    }
+    steps = size / 256 ? below(g, size / 256 + 1) : 0;
+    while (steps-- && link_of(g, portion) < g->portions)
+        portion = link_of(g, portion);
+    if (e[0] == PICTURE && portion == entry_first(e) && chance(g, 50))
+        damage_byte(g, STORE, portion * 256 + below(g, 12));
+    else if (chance(g, 80) && size % 256 && link_of(g, portion) == 65534)
+        damage_byte(g, STORE, portion * 256 + below(g, chance(g, 80) ? size % 256 : 256));
+    else
+        damage_byte(g, STORE, portion * 256 + below(g, 256));
+}
+
+/* A digit or letter in a form changed for one that may be in its place: often another legal form. */
+static void damage_form_slightly(struct generator *g)
+{
+    static const char bytes[] = "00123456789NRLCZVEOGMX,,\".+-a *;\n";
+    unsigned i = below(g, g->entries);
+    const uint8_t *e = entry(g, i);
+    unsigned portion = entry_first(e), size = entry_size(e);
+
+    if ((e[0] == FORM || e[0] == RECORDING) && size > 0 && portion < g->portions)
+        add_poke(g, STORE, portion * 256 + below(g, size < 256 ? size : 256), (uint8_t)bytes[below(g, sizeof bytes - 1)]);
+    else
+        damage_store(g);
+}
+
+/* ---- a form put into the memory by hand ---- */
+
+static void forged_line(struct generator *g, const struct declared *d)
+{
+    static const char *const strange[] = {"", ";", "FE", "P1", "ZT", "N", "Q1,1", "GM\"A\",200", "VC", "FS\"A\"", "R1,1 ", "C0,1,-0,\"\"",
+                                          "C0,1,+0,\"\"", "C0,1,0,\"\"", "GG0,0,\"a\"", "GG0,0,\"A\"", "R00,0", "R0,00"};
+    unsigned k = below(g, 100);
+
+    g->line.length = 0;
+    g->spoil = chance(g, 2) ? (int)below(g, 6) : -1;
+    if (k < 6)
+        put_words(g, strange[below(g, sizeof strange / sizeof strange[0])]);
+    else if (k < 22)
+        put_variable(g, d);
+    else if (k < 36)
+        put_counter(g, d);
+    else
+        put_drawing(g, d);
+}
+
+static size_t forged_content(struct generator *g, uint8_t *content, size_t room)
+{
+    struct declared d;
+    size_t size = 0;
+    unsigned lines = below(g, 6);
+
+    memset(&d, 0, sizeof d);
+    g->plain = true;
+    while (lines--) {
+        forged_line(g, &d);
+        if (size + g->line.length + 1 > room)
+            break;
+        memcpy(content + size, g->line.bytes, g->line.length);
+        content[size + g->line.length] = 0;
+        note_declaration(&d, (const char *)content + size);
+        size += g->line.length;
+        content[size++] = '\n';
+    }
+    g->plain = false;
+    return size > 0 && chance(g, 3) ? size - 1 : size;
+}
+
+/* Any free portion, not only the lowest. */
+static unsigned some_free(struct generator *g, const bool *taken)
+{
+    unsigned first = below(g, g->portions);
+
+    for (unsigned i = 0; i < g->portions; i++) {
+        unsigned portion = (first + i) % g->portions;
+        if (link_of(g, portion) == 65535 && !taken[portion])
+            return portion;
+    }
+    return 65535;
+}
+
+static unsigned some_empty(struct generator *g)
+{
+    unsigned first = below(g, g->entries);
+
+    for (unsigned i = 0; i < g->entries; i++)
+        if (entry(g, (first + i) % g->entries)[0] == EMPTY)
+            return (first + i) % g->entries;
+    return 65535;
+}
+
+/* The lines are as they might be sent, mostly in normal form: recording would have taken some rows of them and not others. */
+static void forge_form(struct generator *g)
+{
+    static uint8_t content[1100];
+    bool taken[MOST_PORTIONS] = {false};
+    unsigned i = some_empty(g), portion = some_free(g, taken), first = portion;
+    const char *name = name_pool[below(g, sizeof name_pool / sizeof name_pool[0])];
+    size_t size = forged_content(g, content, g->small ? 200 : 1000), length = strlen(name);
+
+    if (i == 65535 || portion == 65535)
+        return;
+    for (size_t from = 0;; from += 256) {
+        unsigned after = 65534;
+        taken[portion] = true;
+        if (size > from + 256 && (after = some_free(g, taken)) == 65535)
+            return;  /* too little room: what is poked so far stays, and is not sound */
+        for (size_t k = from; k < size && k < from + 256; k++)
+            add_poke(g, STORE, portion * 256 + (k - from), content[k]);
+        poke_number(g, LINKS, 2 * portion, after, 2);
+        if (after == 65534)
+            break;
+        portion = after;
+    }
+    poke_number(g, DIRECTORY, 16 * i, chance(g, 80) ? FORM : RECORDING, 1);
+    poke_number(g, DIRECTORY, 16 * i + 1, (unsigned)length, 1);
+    for (size_t k = 0; k < length; k++)
+        add_poke(g, DIRECTORY, 16 * i + 2 + k, name[k] >= 'a' && name[k] <= 'z' && chance(g, 90) ? (uint8_t)(name[k] - 32) : (uint8_t)name[k]);
+    poke_number(g, DIRECTORY, 16 * i + 10, first, 2);
+    poke_number(g, DIRECTORY, 16 * i + 12, (unsigned)size, 4);
+}
+
+static void damage_values(struct generator *g)
+{
+    unsigned n = below(g, 10);
+    unsigned at[] = {0, 1, 2, 33, between(g, 2, 33), g->desk->bytes[VALUE][34 * n + 1] + 1u};
+
+    damage_byte(g, VALUE, 34 * n + (at[5] < 34 ? some_of(g, at, 6) : 1));
+}
+
+static void damage_background(struct generator *g)
+{
+    size_t length = low_first(g->desk->bytes[SESSION] + 2), width = low_first(g->desk->bytes[SESSION]);
+
+    if (chance(g, 40) && length < g->rows)
+        damage_byte(g, BACKGROUND, length * 76 + below(g, 76));
+    else
+        damage_byte(g, BACKGROUND, below(g, g->rows) * 76u + (width < 600 ? width / 8 : below(g, 76)));
+}
+
+static void damage(struct generator *g)
+{
+    unsigned k = below(g, 100);
+
+    g->poke_count = g->poke_next = 0;
+    if (k < 20)
+        damage_session(g);
+    else if (k < 28)
+        damage_links(g);
+    else if (k < 42)
+        damage_entry(g);
+    else if (k < 55)
+        damage_store(g);
+    else if (k < 67)
+        damage_form_slightly(g);
+    else if (k < 83)
+        forge_form(g);
+    else if (k < 93)
+        damage_values(g);
+    else
+        damage_background(g);
+    g->undo_count = g->poke_count;
+    g->damaged = true;
+    g->touched = false;
+    g->calls_to_repair = between(g, 1, 3);
+}
+
+/* What was changed is put back, unless a call has gone on from there. */
+static void repair(struct generator *g)
+{
+    g->damaged = false;
+    g->poke_count = g->poke_next = 0;
+    if (g->touched)
+        return;
+    for (unsigned i = g->undo_count; i-- > 0;)
+        g->pokes[g->poke_count++] = g->undo[i];
+}
+
+/* ---- lengths ---- */
+
+/* One lent length that is not the session's: wrong, or right for another memory. Never more than there is room for. */
+static void other_length(struct generator *g, struct event *e)
+{
+    static const unsigned units[SLICES] = {[SESSION] = 1, [COUNTS] = 1, [PAGE] = 76, [BACKGROUND] = 76, [STORE] = 256,
+                                           [LINKS] = 1, [DIRECTORY] = 16, [VALUE] = 34, [OUTPUT] = 1};
+    static const enum slice which[] = {SESSION, COUNTS, PAGE, BACKGROUND, STORE, LINKS, DIRECTORY, VALUE, OUTPUT};
+    enum slice s = which[below(g, 9)];
+    size_t most = s == COUNTS ? g->desk->room[s] / 8 : s == LINKS ? g->desk->room[s] / 2 : g->desk->room[s];
+    size_t n = e->length[s];
+
+    switch (below(g, 6)) {
+    case 0: n = 0; break;
+    case 1: n += units[s]; break;
+    case 2: n = n >= units[s] ? n - units[s] : 0; break;
+    case 3: n += 1; break;
+    case 4: n = n >= 1 ? n - 1 : 0; break;
+    default: n = below(g, (unsigned)most + 1); break;
+    }
+    e->length[s] = n < most ? n : most;
+    if (s == STORE && chance(g, 50))
+        e->length[LINKS] = e->length[STORE] / 256;
+    if (s == BACKGROUND && chance(g, 50))
+        e->length[PAGE] = e->length[BACKGROUND];
+}
+
+/* ---- events ---- */
+
+void start_generator(struct generator *g, uint64_t first_seed, bool small, const struct desk *desk)
+{
+    memset(g, 0, sizeof *g);
+    g->seed = first_seed;
+    g->small = small;
+    g->desk = desk;
+}
+
+uint64_t session_seed(const struct generator *g)
+{
+    return g->seed - 1;
+}
+
+static void choose_sizes(struct generator *g)
+{
+    g->rows = chance(g, 90) ? between(g, 1, 60) : chance(g, 90) ? between(g, 1, 400) : between(g, 1, 4000);
+    g->portions = chance(g, 90) ? between(g, 1, 20) : chance(g, 85) ? between(g, 1, 150) : between(g, 1, 2024);
+    g->entries = chance(g, 90) ? between(g, 1, 6) : chance(g, 85) ? between(g, 1, 30) : between(g, 1, 512);
+    if (rarely(g, 4))
+        g->rows = 4000;
+    if (rarely(g, 4))
+        g->portions = 2024;
+    if (rarely(g, 4))
+        g->entries = 512;
+    if (g->small) {
+        g->rows = 40;
+        g->portions = 16;
+        g->entries = 4;
+    }
+}
+
+/* Two rows, two portions, two entries and more are there beyond what is lent. */
+static void new_session(struct generator *g, struct event *e)
+{
+    size_t beyond[SLICES] = {[SESSION] = 2, [COUNTS] = 8, [PAGE] = 152, [BACKGROUND] = 152, [STORE] = 512, [LINKS] = 4,
+                             [DIRECTORY] = 32, [VALUE] = 34, [OUTPUT] = 16};
+
+    g->state = g->seed++ * 0x2545f4914f6cdd1du + 12345;
+    choose_sizes(g);
+    g->calls_left = g->small ? 45 : between(g, 30, 150);
+    g->opened = false;
+    g->damaged = g->font_damaged = false;
+    g->poke_count = g->poke_next = 0;
+    g->font_due = true;
+    make_font(g);
+    usual_lengths(g->length, g->rows, g->portions, g->entries, chance(g, 30) ? below(g, 40) : below(g, g->small ? 200 : 3000));
+    memset(e, 0, sizeof *e);
+    e->kind = SET_UP;
+    e->fill = chance(g, 60) ? 0 : chance(g, 30) ? 0xff : (uint8_t)random_number(g);
+    usual_room(e->room, g->length, MOST_FONT, MOST_INPUT);
+    for (int s = 0; s < SLICES; s++)
+        e->room[s] += beyond[s];
+    if (g->small)
+        e->room[OUTPUT] = 256;
+}
+
+static void font_event(struct generator *g, struct event *e)
+{
+    e->kind = NEW_FONT;
+    e->bytes = g->font_damaged ? g->bad_font : g->font;
+    e->count = g->font_damaged ? g->bad_font_length : g->font_length;
+    g->font_due = false;
+    g->length[FONT] = e->count;
+}
+
+static void poke_event(struct generator *g, struct event *e)
+{
+    const struct poke *p = &g->pokes[g->poke_next++];
+
+    e->kind = POKE;
+    e->slice = p->slice;
+    e->at = p->at;
+    e->byte = p->byte;
+}
+
+static enum call_kind choose_call(struct generator *g)
+{
+    unsigned owed = low_first(g->desk->bytes[SESSION] + 11);
+
+    if (!g->opened)
+        return OPEN;
+    if (rarely(g, 4))
+        return OPEN;
+    if (owed > 0 && chance(g, 75))
+        return LABEL;
+    return chance(g, 3) ? LABEL : COMMAND;
+}
+
+static void call_event(struct generator *g, struct event *e)
+{
+    e->kind = CALL;
+    e->call = choose_call(g);
+    if (e->call == COMMAND) {
+        make_input(g);
+        e->bytes = g->line.bytes;
+        e->count = g->line.length;
+    }
+    g->length[INPUT] = e->count;
+    memcpy(e->length, g->length, sizeof e->length);
+    if (chance(g, e->call == OPEN ? 20 : 3))
+        other_length(g, e);
+    g->last_call = e->call;
+    g->last_usual = memcmp(e->length, g->length, sizeof e->length) == 0;
+    g->calls_left--;
+}
+
+/* Rarely the font is spoilt for a call or two, or the memory. */
+static void spoil_something(struct generator *g)
+{
+    if (g->damaged || g->font_damaged || !g->opened)
+        return;
+    if (rarely(g, 45))
+        damage(g);
+    else if (rarely(g, 12)) {
+        make_bad_font(g);
+        g->font_damaged = g->font_due = true;
+        g->calls_to_repair = between(g, 1, 3);
+    } else if (rarely(g, 5)) {
+        make_font(g);
+        g->font_due = true;
+    }
+}
+
+void next_event(struct generator *g, struct event *e)
+{
+    memset(e, 0, sizeof *e);
+    if (g->calls_left == 0 || low_first(g->desk->bytes[SESSION] + 11) > 5000) {
+        bool far = g->calls_left > 0 && g->opened && !g->damaged;  /* so many labels would never end */
+        if (g->calls_left == 0 || (far && chance(g, 5))) {
+            new_session(g, e);
+            return;
+        }
+    }
+    if (g->poke_next == g->poke_count && g->calls_to_repair == 0) {
+        if (g->damaged)
+            repair(g);
+        else if (g->font_damaged) {
+            g->font_damaged = false;
+            g->font_due = true;
+        } else
+            spoil_something(g);
+    }
+    if (g->font_due)
+        font_event(g, e);
+    else if (g->poke_next < g->poke_count)
+        poke_event(g, e);
+    else
+        call_event(g, e);
+}
+
+void tell_answer(struct generator *g, unsigned answer)
+{
+    if (g->calls_to_repair > 0)
+        g->calls_to_repair--;
+    if (answer == 0)
+        g->touched = true;
+    g->lost = answer == 3 && !g->damaged ? g->lost + 1 : 0;
+    if (g->lost > 3)
+        g->opened = false;
+    if (g->last_call == OPEN)
+        g->opened = (answer == 0 && g->last_usual) || chance(g, 10);
+}

@@ -1,0 +1,432 @@
+/* selftest.c: paper 01's sample session and its ten proof cases, as far as the three calls show them, and drawing dot by dot.
+ *
+ *   selftest                   runs all of them
+ *   selftest bars TYPE W DATA  writes the modules of one symbol, narrow 1 and wide W, as 1 (bar) and 0, for zint-check
+ *   selftest label             reads standard input as the sample session's program does
+ */
+#include <stdio.h>
+#include <stdlib.h>
+#include <string.h>
+
+#include "desk.h"
+#include "peer.h"
+
+static unsigned failures;
+
+static void check(const char *what, int holds)
+{
+    printf("%-58s %s\n", what, holds ? "ok" : "FAILED");
+    failures += !holds;
+}
+
+/* ---- a desk with its lengths ---- */
+
+struct bench {
+    struct desk desk;
+    size_t length[SLICES];
+};
+
+static const uint8_t empty_font[] = {1, 2, 0, 8, 8, 255, 0, 0};
+
+static void open_bench(struct bench *b, unsigned rows, const uint8_t *font, size_t font_length)
+{
+    size_t room[SLICES];
+
+    memset(b, 0, sizeof *b);
+    usual_lengths(b->length, rows, 64, 8, 65536);
+    usual_room(room, b->length, 65536, 65536);
+    set_up_desk(&b->desk, room, 0xa5);
+    put_on_desk(&b->desk, FONT, font, font_length);
+    b->length[FONT] = font_length;
+    if (call_station(&peer_station, &b->desk, OPEN, b->length) != 0)
+        abort();
+}
+
+static uint64_t count(const struct bench *b, unsigned i)
+{
+    uint64_t n;
+
+    memcpy(&n, b->desk.bytes[COUNTS] + 8 * i, 8);
+    return n;
+}
+
+static unsigned send_bytes(struct bench *b, const void *bytes, size_t length)
+{
+    put_on_desk(&b->desk, INPUT, bytes, length);
+    b->length[INPUT] = length;
+    return call_station(&peer_station, &b->desk, COMMAND, b->length);
+}
+
+static unsigned send(struct bench *b, const char *line)
+{
+    char with_lf[600];
+    int length = snprintf(with_lf, sizeof with_lf, "%s\n", line);
+
+    return send_bytes(b, with_lf, (size_t)length);
+}
+
+static unsigned label(struct bench *b)
+{
+    return call_station(&peer_station, &b->desk, LABEL, b->length);
+}
+
+static int dot(const struct bench *b, enum slice s, int x, int y)
+{
+    return b->desk.bytes[s][y * ROW_BYTES + x / 8] >> (7 - x % 8) & 1;
+}
+
+static unsigned black_dots(const struct bench *b, enum slice s)
+{
+    unsigned black = 0;
+
+    for (size_t i = 0; i < b->length[s]; i++)
+        black += (unsigned)__builtin_popcount(b->desk.bytes[s][i]);
+    return black;
+}
+
+static unsigned low_first(const uint8_t *bytes)
+{
+    return bytes[0] | (unsigned)bytes[1] << 8;
+}
+
+/* ---- the program of the sample session ---- */
+
+static void run_labels(struct bench *b, FILE *out)
+{
+    while (label(b) == 0)
+        fprintf(out, "label %u black %u\n", low_first(b->desk.bytes[SESSION] + 13), black_dots(b, PAGE));
+}
+
+static void run_session(struct bench *b, const uint8_t *input, size_t length, FILE *out)
+{
+    for (unsigned line = 1;; line++) {
+        unsigned answer = send_bytes(b, input, length);
+
+        if (answer != 4 || length > 0)
+            fprintf(out, "line %u: %u\n", line, answer);
+        if (answer == 4)
+            return;
+        fwrite(b->desk.bytes[OUTPUT], 1, count(b, 1), out);
+        input += count(b, 0);
+        length -= count(b, 0);
+        if (answer == 0)
+            run_labels(b, out);
+    }
+}
+
+static const char sample_input[] =
+    "FS\"Test\"\nC0,02,+1,\"NO\"\nLO0,0,8,2\nFE\nFI\nFR\"TEST\"\nP2\n?C0,99\nP2\n";
+static const char sample_output[] =
+    "line 1: 0\nline 2: 0\nline 3: 0\nline 4: 0\nline 5: 0\n23,\"TEST\"\nline 6: 0\nline 7: 18\nline 8: 0\nline 9: 0\n"
+    "label 1 black 16\nlabel 2 black 16\n";
+
+static void sample_session(void)
+{
+    struct bench b;
+    char *written = NULL;
+    size_t length = 0;
+    FILE *out = open_memstream(&written, &length);
+
+    open_bench(&b, 240, empty_font, sizeof empty_font);
+    run_session(&b, (const uint8_t *)sample_input, sizeof sample_input - 1, out);
+    fclose(out);
+    check("(1) the sample session writes what paper 01 prints", strcmp(written, sample_output) == 0);
+    check("(1) C0 ends at 1", b.desk.bytes[SESSION][15] == 1 && low_first(b.desk.bytes[SESSION] + 16) == 1
+                                  && low_first(b.desk.bytes[SESSION] + 18) == 0);
+    free(written);
+    clear_away(&b.desk);
+}
+
+/* ---- bars ---- */
+
+static int modules_are(const struct bench *b, int from, const char *modules)
+{
+    for (int i = 0; modules[i]; i++)
+        if (dot(b, BACKGROUND, from + i, 0) != modules[i] - '0')
+            return 0;
+    return 1;
+}
+
+/* The dots from the first black one to the last in row 0. */
+static int bars_wide(const struct bench *b)
+{
+    int last = -1;
+
+    for (int x = 0; x < 608; x++)
+        if (dot(b, BACKGROUND, x, 0))
+            last = x;
+    return last + 1;
+}
+
+static void bar_cases(void)
+{
+    struct bench b;
+
+    open_bench(&b, 240, empty_font, sizeof empty_font);
+    check("(2) E30 is taken", send(&b, "B0,0,0,E30,1,2,24,N,\"123456789012\"") == 0);
+    check("(2) its check digit is 8: 1001000, then the guard", modules_are(&b, 85, "1001000101") && bars_wide(&b) == 95);
+    send(&b, "N");
+    check("(3) type 1 A: check 34 is 131123, 46 modules",
+          send(&b, "B0,0,0,1,1,2,24,N,\"A\"") == 0 && modules_are(&b, 22, "10001011000") && bars_wide(&b) == 46);
+    send(&b, "N");
+    check("(4) type 3 1, e 2, f 5: 85 dots", send(&b, "B0,0,0,3,2,5,24,N,\"1\"") == 0 && bars_wide(&b) == 85);
+    send(&b, "N");
+    check("(5) type 2 12, same: 49 dots", send(&b, "B0,0,0,2,2,5,24,N,\"12\"") == 0 && bars_wide(&b) == 49);
+    clear_away(&b.desk);
+}
+
+/* ---- frame, variables, limits ---- */
+
+static void frame_case(void)
+{
+    struct bench b;
+    int wrong = 0;
+
+    open_bench(&b, 300, empty_font, sizeof empty_font);
+    send(&b, "X10,10,3,360,250");
+    for (int y = 0; y < 300; y++)
+        for (int x = 0; x < 608; x++) {
+            int outer = x >= 10 && x < 360 && y >= 10 && y < 250;
+            int inner = x >= 13 && x < 357 && y >= 13 && y < 247;
+            wrong += dot(&b, BACKGROUND, x, y) != (outer && !inner);
+        }
+    check("(6) X10,10,3,360,250 is 350 by 240", wrong == 0);
+    clear_away(&b.desk);
+}
+
+/* Every code has another glyph: its own code in each of two rows. */
+static size_t telling_font(uint8_t *font)
+{
+    size_t length = 0;
+
+    memcpy(font, (const uint8_t[]){1, 2, 0, 8, 2}, 5);
+    length = 5;
+    for (unsigned code = 32; code <= 126; code++) {
+        memcpy(font + length, (const uint8_t[]){2, 3, 0, (uint8_t)code, (uint8_t)code, (uint8_t)code}, 6);
+        length += 6;
+    }
+    memcpy(font + length, (const uint8_t[]){255, 0, 0}, 3);
+    return length + 3;
+}
+
+static void variable_case(void)
+{
+    struct bench b;
+    uint8_t font[1024];
+    size_t length = telling_font(font);
+    const char *lines[] = {"FS\"F\"", "V0,5,L,\"\"", "A0,0,0,1,1,N,V0L1V0M3.2V0R1", "FE", "FR\"F\"", "?V0,\"ABCDE\"", "P1"};
+    unsigned refused = 0;
+
+    open_bench(&b, 40, font, length);
+    for (unsigned i = 0; i < 7; i++)
+        refused += send(&b, lines[i]) != 0;
+    refused += label(&b) != 0;
+    check("(7) V0L1V0M3.2V0R1 of ABCDE is ACDE",
+          refused == 0 && memcmp(b.desk.bytes[PAGE], "ACDE\0", 5) == 0 && memcmp(b.desk.bytes[PAGE] + 76, "ACDE\0", 5) == 0);
+    check("(7) its last place reaches no further: V0M5.2 is 14",
+          send(&b, "FS\"G\"") == 0 && send(&b, "V0,5,L,\"\"") == 0 && send(&b, "A0,0,0,1,1,N,V0M5.2") == 14);
+    clear_away(&b.desk);
+}
+
+static void limit_cases(void)
+{
+    struct bench b;
+    char long_line[256];
+    uint8_t picture[15 + 130] = "GM\"P\",130\n";
+
+    memset(long_line, ';', sizeof long_line);
+    open_bench(&b, 40, empty_font, sizeof empty_font);
+    check("(8) q80 is taken, q79 is 7", send(&b, "q80") == 0 && send(&b, "q79") == 7);
+    check("(9) 255 bytes without LF are 4", send_bytes(&b, long_line, 255) == 4 && count(&b, 0) == 0);
+    check("(9) 256 bytes without LF are 5, all read", send_bytes(&b, long_line, 256) == 5 && count(&b, 0) == 256);
+
+    uint8_t *head = picture + 10;
+    memcpy(head, (const uint8_t[]){10, 5, 1, 1, 0, 0, 0, 0, 7, 0, 0, 0}, 12);
+    head[65] = 1;
+    head[66] = 2;
+    head[128] = head[129] = 85;
+    check("a picture of 8 by 1 in 130 bytes is taken", send_bytes(&b, picture, 140) == 0 && count(&b, 0) == 140);
+    picture[3] = 'Q';
+    head[128] = 192;
+    check("(10) with byte 128 = 192 it is 16, and its bytes are read", send_bytes(&b, picture, 140) == 16 && count(&b, 0) == 140);
+    clear_away(&b.desk);
+}
+
+/* ---- drawing, dot by dot ---- */
+
+static int inside(const struct bench *b, int x, int y)
+{
+    return x < (int)low_first(b->desk.bytes[SESSION]) && y < (int)low_first(b->desk.bytes[SESSION] + 2);
+}
+
+/* Where dot (x,y) of a box of wide by high goes when it is turned r quarters clockwise. */
+static void turn_dot(int r, int wide, int high, int x, int y, int *to_x, int *to_y)
+{
+    static const int signs[4][4] = {{1, 0, 0, 1}, {0, -1, 1, 0}, {-1, 0, 0, -1}, {0, 1, -1, 0}};
+    int left = signs[r][0] < 0 ? wide - 1 : signs[r][1] < 0 ? high - 1 : 0;
+    int top = signs[r][2] < 0 ? wide - 1 : signs[r][3] < 0 ? high - 1 : 0;
+
+    *to_x = left + signs[r][0] * x + signs[r][1] * y;
+    *to_y = top + signs[r][2] * x + signs[r][3] * y;
+}
+
+/* The line with its turn and corner against the same line unturned at 0,0, each dot moved by itself. */
+static int turns_well(struct bench *flat, struct bench *turned, const char *format, int x, int y, int r, int wide, int high)
+{
+    char line[256];
+    int seen = 0, wrong = 0, to_x, to_y;
+
+    send(flat, "N");
+    send(turned, "N");
+    sprintf(line, format, 0, 0, 0);
+    if (send(flat, line) != 0)
+        return 0;
+    sprintf(line, format, x, y, r);
+    if (send(turned, line) != 0)
+        return 0;
+    for (int v = 0; v < high; v++)
+        for (int u = 0; u < wide; u++) {
+            turn_dot(r, wide, high, u, v, &to_x, &to_y);
+            if (!inside(turned, x + to_x, y + to_y))
+                continue;
+            seen += dot(flat, BACKGROUND, u, v);
+            wrong += dot(flat, BACKGROUND, u, v) != dot(turned, BACKGROUND, x + to_x, y + to_y);
+        }
+    return wrong == 0 && seen == (int)black_dots(turned, BACKGROUND);
+}
+
+static void turn_cases(void)
+{
+    static uint8_t font[1024];
+    struct bench flat, turned;
+    size_t length = telling_font(font);
+    int well = 1;
+
+    open_bench(&flat, 400, font, length);
+    open_bench(&turned, 300, font, length);
+    send(&turned, "q333");
+    send(&turned, "Q277,0");
+    for (int r = 0; r < 4; r++)
+        for (int x = 0; x < 340; x += 29) {
+            well &= turns_well(&flat, &turned, "A%d,%d,%d,3,5,N,\"Turned text\"", x, 3 * x / 4, r, 11 * 24, 10);
+            well &= turns_well(&flat, &turned, "A%d,%d,%d,1,2,R,\"~Turned text~\"", x, x, r, 13 * 8, 4);
+            well &= turns_well(&flat, &turned, "B%d,%d,%d,1,1,2,24,N,\"Turned\"", x, 3 * x / 4, r, 11 * 8 + 13, 24);
+            well &= turns_well(&flat, &turned, "B%d,%d,%d,2,2,5,30,N,\"1234\"", x, 3 * x / 4, r, 81, 30);
+        }
+    check("text and bars turn as their dots do, cut at the edge", well);
+    clear_away(&flat.desk);
+    clear_away(&turned.desk);
+}
+
+/* Rectangles in each ink, kept dot by dot in a second page. */
+static void rectangle_cases(void)
+{
+    static uint8_t plain[300][608];
+    struct bench b;
+    unsigned state = 1, wrong = 0;
+
+    open_bench(&b, 300, empty_font, sizeof empty_font);
+    send(&b, "q333");
+    send(&b, "R7,5");
+    memset(plain, 0, sizeof plain);
+    for (int i = 0; i < 300; i++) {
+        char line[64];
+        unsigned n[5];
+        for (int k = 0; k < 5; k++)
+            n[k] = (state = state * 1103515245u + 12345u) >> 16;
+        unsigned x = n[0] % 350, y = n[1] % 310, wide = n[2] % 90 + 1, high = n[3] % 60 + 1, ink = n[4] % 3;
+        sprintf(line, "L%c%u,%u,%u,%u", "OWE"[ink], x, y, wide, high);
+        wrong += send(&b, line) != 0;
+        for (unsigned v = y + 5; v < y + 5 + high && v < 300; v++)
+            for (unsigned u = x + 7; u < x + 7 + wide && u < 333; u++)
+                plain[v][u] = ink == 0 ? 1 : ink == 1 ? 0 : !plain[v][u];
+    }
+    for (int y = 0; y < 300; y++)
+        for (int x = 0; x < 608; x++)
+            wrong += dot(&b, BACKGROUND, x, y) != plain[y][x];
+    check("300 rectangles in three inks, dot by dot", wrong == 0);
+
+    send(&b, "ZB");
+    send(&b, "P1");
+    wrong = label(&b) != 0;
+    for (int y = 0; y < 300; y++)
+        for (int x = 0; x < 608; x++)
+            wrong += dot(&b, PAGE, x, y) != (x < 333 && plain[299 - y][332 - x]);
+    check("with ZB the page is turned by 180 degrees, dot by dot", wrong == 0);
+    clear_away(&b.desk);
+}
+
+/* A picture of 21 by 9 dots with line bytes to spare, drawn at many places. */
+static void picture_case(void)
+{
+    uint8_t picture[300] = "GM\"P\",182\n", *head = picture + 10, *body = head + 128;
+    struct bench b;
+    unsigned wrong = 0;
+
+    memcpy(head, (const uint8_t[]){10, 5, 1, 1, 3, 0, 2, 0, 23, 0, 10, 0}, 12);
+    head[65] = 1;
+    head[66] = 6;
+    for (int i = 0; i < 54; i++)
+        body[i] = (uint8_t)(i * 61 % 192);
+    open_bench(&b, 60, empty_font, sizeof empty_font);
+    send(&b, "q101");
+    wrong += send_bytes(&b, picture, 10 + 182) != 0;
+    for (int at = 0; at < 110; at++) {
+        char line[64];
+        sprintf(line, "GG%d,%d,\"p\"", at, at / 2);
+        send(&b, "N");
+        wrong += send(&b, line) != 0;
+        for (int y = 0; y < 60; y++)
+            for (int x = 0; x < 608; x++) {
+                int u = x - at, v = y - at / 2;
+                int black = x < 101 && u >= 0 && u < 21 && v >= 0 && v < 9 && !(body[6 * v + u / 8] >> (7 - u % 8) & 1);
+                wrong += dot(&b, BACKGROUND, x, y) != black;
+            }
+    }
+    check("a picture at 110 places, dot by dot", wrong == 0);
+    clear_away(&b.desk);
+}
+
+/* ---- the modules of one symbol ---- */
+
+static int write_modules(const char *type, int wide, const char *data)
+{
+    uint8_t widths[MOST_BARS];
+    enum bar_type t = strcmp(type, "3") == 0 ? CODE_39 : strcmp(type, "2") == 0 ? INTERLEAVED : strcmp(type, "E30") == 0 ? EAN_13
+                                                                                                          : CODE_128;
+    unsigned n = bar_widths(t, 1, wide, (const uint8_t *)data, (unsigned)strlen(data), widths);
+
+    for (unsigned i = 0; i < n; i++)
+        for (unsigned k = 0; k < widths[i]; k++)
+            putchar(i % 2 == 0 ? '1' : '0');
+    putchar('\n');
+    return 0;
+}
+
+static int label_program(void)
+{
+    static uint8_t input[8192];
+    struct bench b;
+
+    open_bench(&b, 240, empty_font, sizeof empty_font);
+    run_session(&b, input, fread(input, 1, sizeof input, stdin), stdout);
+    clear_away(&b.desk);
+    return 0;
+}
+
+int main(int argc, char **argv)
+{
+    if (argc == 5 && strcmp(argv[1], "bars") == 0)
+        return write_modules(argv[2], atoi(argv[3]), argv[4]);
+    if (argc == 2 && strcmp(argv[1], "label") == 0)
+        return label_program();
+    sample_session();
+    bar_cases();
+    frame_case();
+    variable_case();
+    limit_cases();
+    turn_cases();
+    rectangle_cases();
+    picture_case();
+    return failures != 0;
+}

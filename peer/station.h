@@ -1,0 +1,64 @@
+/* station.h: the three calls of the label station, as a C program sees them.
+ *
+ * The station owns no memory. Whoever calls it lends everything: the page, the background, the store with its links and
+ * its directory, the values, and the session itself as an image of 65 bytes. A call reads and changes what it is lent and
+ * remembers nothing, so two stations can run side by side and a session can be put away and taken up again.
+ *
+ * A lent slice is a pointer and a length. Lengths count elements: bytes for uint8_t, numbers for `links` and `counts`.
+ * No slice may overlap another. A slice of length 0 may have any pointer.
+ *
+ *   session     65 bytes, low byte first: width 2, length 2, turn 1 (0 ZT, 1 ZB), origin x 2, origin y 2, active form 2
+ *               (its directory entry from 0; 65535 none), labels owed 2, labels drawn 2, then ten counters of 5 bytes:
+ *               set 1 (0 or 1), value 4
+ *   page        76 bytes a row, 1 to 4,000 rows; dot x is in byte x/8, highest bit first; 1 is black
+ *   background  the same, and of the page's length
+ *   store       1 to 2,024 portions of 256 bytes
+ *   links       one number for each portion: the next portion of its chain, 65534 at the chain's end, 65535 free
+ *   directory   1 to 512 entries of 16 bytes: kind, name length, name 8, first portion 2, size 4
+ *   values      10 fields of 34 bytes: set, length, 32 bytes
+ *   font        tagged fields; any length, judged by answer 2
+ *   output      where FI, GI and FP write; any length
+ *   input       the bytes not read yet; any length
+ *   counts      2 numbers, stored at every answer: bytes read from the input, bytes written to the output
+ *
+ * The result of each call is its answer: 0 taken, 1 to 21 refused (paper 01's table). After a refusal the session and
+ * all lent memory are as before; only the counts are stored. A refused opening leaves the session image all zero.
+ */
+#ifndef STATION_H
+#define STATION_H
+
+#include <stddef.h>
+#include <stdint.h>
+
+/* Clears all lent memory, frees every portion and starts a session: width 608, length N, origin 0,0, ZT, nothing owed. */
+uint8_t station_open(uint8_t *session, size_t session_len,
+                     uint8_t *page, size_t page_len,
+                     uint8_t *background, size_t background_len,
+                     uint8_t *store, size_t store_len,
+                     uint16_t *links, size_t links_len,
+                     uint8_t *directory, size_t directory_len,
+                     uint8_t *values, size_t values_len);
+
+/* Reads one command at the front of the input. The unread rest starts at input + counts[0]. */
+uint8_t station_command(uint8_t *session, size_t session_len,
+                        uint64_t *counts, size_t counts_len,
+                        const uint8_t *font, size_t font_len,
+                        uint8_t *background, size_t background_len,
+                        uint8_t *store, size_t store_len,
+                        uint16_t *links, size_t links_len,
+                        uint8_t *directory, size_t directory_len,
+                        uint8_t *values, size_t values_len,
+                        uint8_t *output, size_t output_len,
+                        const uint8_t *input, size_t input_len);
+
+/* Draws one owed label on the page, moves the counters, and counts the label from owed to drawn. */
+uint8_t station_label(uint8_t *session, size_t session_len,
+                      const uint8_t *font, size_t font_len,
+                      uint8_t *page, size_t page_len,
+                      const uint8_t *background, size_t background_len,
+                      const uint8_t *store, size_t store_len,
+                      const uint16_t *links, size_t links_len,
+                      const uint8_t *directory, size_t directory_len,
+                      const uint8_t *values, size_t values_len);
+
+#endif
