@@ -1,2 +1,16 @@
 pub mod Frame
 pub mod Linked
+pub mod Changes
+pub mod Bytes
+pub mod Room
+pub mod PutSound
+pub mod AppendSound
+pub mod Content
+pub mod Facts
+pub mod Listing
+pub mod Moving
+pub mod Erase
+pub mod Finish
+pub mod Start
+pub mod Grow
+pub mod Keep

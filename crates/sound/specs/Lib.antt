@@ -1,2 +1,3 @@
 -- The store's part of sound.
 pub mod Sound
+pub mod Shelf
