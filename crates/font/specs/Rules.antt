@@ -78,7 +78,7 @@ fieldsFrom font (suc n) last at =
 
 -- a legal font. Codes from 32 to 126 that strictly rise are at most 95, so the fields after the first are at most 96
 unfoldable pub legal : List ℕ → Bool
-legal font = headed font && fieldsFrom font 96 0 5
+legal font = headed font && fieldsFrom font 96 31 5
 
 -- ---- the rows of a code
 -- where they stand: behind the code in the field that has it. "A missing code draws as blank": it has no rows, at the font's end

@@ -141,10 +141,10 @@ fn ended_ok(font: &[u8], at: usize) -> bool
 
 // Whether the fields after the first are glyphs and the last field.
 fn fields_ok(font: &[u8]) -> bool
-    ensures { λ r. ⌜ r ≡ fieldsFrom (now (font .entry)) 96 0 5 ⌝ }
+    ensures { λ r. ⌜ r ≡ fieldsFrom (now (font .entry)) 96 31 5 ⌝ }
 {
     let mut left: usize = 96;
-    let mut last: usize = 0;
+    let mut last: usize = 31;
     let mut at: usize = 5;
     while 0 < left {
         if byte_at(font, at) == 255 {

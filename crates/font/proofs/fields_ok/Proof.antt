@@ -11,7 +11,7 @@ use Rattle.font.proofs.fields_ok.Statement.{statement}
 use Rattle.font.proofs.fields_ok.Tie as tie
 
 abbrev Inv-loop : tie.InvT-loop
-Inv-loop font left₀ last₀ at₀ left last at = (left ≤ 96) × (at + left * 65539 ≤ 2 ^ 29) × (fieldsFrom font left last at ≡ fieldsFrom font 96 0 5)
+Inv-loop font left₀ last₀ at₀ left last at = (left ≤ 96) × (at + left * 65539 ≤ 2 ^ 29) × (fieldsFrom font left last at ≡ fieldsFrom font 96 31 5)
 
 abbrev μ-loop : tie.MeasureT-loop
 μ-loop font left₀ last₀ at₀ left last at = left
