@@ -1,11 +1,11 @@
--- `font::is_legal` meets its contract.
+-- `font::rules::is_legal` meets its contract.
 -- Assumes nothing.
 use mathlib.Core.Path.{sym, _∙_}
 use borrow.Author.Needs.{needs}
 use Rattle.font.specs.Rules.{legal}
 use Rattle.font.proofs.Passes.{both-so, both-not}
-use Rattle.font.proofs.is_legal.Statement.{statement}
-use Rattle.font.proofs.is_legal.Tie as tie
+use Rattle.font.proofs.rules.is_legal.Statement.{statement}
+use Rattle.font.proofs.rules.is_legal.Tie as tie
 
 headed-ok-requires : tie.Need-headed-ok-requires
 headed-ok-requires c κs = search needs

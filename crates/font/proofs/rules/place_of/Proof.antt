@@ -1,4 +1,4 @@
--- `font::place_of` meets its contract.
+-- `font::rules::place_of` meets its contract.
 -- Assumes nothing.
 use mathlib.Core.Path.{_≡_, refl, sym, ap, _∙_}
 use Prim.Native.Nat.{_+_, _-_, _*_, _^_, _≤_}
@@ -7,8 +7,8 @@ use borrow.Author.Tests.{eq-eqb, ne-eqb, not-true, not-false}
 use borrow.Author.Needs.{needs}
 use Rattle.font.specs.Rules.{placeFrom}
 use Rattle.font.proofs.Passes.{place-step, place-here, place-end, place-none}
-use Rattle.font.proofs.place_of.Statement.{statement}
-use Rattle.font.proofs.place_of.Tie as tie
+use Rattle.font.proofs.rules.place_of.Statement.{statement}
+use Rattle.font.proofs.rules.place_of.Tie as tie
 
 abbrev Inv-loop : tie.InvT-loop
 Inv-loop font code left₀ at₀ left at = (left ≤ 95) × (at + left * 65539 ≤ 2 ^ 30) × (placeFrom font code left at ≡ placeFrom font code 95 5)

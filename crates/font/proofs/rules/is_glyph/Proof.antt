@@ -1,8 +1,8 @@
--- `font::is_glyph` meets its contract.
+-- `font::rules::is_glyph` meets its contract.
 -- Assumes nothing.
 use borrow.Author.Needs.{needs}
-use Rattle.font.proofs.is_glyph.Statement.{statement}
-use Rattle.font.proofs.is_glyph.Tie as tie
+use Rattle.font.proofs.rules.is_glyph.Statement.{statement}
+use Rattle.font.proofs.rules.is_glyph.Tie as tie
 
 byte-at-requires : tie.Need-byte-at-requires
 byte-at-requires c κs = search needs

@@ -1,11 +1,11 @@
--- `font::row_clean` meets its contract.
+-- `font::rules::row_clean` meets its contract.
 -- Assumes nothing.
 use Prim.Native.Nat.{_-_, _*_}
 use native.Mathlib.Omega.{arith}
 use borrow.Author.Needs.{needs}
 use Rattle.font.proofs.Passes.{unit-is, unit-some}
-use Rattle.font.proofs.row_clean.Statement.{statement}
-use Rattle.font.proofs.row_clean.Tie as tie
+use Rattle.font.proofs.rules.row_clean.Statement.{statement}
+use Rattle.font.proofs.rules.row_clean.Tie as tie
 
 row-bytes-requires : tie.Need-row-bytes-requires
 row-bytes-requires c κs = search needs

@@ -1,11 +1,11 @@
--- `font::byte_at` meets its contract.
+-- `font::rules::byte_at` meets its contract.
 -- Assumes nothing.
 use mathlib.Core.Path.{refl, sym}
 use native.Mathlib.Omega.{arith}
 use borrow.Author.Needs.{needs}
 use lib.ListN.{List·getD-eq-default}
-use Rattle.font.proofs.byte_at.Statement.{statement}
-use Rattle.font.proofs.byte_at.Tie as tie
+use Rattle.font.proofs.rules.byte_at.Statement.{statement}
+use Rattle.font.proofs.rules.byte_at.Tie as tie
 
 shared-slice-read-result : tie.Need-shared-slice-read-result
 shared-slice-read-result c = search needs

@@ -1,9 +1,9 @@
--- `font::headed_ok` meets its contract.
+-- `font::rules::headed_ok` meets its contract.
 -- Assumes nothing.
 use borrow.Author.Needs.{needs}
 use Rattle.font.specs.Rules.{headed}
-use Rattle.font.proofs.headed_ok.Statement.{statement}
-use Rattle.font.proofs.headed_ok.Tie as tie
+use Rattle.font.proofs.rules.headed_ok.Statement.{statement}
+use Rattle.font.proofs.rules.headed_ok.Tie as tie
 
 cell-width-requires : tie.Need-cell-width-requires
 cell-width-requires c κs = search needs

@@ -1,4 +1,4 @@
--- `font::part` meets its contract.
+-- `font::rules::part` meets its contract.
 -- Assumes nothing.
 use mathlib.Core.Path.{_≡_, sym, ap, _∙_}
 use Prim.Native.Nat.{_+_, ℕ, _-_}
@@ -6,8 +6,8 @@ use native.Mathlib.Omega.{arith}
 use borrow.Author.Needs.{needs}
 use lib.Seq.{take-nil, take-all}
 use lib.ListN.{length-drop, length, take, drop, drop-of-length-le}
-use Rattle.font.proofs.part.Statement.{statement}
-use Rattle.font.proofs.part.Tie as tie
+use Rattle.font.proofs.rules.part.Statement.{statement}
+use Rattle.font.proofs.rules.part.Tie as tie
 
 slice-aggregate-result : tie.Need-slice-aggregate-result
 slice-aggregate-result c = search needs

@@ -1,12 +1,12 @@
--- `font::glyph_ok` meets its contract.
+-- `font::rules::glyph_ok` meets its contract.
 -- Assumes nothing.
 use mathlib.Core.Path.{_≡_, sym, _∙_}
 use mathlib.Core.Bool.{_&&_}
 use borrow.Author.Needs.{needs}
 use Rattle.font.specs.Rules.{glyph, isGlyph, sized, coded}
 use Rattle.font.proofs.Passes.{both-so, both-not}
-use Rattle.font.proofs.glyph_ok.Statement.{statement}
-use Rattle.font.proofs.glyph_ok.Tie as tie
+use Rattle.font.proofs.rules.glyph_ok.Statement.{statement}
+use Rattle.font.proofs.rules.glyph_ok.Tie as tie
 
 is-glyph-requires : tie.Need-is-glyph-requires
 is-glyph-requires c κs = search needs

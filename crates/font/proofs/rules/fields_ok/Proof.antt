@@ -1,4 +1,4 @@
--- `font::fields_ok` meets its contract.
+-- `font::rules::fields_ok` meets its contract.
 -- Assumes nothing.
 use mathlib.Core.Path.{_≡_, refl, sym, _∙_}
 use Prim.Native.Nat.{_+_, _-_, _*_, _^_, _≤_}
@@ -7,8 +7,8 @@ use borrow.Author.Tests.{eq-eqb, ne-eqb, not-true, not-false}
 use borrow.Author.Needs.{needs}
 use Rattle.font.specs.Rules.{fieldsFrom}
 use Rattle.font.proofs.Passes.{fields-step, fields-end, fields-stop, fields-none}
-use Rattle.font.proofs.fields_ok.Statement.{statement}
-use Rattle.font.proofs.fields_ok.Tie as tie
+use Rattle.font.proofs.rules.fields_ok.Statement.{statement}
+use Rattle.font.proofs.rules.fields_ok.Tie as tie
 
 abbrev Inv-loop : tie.InvT-loop
 Inv-loop font left₀ last₀ at₀ left last at = (left ≤ 96) × (at + left * 65539 ≤ 2 ^ 29) × (fieldsFrom font left last at ≡ fieldsFrom font 96 31 5)

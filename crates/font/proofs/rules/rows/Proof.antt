@@ -1,11 +1,11 @@
--- `font::rows` meets its contract.
+-- `font::rules::rows` meets its contract.
 -- Assumes nothing.
 use native.Mathlib.Omega.{arith}
 use borrow.Author.Needs.{needs}
 use Rattle.font.specs.Rules.{rowsOf}
 use Rattle.font.proofs.Passes.{bytes-product}
-use Rattle.font.proofs.rows.Statement.{statement}
-use Rattle.font.proofs.rows.Tie as tie
+use Rattle.font.proofs.rules.rows.Statement.{statement}
+use Rattle.font.proofs.rules.rows.Tie as tie
 
 place-of-requires : tie.Need-place-of-requires
 place-of-requires c κs = search needs

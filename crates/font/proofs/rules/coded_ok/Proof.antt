@@ -1,8 +1,8 @@
--- `font::coded_ok` meets its contract.
+-- `font::rules::coded_ok` meets its contract.
 -- Assumes nothing.
 use borrow.Author.Needs.{needs}
-use Rattle.font.proofs.coded_ok.Statement.{statement}
-use Rattle.font.proofs.coded_ok.Tie as tie
+use Rattle.font.proofs.rules.coded_ok.Statement.{statement}
+use Rattle.font.proofs.rules.coded_ok.Tie as tie
 
 code-at-requires : tie.Need-code-at-requires
 code-at-requires c κs = search needs

@@ -1,10 +1,10 @@
--- `font::sized_ok` meets its contract.
+-- `font::rules::sized_ok` meets its contract.
 -- Assumes nothing.
 use native.Mathlib.Omega.{arith}
 use borrow.Author.Needs.{needs}
 use Rattle.font.proofs.Passes.{bytes-product}
-use Rattle.font.proofs.sized_ok.Statement.{statement}
-use Rattle.font.proofs.sized_ok.Tie as tie
+use Rattle.font.proofs.rules.sized_ok.Statement.{statement}
+use Rattle.font.proofs.rules.sized_ok.Tie as tie
 
 size-at-requires : tie.Need-size-at-requires
 size-at-requires c κs = search needs

@@ -1,8 +1,8 @@
--- `font::ended_ok` meets its contract.
+-- `font::rules::ended_ok` meets its contract.
 -- Assumes nothing.
 use borrow.Author.Needs.{needs}
-use Rattle.font.proofs.ended_ok.Statement.{statement}
-use Rattle.font.proofs.ended_ok.Tie as tie
+use Rattle.font.proofs.rules.ended_ok.Statement.{statement}
+use Rattle.font.proofs.rules.ended_ok.Tie as tie
 
 size-at-requires : tie.Need-size-at-requires
 size-at-requires c κs = search needs

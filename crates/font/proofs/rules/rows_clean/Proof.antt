@@ -1,4 +1,4 @@
--- `font::rows_clean` meets its contract.
+-- `font::rules::rows_clean` meets its contract.
 -- Assumes nothing.
 use mathlib.Core.Path.{_≡_, sym, ap, _∙_}
 use Prim.Native.Nat.{ℕ, _+_, _-_, _*_, _^_, _<_}
@@ -7,8 +7,8 @@ use borrow.Author.Tests.{not-true, not-false}
 use borrow.Author.Needs.{needs}
 use Rattle.font.specs.Rules.{cellHeight, rowsClean}
 use Rattle.font.proofs.Passes.{rows-step, rows-stop, rows-done}
-use Rattle.font.proofs.rows_clean.Statement.{statement}
-use Rattle.font.proofs.rows_clean.Tie as tie
+use Rattle.font.proofs.rules.rows_clean.Statement.{statement}
+use Rattle.font.proofs.rules.rows_clean.Tie as tie
 
 abbrev Inv-loop : tie.InvT-loop
 Inv-loop font at bytes row₀ left₀ row left = (left < 256) × (0 < row) × (row + left * 256 < 2 ^ 31 + 65536) × (rowsClean font left row ≡ rowsClean font (cellHeight font) at)
