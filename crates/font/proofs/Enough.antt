@@ -1,6 +1,6 @@
 -- The 96 fields that `legal` reads after the first are enough: to read on would change nothing, since codes rise and end at 126.
 -- Assumes nothing.
-use mathlib.Core.Path.{_≡_, refl, sym, ap, _∙_}
+use mathlib.Core.Path.{_≡_, refl, ap}
 use mathlib.Core.Bool.{Bool, true, false, cond, _&&_}
 use mathlib.Core.List.{List}
 use Prim.Native.Nat.{ℕ, zero, suc, _+_, _≤_, _<_}
@@ -9,7 +9,7 @@ use borrow.Author.Tests.{leb-true, ltb-true}
 use lib.Dec.{leb, ltb, eqb}
 use Rattle.font.specs.Rules.{tagAt, codeAt, nextField, isGlyph, sized, coded, rowsClean, cellHeight, glyph, ended, fieldsFrom}
 
-and-true : (a b : Bool) → (a && b) ≡ true → (a ≡ true) × (b ≡ true)
+pub and-true : (a b : Bool) → (a && b) ≡ true → (a ≡ true) × (b ≡ true)
 and-true true b e = (refl, e)
 and-true false b e = (e, let z : _≡_ {A = Bool} false true = e in cc)
 
