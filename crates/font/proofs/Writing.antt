@@ -11,7 +11,8 @@ use borrow.Author.Tests.{leb-true, ltb-true, eqb-true, le-leb, lt-ltb, eq-eqb, n
 use lib.ListN.{length, getD, take, drop, length-drop, drop-of-length-le, take-append-drop, List·getD-append}
 use lib.Seq.{getD-drop, getD-take, drop-drop, drop-at, drop-cons, length-take-le}
 use lib.Dec.{leb, ltb, eqb}
-use Rattle.font.specs.Rules.{tagAt, sizeAt, codeAt, nextField, cellWidth, cellHeight, headed, rowBytes, spareBits, rowClean, rowsClean, isGlyph, sized, coded, glyph, ended, fieldsFrom, legal}
+use Rattle.font.specs.Rules.{tagAt, sizeAt, codeAt, nextField, cellWidth, cellHeight, headed, rowBytes, spareBits}
+use Rattle.font.specs.Rules.{rowClean, rowsClean, isGlyph, sized, coded, glyph, ended, fieldsFrom, legal}
 use Rattle.font.specs.Written.{field, Cell, CellKept, Glyph, GlyphKept, GlyphsKept, glyphFields, written}
 use Rattle.font.proofs.Enough.{and-true}
 
@@ -82,13 +83,22 @@ module _ (font : List ℕ) where
         let t = tag-at at _ e in
         let wide = kept .wide in
         let long : length (g .rows) ≡ cellHeight font * rowBytes font = gk .whole in
-        rw (eq-eqb (tagAt font at) 2 t, eq-eqb _ _ s, d, le-leb 32 (g .code) (gk .least), le-leb (g .code) 126 (gk .most), lt-ltb last (g .code) (gk .rises))
+        rw (
+          eq-eqb (tagAt font at) 2 t,
+          eq-eqb _ _ s,
+          d,
+          le-leb 32 (g .code) (gk .least),
+          le-leb (g .code) 126 (gk .most),
+          lt-ltb last (g .code)
+              (gk .rises),
+        )
         (clean-all (cellHeight font) (at + 4)
         (λ k l. let n = room-for k l in
         let i : at + 4 + k * rowBytes font + rowBytes font - 1 ≡ at + 4 + (k * rowBytes font + rowBytes font - 1) = omega arith in
         moved i
         (ap (λ (b : ℕ). b % 2 ^ spareBits font)
-        (read-at (at + 4) (k * rowBytes font + rowBytes font - 1) _ rows-written ∙ List·getD-append (g .rows) rest 0 (k * rowBytes font + rowBytes font - 1) (omega arith))
+        (read-at (at + 4) (k * rowBytes font + rowBytes font - 1) _ rows-written
+        ∙ List·getD-append (g .rows) rest 0 (k * rowBytes font + rowBytes font - 1) (omega arith))
         ∙ gk .spare k l)))
 
     next-written : drop (nextField font at) font ≡ rest
@@ -124,8 +134,10 @@ module _ (font : List ℕ) where
 
   drop-three : (at : ℕ) → at + 3 ≤ length font → drop at font ≡ getD font at 0 ∷ getD font (at + 1) 0 ∷ getD font (at + 2) 0 ∷ drop (at + 3) font
   drop-three at h =
-      let a : drop (at + 1) font ≡ getD font (at + 1) 0 ∷ drop (at + 2) font = (let z : at + 1 + 1 ≡ at + 2 = omega arith in rw z at (drop-one (at + 1) (omega arith))) in
-      let b : drop (at + 2) font ≡ getD font (at + 2) 0 ∷ drop (at + 3) font = (let z : at + 2 + 1 ≡ at + 3 = omega arith in rw z at (drop-one (at + 2) (omega arith))) in
+      let a : drop (at + 1) font ≡ getD font (at + 1) 0 ∷ drop (at + 2)
+      font = (let z : at + 1 + 1 ≡ at + 2 = omega arith in rw z at (drop-one (at + 1) (omega arith))) in
+      let b : drop (at + 2) font ≡ getD font (at + 2) 0 ∷ drop (at + 3)
+      font = (let z : at + 2 + 1 ≡ at + 3 = omega arith in rw z at (drop-one (at + 2) (omega arith))) in
       drop-one at (omega arith) ∙ ap (λ (l : List ℕ). getD font at 0 ∷ l) (a ∙ ap (λ (l : List ℕ). getD font (at + 1) 0 ∷ l) b)
 
   reads-end : (last at : ℕ) → tagAt font at ≡ 255 → ended font at ≡ true → Reads last at
@@ -171,7 +183,8 @@ module _ (font : List ℕ) where
         let rest : drop (at + 4) font ≡ take m (drop (at + 4) font) ++ glyphFields (r .glyphs) =
         sym (take-append-drop m (drop (at + 4) font))
         ∙ ap (λ (l : List ℕ). take m (drop (at + 4) font) ++ l) (drop-drop m (at + 4) font ∙ ap (λ (n : ℕ). drop n font) (sym on) ∙ r .is) in
-        let code : drop (at + 3) font ≡ codeAt font at ∷ drop (at + 4) font = (let z : at + 3 + 1 ≡ at + 4 = omega arith in rw z at (drop-one (at + 3) (omega arith))) in
+        let code : drop (at + 3) font ≡ codeAt font at ∷ drop (at + 4)
+        font = (let z : at + 3 + 1 ≡ at + 4 = omega arith in rw z at (drop-one (at + 3) (omega arith))) in
         record {
           glyphs = (record { code = codeAt font at; rows = take m (drop (at + 4) font) }) ∷ r .glyphs;
           kept = (
@@ -242,5 +255,6 @@ legal-written font bytes e =
       cell = ck;
       kept = r .kept;
       is = drop-three font 0 (omega arith)
-          ∙ (λ i. t i ∷ low i ∷ high i ∷ (drop-one font 3 (omega arith) ∙ ap (λ (l : List ℕ). cellWidth font ∷ l) (drop-one font 4 (omega arith) ∙ ap (λ (l : List ℕ). cellHeight font ∷ l) (r .is))) i);
+          ∙ (λ i. t i ∷ low i ∷ high i ∷ (drop-one font 3 (omega arith)
+          ∙ ap (λ (l : List ℕ). cellWidth font ∷ l) (drop-one font 4 (omega arith) ∙ ap (λ (l : List ℕ). cellHeight font ∷ l) (r .is))) i);
     }

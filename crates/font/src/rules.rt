@@ -3,7 +3,8 @@ ghost use mathlib.Core.Path.{_≡_};
 ghost use mathlib.Core.Bool.{_&&_};
 ghost use Prim.Native.Nat.{ℕ, _+_, _-_, _*_, _/_, _%_, _^_, _≤_, _<_};
 ghost use lib.ListN.{length, getD, take, drop};
-ghost use Rattle.font.specs.Rules.{tagAt, sizeAt, codeAt, nextField, cellWidth, cellHeight, headed, rowBytes, rowClean, rowsClean, isGlyph, sized, coded, glyph, ended, fieldsFrom, legal, placeFrom, rowsOf};
+ghost use Rattle.font.specs.Rules.{sizeAt, codeAt, nextField, cellWidth, cellHeight, headed, rowBytes};
+ghost use Rattle.font.specs.Rules.{rowClean, rowsClean, isGlyph, sized, coded, glyph, ended, fieldsFrom, legal, placeFrom, rowsOf};
 
 fn both(a: bool, b: bool) -> bool
     ensures { λ r. ⌜ r ≡ (a && b) ⌝ }

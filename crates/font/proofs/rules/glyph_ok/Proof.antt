@@ -31,11 +31,21 @@ rows-clean-requires c κs = search needs
 
 returns : tie.Need-returns
 unfolding glyph
-returns c = let w = c .before .before in let a = w .before .before .before .before .before .before .args in let e : w .both2 .result ≡ (isGlyph (a .font .now) (a .at) && (sized (a .font .now) (a .at) && coded (a .font .now) (a .last) (a .at))) = cc in both-so _ _ _ (sym e ∙ c .before .if1 .taken) (c .rows-clean .ensures)
+returns c =
+    let w = c .before .before in
+    let a = w .before .before .before .before .before .before .args in
+    let e : w .both2 .result ≡ (isGlyph (a .font .now) (a .at) && (sized (a .font .now) (a .at) && coded (a .font .now) (a .last) (a .at))) = cc
+    in
+    both-so _ _ _ (sym e ∙ c .before .if1 .taken) (c .rows-clean .ensures)
 
 returns-2 : tie.Need-returns-2
 unfolding glyph
-returns-2 c = let w = c .before in let a = w .before .before .before .before .before .before .args in let e : w .both2 .result ≡ (isGlyph (a .font .now) (a .at) && (sized (a .font .now) (a .at) && coded (a .font .now) (a .last) (a .at))) = cc in both-not _ _ (sym e ∙ c .if1 .left)
+returns-2 c =
+    let w = c .before in
+    let a = w .before .before .before .before .before .before .args in
+    let e : w .both2 .result ≡ (isGlyph (a .font .now) (a .at) && (sized (a .font .now) (a .at) && coded (a .font .now) (a .last) (a .at))) = cc
+    in
+    both-not _ _ (sym e ∙ c .if1 .left)
 
 pub glyph-ok-spec : {M : Type 1} → statement M
 glyph-ok-spec =

@@ -28,7 +28,11 @@ part-result-end : tie.Need-part-result-end
 part-result-end c = search needs
 
 returns-2 : tie.Need-returns-2
-returns-2 c = let a = c .before .before .before .args in let e = length-drop (a .at) (a .s .now) in take-all (length (a .s .now) - a .at) (drop (a .at) (a .s .now)) (omega arith) ∙ sym (take-all (a .n) (drop (a .at) (a .s .now)) (omega arith))
+returns-2 c =
+    let a = c .before .before .before .args in
+    let e = length-drop (a .at) (a .s .now) in
+    take-all (length (a .s .now) - a .at) (drop (a .at) (a .s .now)) (omega arith)
+    ∙ sym (take-all (a .n) (drop (a .at) (a .s .now)) (omega arith))
 
 add-end : tie.Need-add-end
 add-end c = search needs
@@ -43,7 +47,10 @@ part-result-end-2 : tie.Need-part-result-end-2
 part-result-end-2 c = search needs
 
 returns-3 : tie.Need-returns-3
-returns-3 c = let a = c .before .before .before .args in let e : a .at + a .n - a .at ≡ a .n = omega arith in ap (λ (k : ℕ). take k (drop (a .at) (a .s .now))) e
+returns-3 c =
+    let a = c .before .before .before .args in
+    let e : a .at + a .n - a .at ≡ a .n = omega arith in
+    ap (λ (k : ℕ). take k (drop (a .at) (a .s .now))) e
 
 pub part-spec : {M : Type 1} → statement M
 part-spec =

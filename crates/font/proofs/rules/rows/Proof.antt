@@ -17,7 +17,14 @@ row-bytes-requires : tie.Need-row-bytes-requires
 row-bytes-requires c κs = search needs
 
 mul-part : tie.Need-mul-part
-mul-part c = record { fits = omega (arith, bytes-product (c .before .cell-height .result) (c .row-bytes .result) (c .before .cell-height .ensures .1) (c .row-bytes .ensures .1)) }
+mul-part c =
+    record {
+      fits = omega (
+        arith,
+        bytes-product (c .before .cell-height .result) (c .row-bytes .result) (c .before .cell-height .ensures .1)
+            (c .row-bytes .ensures .1),
+      );
+    }
 
 part-requires : tie.Need-part-requires
 part-requires c κs = search needs

@@ -16,10 +16,24 @@ row-bytes-requires : tie.Need-row-bytes-requires
 row-bytes-requires c κs = search needs
 
 mul-result : tie.Need-mul-result
-mul-result c = record { fits = omega (arith, bytes-product (c .before .cell-height .result) (c .row-bytes .result) (c .before .cell-height .ensures .1) (c .row-bytes .ensures .1)) }
+mul-result c =
+    record {
+      fits = omega (
+        arith,
+        bytes-product (c .before .cell-height .result) (c .row-bytes .result) (c .before .cell-height .ensures .1)
+            (c .row-bytes .ensures .1),
+      );
+    }
 
 add-result : tie.Need-add-result
-add-result c = record { fits = omega (arith, bytes-product (c .before .cell-height .result) (c .row-bytes .result) (c .before .cell-height .ensures .1) (c .row-bytes .ensures .1)) }
+add-result c =
+    record {
+      fits = omega (
+        arith,
+        bytes-product (c .before .cell-height .result) (c .row-bytes .result) (c .before .cell-height .ensures .1)
+            (c .row-bytes .ensures .1),
+      );
+    }
 
 returns : tie.Need-returns
 returns c = cc
