@@ -1,2 +1,4 @@
 -- Laws that belong to no one function.
 pub mod Placed
+pub mod Turns
+pub mod Bitmaps

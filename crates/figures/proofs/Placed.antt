@@ -43,7 +43,7 @@ spot-by (suc r) w h x y a b =
 pub spot : (r w h x y a b : ℕ) → Spot (λ f. placed r w h x y f a b) w h
 spot r w h x y a b = spot-by (r % 4) w h x y a b
 
-guarded : (s a b : Bool) → (s ≡ true → a ≡ b) → (s && a) ≡ (s && b)
+pub guarded : (s a b : Bool) → (s ≡ true → a ≡ b) → (s && a) ≡ (s && b)
 guarded true a b e = e refl
 guarded false a b e = refl
 

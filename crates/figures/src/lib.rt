@@ -5,10 +5,10 @@
 use dots::Ink;
 ghost use mathlib.Core.Path.{_≡_};
 ghost use Prim.Native.Nat.{ℕ, _+_, _-_, _*_, _/_, _%_, _≤_, _<_, min};
-ghost use mathlib.Core.Bool.{_&&_};
+ghost use mathlib.Core.Bool.{cond, not, _&&_};
 ghost use lib.ListN.{getD};
 ghost use Rattle.dots.specs.Dots.{bitOf, drawn, box, cut};
-ghost use Rattle.figures.specs.Figures.{bitmap, bitRow, rowOf, scaled, shifted, placed};
+ghost use Rattle.figures.specs.Figures.{bitmap, bitRow, rowOf, scaled, shifted, placed, Run};
 
 // a less b, and 0 where b is more.
 fn less(a: usize, b: usize) -> usize
@@ -86,5 +86,159 @@ pub fn ink_part(
         1 => ink_from(page, ink, width, length, x, y, top, u0, bottom, u2),
         2 => ink_from(page, ink, width, length, x, y, left, top, right, bottom),
         _ => ink_from(page, ink, width, length, x, y, v0, left, v2, right),
+    }
+}
+
+// d and g times m, or the greatest number there is.
+fn edge(d: usize, g: usize, m: usize) -> usize
+    ensures { λ r. ⌜ r ≡ min 18446744073709551615 (d + g * m) ⌝ }
+{
+    if m == 0 {
+        return d;
+    }
+    let room = 18446744073709551615 - d;
+    if room / m < g {
+        return 18446744073709551615;
+    }
+    d + g * m
+}
+
+// Whether dot g of the row of a bitmap that starts at byte `at` is black.
+fn black(bits: &[u8], at: usize, g: usize) -> bool
+    ensures { λ r. ⌜ r ≡ bitRow (now (bits .entry)) at g ⌝ }
+{
+    let i = capped_sum(at, g / 8);
+    if i < bits.len() {
+        return (bits[i] >> (7 - g % 8)) % 2 == 1;
+    }
+    false
+}
+
+// Whether just one of two tests passes.
+fn differ(a: bool, b: bool) -> bool
+    ensures { λ r. ⌜ r ≡ cond a (not b) b ⌝ }
+{
+    if a { !b } else { b }
+}
+
+// Where the run of equal dots ends that starts at dot g of a row of w dots.
+fn run_end(bits: &[u8], at: usize, g: usize, w: usize) -> usize
+    requires { ⌜ g < w ⌝ }
+    ensures { λ r. ⌜ Run (bitRow (now (bits .entry)) at) g w r ⌝ }
+{
+    let on = black(bits, at, g);
+    let mut e = g + 1;
+    while e < w {
+        if differ(black(bits, at, e), on) {
+            return e;
+        }
+        e += 1;
+    }
+    e
+}
+
+// Draws a part of a figure, as `ink_part` does, where it is on.
+fn ink_run(
+    page: &mut [u8],
+    ink: Ink,
+    width: usize,
+    length: usize,
+    r: usize,
+    x: usize,
+    y: usize,
+    w: usize,
+    h: usize,
+    on: bool,
+    u0: usize,
+    v0: usize,
+    u1: usize,
+    v1: usize,
+)
+    ensures { λ _. ⌜ now (page .exit) ≡ drawn ink (cut width length (placed r w h x y (λ u v. on && box u0 v0 u1 v1 u v))) (now (page .entry)) ⌝ }
+{
+    if !on {
+        return;
+    }
+    ink_part(page, ink, width, length, r, x, y, w, h, u0, v0, u1, v1);
+}
+
+// Draws one row of a bitmap in spans: the bw dots from byte `at` on, each hm dots wide, as the rows v0 up to v1 of a figure that starts at d.
+fn ink_row(
+    page: &mut [u8],
+    ink: Ink,
+    width: usize,
+    length: usize,
+    r: usize,
+    x: usize,
+    y: usize,
+    w: usize,
+    h: usize,
+    d: usize,
+    bits: &[u8],
+    at: usize,
+    bw: usize,
+    hm: usize,
+    v0: usize,
+    v1: usize,
+)
+    ensures { λ _. ⌜ now (page .exit) ≡ drawn ink (cut width length (placed r w h x y (shifted d (rowOf (bitRow (now (bits .entry)) at) bw hm v0 v1)))) (now (page .entry)) ⌝ }
+{
+    let mut g = 0;
+    while g < bw {
+        let e = run_end(bits, at, g, bw);
+        let on = black(bits, at, g);
+        let u0 = edge(d, g, hm);
+        let u1 = edge(d, e, hm);
+        ink_run(page, ink, width, length, r, x, y, w, h, on, u0, v0, u1, v1);
+        g = e;
+    }
+}
+
+// Draws a bitmap of bw by bh dots, whose rows are of `stride` bytes, each dot hm dots wide and vm high, d to the right of the corner of a figure in a
+// box of w by h dots, which is turned by r quarters and then has its corner at (x, y).
+pub fn ink_bitmap(
+    page: &mut [u8],
+    ink: Ink,
+    width: usize,
+    length: usize,
+    r: usize,
+    x: usize,
+    y: usize,
+    w: usize,
+    h: usize,
+    d: usize,
+    bits: &[u8],
+    stride: usize,
+    bw: usize,
+    bh: usize,
+    hm: usize,
+    vm: usize,
+)
+    ensures { λ _. ⌜ now (page .exit) ≡ drawn ink (cut width length (placed r w h x y (shifted d (scaled bw bh hm vm (bitmap (now (bits .entry)) stride))))) (now (page .entry)) ⌝ }
+{
+    let mut g = 0;
+    while g < bh {
+        let at = edge(0, g, stride);
+        let v0 = edge(0, g, vm);
+        let v1 = edge(0, g + 1, vm);
+        ink_row(
+            page,
+            ink,
+            width,
+            length,
+            r,
+            x,
+            y,
+            w,
+            h,
+            d,
+            bits,
+            at,
+            bw,
+            hm,
+            v0,
+            v1,
+        );
+        g += 1;
     }
 }
