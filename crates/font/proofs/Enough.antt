@@ -8,10 +8,7 @@ use native.Mathlib.Omega.{arith}
 use borrow.Author.Tests.{leb-true, ltb-true}
 use lib.Dec.{leb, ltb, eqb}
 use Rattle.font.specs.Rules.{tagAt, codeAt, nextField, isGlyph, sized, coded, rowsClean, cellHeight, glyph, ended, fieldsFrom}
-
-pub and-true : (a b : Bool) → (a && b) ≡ true → (a ≡ true) × (b ≡ true)
-and-true true b e = (refl, e)
-and-true false b e = (e, let z : _≡_ {A = Bool} false true = e in cc)
+use Rattle.dots.proofs.Bits.{and-true}
 
 -- what two tests go on with matters only where the test is true
 same-after : (a p q : Bool) → (a ≡ true → p ≡ q) → (a && p) ≡ (a && q)

@@ -2,3 +2,5 @@
 pub mod Passes
 pub mod Enough
 pub mod Writing
+pub mod Cells
+pub mod Lines

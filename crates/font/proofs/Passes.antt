@@ -92,3 +92,10 @@ module _ (font : List ℕ) where
     unfolding placeFrom
     place-none zero at h = refl
     place-none (suc n) at h = absurd (omega arith)
+
+-- how long a text can be, and how wide and high a cell
+pub byte-times : (a b k : ℕ) → a < 256 → b ≤ k → a * b ≤ 255 * k
+byte-times a b k g h = mul-le-mul {n₁ = a} {m₁ = b} {n₂ = 255} {m₂ = k} (omega arith) h
+
+pub text-times : (n m k : ℕ) → n ≤ 128 → m ≤ k → n * m ≤ 128 * k
+text-times n m k g h = mul-le-mul {n₁ = n} {m₁ = m} {n₂ = 128} {m₂ = k} g h

@@ -14,7 +14,7 @@ use lib.Dec.{leb, ltb, eqb}
 use Rattle.font.specs.Rules.{tagAt, sizeAt, codeAt, nextField, cellWidth, cellHeight, headed, rowBytes, spareBits}
 use Rattle.font.specs.Rules.{rowClean, rowsClean, isGlyph, sized, coded, glyph, ended, fieldsFrom, legal}
 use Rattle.font.specs.Written.{field, Cell, CellKept, Glyph, GlyphKept, GlyphsKept, glyphFields, written}
-use Rattle.font.proofs.Enough.{and-true}
+use Rattle.dots.proofs.Bits.{and-true}
 
 abbrev pub cellOf : List ℕ → Cell
 cellOf font = record { width = cellWidth font; height = cellHeight font }

@@ -1,9 +1,12 @@
 -- What the definitions say of small fonts, computed.
 -- Assumes nothing.
-use Prim.Native.Nat.{ℕ}
+use Prim.Native.Nat.{ℕ, _*_}
 use mathlib.Core.Path.{_≡_, refl}
-use mathlib.Core.Bool.{true, false}
+use mathlib.Core.Bool.{Bool, true, false}
 use mathlib.Core.List.{List, [], _∷_, _++_}
+use lib.ListN.{getD, replicate}
+use Rattle.dots.specs.Dots.{drawn, redrawn}
+use Rattle.font.specs.Text.{inMode, textDrawn}
 use Rattle.font.specs.Rules.{headed, rowsClean, glyph, fieldsFrom, legal, placeFrom, rowsOf}
 
 -- the empty font of 8 by 8 dots
@@ -64,3 +67,27 @@ more = refl
 unended : legal (cell ++ glyphL) ≡ false
 unfolding cell glyphL headed rowsClean glyph fieldsFrom legal
 unended = refl
+
+-- ---- texts: LT at 1,0 on a page of two rows, in each mode, and turned once
+seen : ℕ → Bool → ℕ → List ℕ
+seen r reverse rows =
+    textDrawn 608 9 1 0 r 1 1 reverse (cell ++ (glyphL ++ (glyphT ++ end))) (76 ∷ 84 ∷ []) (replicate (rows * 76) 0)
+
+-- .X....XXXXX
+-- .XXXXX..X..
+upright : let p = seen 0 false 2 in getD p 0 0 ∷ getD p 1 0 ∷ getD p 76 0 ∷ getD p 77 0 ∷ [] ≡ 67 ∷ 224 ∷ 124 ∷ 128 ∷ []
+unfolding seen cell glyphL glyphT end headed rowsClean glyph fieldsFrom legal placeFrom rowsOf inMode textDrawn drawn redrawn
+upright = refl
+
+-- ..XXXX.....
+-- ......XX.XX
+reversed : let p = seen 0 true 2 in getD p 0 0 ∷ getD p 1 0 ∷ getD p 76 0 ∷ getD p 77 0 ∷ [] ≡ 60 ∷ 0 ∷ 3 ∷ 96 ∷ []
+unfolding seen cell glyphL glyphT end headed rowsClean glyph fieldsFrom legal placeFrom rowsOf inMode textDrawn drawn redrawn
+reversed = refl
+
+-- .XX, .X., .X., .X., .X., ..X, ..X, .XX, ..X, and the last row, which the length cuts off
+once : let p = seen 1 false 10 in
+    getD p 0 0 ∷ getD p 76 0 ∷ getD p 152 0 ∷ getD p 228 0 ∷ getD p 304 0 ∷ getD p 380 0 ∷ getD p 456 0 ∷ getD p 532 0 ∷ getD p 608 0 ∷ getD p 684 0 ∷ []
+    ≡ 96 ∷ 64 ∷ 64 ∷ 64 ∷ 64 ∷ 32 ∷ 32 ∷ 96 ∷ 32 ∷ 0 ∷ []
+unfolding seen cell glyphL glyphT end headed rowsClean glyph fieldsFrom legal placeFrom rowsOf inMode textDrawn drawn redrawn
+once = refl

@@ -6,7 +6,7 @@ ghost use lib.ListN.{length, getD, take, drop};
 ghost use Rattle.font.specs.Rules.{sizeAt, codeAt, nextField, cellWidth, cellHeight, headed, rowBytes};
 ghost use Rattle.font.specs.Rules.{rowClean, rowsClean, isGlyph, sized, coded, glyph, ended, fieldsFrom, legal, placeFrom, rowsOf};
 
-fn both(a: bool, b: bool) -> bool
+pub fn both(a: bool, b: bool) -> bool
     ensures { λ r. ⌜ r ≡ (a && b) ⌝ }
 {
     if a { b } else { false }
