@@ -14,6 +14,7 @@ use lib.Dec.{leb}
 use Rattle.dots.specs.declared.Ink.{Ink}
 use Rattle.dots.specs.Dots.{drawn, box}
 use Rattle.figures.specs.Figures.{bitmap, scaled, shifted}
+use Rattle.font.specs.declared.text.Spot.{Spot}
 use Rattle.font.specs.Rules.{cellWidth, cellHeight, rowBytes, rowsOf}
 use Rattle.font.specs.Text.{sideBySide, glyphOf, along, down, onLabel}
 use Rattle.dots.proofs.Pages.{Bytes}
@@ -71,21 +72,22 @@ pub cells-none : (m d : ℕ) (cell : ℕ → ℕ → ℕ → Bool) (u w : ℕ) �
 cells-none m d cell u w = rw (not-in-box 0 0 (0 * m) d u w (λ h. omega arith))
 
 -- ---- on the page
-module _ (ink : Ink) (width height r x y across high : ℕ) (font : List ℕ) (h v : ℕ) (text p : List ℕ) where
+module _ (ink : Ink) (s : Spot) (font : List ℕ) (h v : ℕ) (text p : List ℕ) where
   -- the page with the glyphs of the first n bytes drawn
   abbrev pub drawnTo : ℕ → List ℕ
-  drawnTo n = drawn ink (onLabel width height r x y across high (sideBySide n (along font h) (down font v) (glyphOf font h v text))) p
+  drawnTo n = drawn ink (onLabel s (sideBySide n (along font h) (down font v) (glyphOf font h v text))) p
 
   pub glyphs-start : Bytes p → p ≡ drawnTo 0
   glyphs-start by =
-      none-placed ink width height r across high x y _ p by (λ u w i j. cells-none (along font h) (down font v) (glyphOf font h v text) u w)
+      none-placed ink (s .width) (s .length) (s .r) (s .wide) (s .high) (s .x) (s .y) _ p by
+      (λ u w i j. cells-none (along font h) (down font v) (glyphOf font h v text) u w)
 
   -- one glyph more, as the code draws it
   pub glyphs-next : (n u wide tall stride : ℕ) (rows q t : List ℕ) → q ≡ drawnTo n
-      → t ≡ drawn ink (onLabel width height r x y across high (shifted u (scaled wide tall h v (bitmap rows stride)))) q
+      → t ≡ drawn ink (onLabel s (shifted u (scaled wide tall h v (bitmap rows stride)))) q
       → u ≡ n * along font h → wide ≡ cellWidth font → tall ≡ cellHeight font → stride ≡ rowBytes font → rows ≡ rowsOf font (getD text n 0)
       → t ≡ drawnTo (n + 1)
   glyphs-next n u wide tall stride rows q t e d eu ew et es er =
-      then-placed ink width height r across high x y _ _ _ p q t e
-      (d ∙ (λ i. drawn ink (onLabel width height r x y across high (shifted (eu i) (scaled (ew i) (et i) h v (bitmap (er i) (es i))))) q))
+      then-placed ink (s .width) (s .length) (s .r) (s .wide) (s .high) (s .x) (s .y) _ _ _ p q t e
+      (d ∙ (λ i. drawn ink (onLabel s (shifted (eu i) (scaled (ew i) (et i) h v (bitmap (er i) (es i))))) q))
       (λ a b i j. cells-join (along font h) (down font v) (glyphOf font h v text) n a b)

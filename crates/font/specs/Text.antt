@@ -9,6 +9,7 @@ use lib.Dec.{leb}
 use Rattle.dots.specs.declared.Ink.the-variants.{Black, White}
 use Rattle.dots.specs.Dots.{drawn, cut, box}
 use Rattle.figures.specs.Figures.{bitmap, placed}
+use Rattle.font.specs.declared.text.Spot.{Spot}
 use Rattle.font.specs.Rules.{cellWidth, cellHeight, rowBytes, rowsOf, legal}
 
 -- n cells of m by d dots side by side in one box; dot u, w of cell k is cell k u w
@@ -30,22 +31,24 @@ down font v = cellHeight font * v
 abbrev pub glyphs : List ℕ → ℕ → ℕ → List ℕ → ℕ → ℕ → Bool
 glyphs font h v text = sideBySide (length text) (along font h) (down font v) (glyphOf font h v text)
 
--- where a figure in the box of a text stands on the page
-abbrev pub onLabel : ℕ → ℕ → ℕ → ℕ → ℕ → ℕ → ℕ → (ℕ → ℕ → Bool) → ℕ → ℕ → Bool
-onLabel width high r x y across deep figure = cut width high (placed r across deep x y figure)
+-- where a figure in the box of a text is seen
+abbrev pub onLabel : Spot → (ℕ → ℕ → Bool) → ℕ → ℕ → Bool
+onLabel s figure = cut (s .width) (s .length) (placed (s .r) (s .wide) (s .high) (s .x) (s .y) figure)
+
+-- "N sets glyph dots black; R sets the whole cell black, glyph dots white."
+unfoldable pub inMode : Bool → Spot → (ℕ → ℕ → Bool) → List ℕ → List ℕ
+inMode false s figure page = drawn Black (onLabel s figure) page
+inMode true s figure page = drawn White (onLabel s figure) (drawn Black (onLabel s (box 0 0 (s .wide) (s .high))) page)
+
+-- the box of a text of n bytes: n times a cell's width by a cell's height, scaled
+abbrev pub spotOf : ℕ → ℕ → ℕ → ℕ → ℕ → ℕ → ℕ → List ℕ → ℕ → Spot
+spotOf width length x y r h v font n =
+    record { width = width; length = length; r = r; x = x; y = y; wide = n * along font h; high = down font v }
 
 -- what is drawn: a text of at most 128 bytes, scaled within the limits, in a legal font
 abbrev pub drawable : List ℕ → ℕ → ℕ → List ℕ → Bool
 drawable font h v text = legal font && (leb h 6 && (leb v 9 && leb (length text) 128))
 
--- "N sets glyph dots black; R sets the whole cell black, glyph dots white."
-unfoldable pub inMode : Bool → (ℕ → ℕ → Bool) → (ℕ → ℕ → Bool) → List ℕ → List ℕ
-inMode false whole dots page = drawn Black dots page
-inMode true whole dots page = drawn White dots (drawn Black whole page)
-
--- the page with a text drawn: its whole cells are the box of n times a cell's width by a cell's height
 unfoldable pub textDrawn : ℕ → ℕ → ℕ → ℕ → ℕ → ℕ → ℕ → Bool → List ℕ → List ℕ → List ℕ → List ℕ
-textDrawn width high x y r h v reverse font text page =
-    let across = length text * along font h in
-    let at = onLabel width high r x y across (down font v) in
-    cond (drawable font h v text) (inMode reverse (at (box 0 0 across (down font v))) (at (glyphs font h v text)) page) page
+textDrawn width height x y r h v reverse font text page =
+    cond (drawable font h v text) (inMode reverse (spotOf width height x y r h v font (length text)) (glyphs font h v text) page) page

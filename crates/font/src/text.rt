@@ -6,6 +6,17 @@ ghost use Rattle.font.specs.Text.{glyphs, onLabel, drawable, inMode, tex
 use crate::rules;
 use dots::Ink;
 
+// Where the box of a text stands: a label's width and length, the turn and the corner, and the box's own size before the turn.
+struct Spot {
+    width: usize,
+    length: usize,
+    r: usize,
+    x: usize,
+    y: usize,
+    wide: usize,
+    high: usize,
+}
+
 // Whether a text is drawn at all: a legal font, and numbers within their limits.
 fn drawable_ok(font: &[u8], h: usize, v: usize, text: &[u8]) -> bool
     ensures { λ r. ⌜ r ≡ drawable (now (font .entry)) h v (now (text .entry)) ⌝ }
@@ -16,48 +27,34 @@ fn drawable_ok(font: &[u8], h: usize, v: usize, text: &[u8]) -> bool
     )
 }
 
-// Draws the glyphs of a text, in a box of `across` by `down` dots.
-fn ink_glyphs(
-    page: &mut [u8],
-    ink: Ink,
-    width: usize,
-    length: usize,
-    r: usize,
-    x: usize,
-    y: usize,
-    across: usize,
-    down: usize,
-    h: usize,
-    v: usize,
-    font: &[u8],
-    text: &[u8],
-)
+// Draws the glyphs of a text.
+fn ink_glyphs(page: &mut [u8], ink: Ink, s: Spot, h: usize, v: usize, font: &[u8], text: &[u8])
     requires { do ⌜ (h ≤ 6) × ((← ⟦text.len()⟧) ≤ 128) ⌝ }
-    ensures { λ _. ⌜ now (page .exit) ≡ drawn ink (onLabel width length r x y across down (glyphs (now (font .entry)) h v (now (text .entry)))) (now (page .entry)) ⌝ }
+    ensures { λ _. ⌜ now (page .exit) ≡ drawn ink (onLabel s (glyphs (now (font .entry)) h v (now (text .entry)))) (now (page .entry)) ⌝ }
 {
-    let wide = rules::cell_width(font);
-    let high = rules::cell_height(font);
+    let cell = rules::cell_width(font);
+    let rows = rules::cell_height(font);
     let stride = rules::row_bytes(font);
-    let step = wide * h;
+    let step = cell * h;
     let mut n = 0;
     let mut u: usize = 0;
     while n < text.len() {
-        let rows = rules::rows(font, text[n] as usize);
+        let bits = rules::rows(font, text[n] as usize);
         figures::ink_bitmap(
             page,
             ink,
-            width,
-            length,
-            r,
-            x,
-            y,
-            across,
-            down,
+            s.width,
+            s.length,
+            s.r,
+            s.x,
+            s.y,
+            s.wide,
+            s.high,
             u,
-            rows,
+            bits,
             stride,
-            wide,
-            high,
+            cell,
+            rows,
             h,
             v,
         );
@@ -66,73 +63,38 @@ fn ink_glyphs(
     }
 }
 
-// Draws a text in its mode, in a box of `across` by `down` dots.
-fn ink_text(
-    page: &mut [u8],
-    width: usize,
-    length: usize,
-    r: usize,
-    x: usize,
-    y: usize,
-    across: usize,
-    down: usize,
-    h: usize,
-    v: usize,
-    reverse: bool,
-    font: &[u8],
-    text: &[u8],
-)
-    requires { do ⌜ (h ≤ 6) × ((← ⟦text.len()⟧) ≤ 128) ⌝ }
-    ensures { λ _. ⌜ now (page .exit) ≡ inMode reverse (onLabel width length r x y across down (box 0 0 across down)) (onLabel width length r x y across down (glyphs (now (font .entry)) h v (now (text .entry)))) (now (page .entry)) ⌝ }
+// Blackens the whole box of a text.
+fn ink_cells(page: &mut [u8], s: Spot)
+    ensures { λ _. ⌜ now (page .exit) ≡ drawn Ink.Black (onLabel s (box 0 0 (s .wide) (s .high))) (now (page .entry)) ⌝ }
 {
-    if !reverse {
-        ink_glyphs(
-            page,
-            Ink::Black,
-            width,
-            length,
-            r,
-            x,
-            y,
-            across,
-            down,
-            h,
-            v,
-            font,
-            text,
-        );
-        return;
-    }
     figures::ink_part(
         page,
         Ink::Black,
-        width,
-        length,
-        r,
-        x,
-        y,
-        across,
-        down,
+        s.width,
+        s.length,
+        s.r,
+        s.x,
+        s.y,
+        s.wide,
+        s.high,
         0,
         0,
-        across,
-        down,
+        s.wide,
+        s.high,
     );
-    ink_glyphs(
-        page,
-        Ink::White,
-        width,
-        length,
-        r,
-        x,
-        y,
-        across,
-        down,
-        h,
-        v,
-        font,
-        text,
-    );
+}
+
+// Draws a text in its mode.
+fn ink_text(page: &mut [u8], reverse: bool, s: Spot, h: usize, v: usize, font: &[u8], text: &[u8])
+    requires { do ⌜ (h ≤ 6) × ((← ⟦text.len()⟧) ≤ 128) ⌝ }
+    ensures { λ _. ⌜ now (page .exit) ≡ inMode reverse s (glyphs (now (font .entry)) h v (now (text .entry))) (now (page .entry)) ⌝ }
+{
+    if reverse {
+        ink_cells(page, s);
+        ink_glyphs(page, Ink::White, s, h, v, font, text);
+    } else {
+        ink_glyphs(page, Ink::Black, s, h, v, font, text);
+    }
 }
 
 // `Ax,y,r,h,v,m,data`: draws a text, cut at width and length; reverse is mode R.
@@ -154,21 +116,16 @@ pub fn draw(
     if !drawable_ok(font, h, v, text) {
         return;
     }
-    let across = text.len() * (rules::cell_width(font) * h);
-    let down = rules::cell_height(font) * v;
-    ink_text(
-        page,
+    let wide = text.len() * (rules::cell_width(font) * h);
+    let high = rules::cell_height(font) * v;
+    let s = Spot {
         width,
         length,
         r,
         x,
         y,
-        across,
-        down,
-        h,
-        v,
-        reverse,
-        font,
-        text,
-    );
+        wide,
+        high,
+    };
+    ink_text(page, reverse, s, h, v, font, text);
 }

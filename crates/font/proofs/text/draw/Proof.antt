@@ -1,7 +1,7 @@
 -- `font::text::draw` meets its contract.
 -- Assumes nothing.
-use mathlib.Core.Path.{sym, ap, _∙_}
-use Prim.Native.Nat.{ℕ, _*_}
+use mathlib.Core.Path.{sym, _∙_}
+use Prim.Native.Nat.{_*_}
 use native.Mathlib.Omega.{arith}
 use borrow.Author.Tests.{not-true, not-false}
 use borrow.Author.Needs.{needs}
@@ -23,28 +23,22 @@ returns c =
 cell-width-requires : tie.Need-cell-width-requires
 cell-width-requires c κs = search needs
 
-mul-across : tie.Need-mul-across
-mul-across c = let k = c .before .before in let a = k .before .before .before .before .args in
+mul-wide : tie.Need-mul-wide
+mul-wide c = let k = c .before .before in let a = k .before .before .before .before .args in
     let d = drawable-says (a .font .now) (a .h) (a .v) (a .text .now) (sym (k .drawable-ok .ensures) ∙ not-false _ (c .before .if1 .left)) in
     record { fits = omega (arith, byte-times (c .cell-width .result) (a .h) 6 (c .cell-width .ensures .1) (d .wide)) }
 
-mul-across-2 : tie.Need-mul-across-2
-mul-across-2 c = let k = c .before .before in let a = k .before .before .before .before .args in
+mul-wide-2 : tie.Need-mul-wide-2
+mul-wide-2 c = let k = c .before .before in let a = k .before .before .before .before .args in
     let d = drawable-says (a .font .now) (a .h) (a .v) (a .text .now) (sym (k .drawable-ok .ensures) ∙ not-false _ (c .before .if1 .left)) in
-    record {
-      fits =
-          omega (
-            arith,
-            text-times (length (a .text .now)) (c .cell-width .result * a .h) 1530 (d .short)
-                (byte-times (c .cell-width .result) (a .h) 6 (c .cell-width .ensures .1) (d .wide)),
-          );
-    }
+    let small = byte-times (c .cell-width .result) (a .h) 6 (c .cell-width .ensures .1) (d .wide) in
+    record { fits = omega (arith, text-times (length (a .text .now)) (c .cell-width .result * a .h) 1530 (d .short) small) }
 
 cell-height-requires : tie.Need-cell-height-requires
 cell-height-requires c κs = search needs
 
-mul-down : tie.Need-mul-down
-mul-down c = let k = c .before .before .before in let a = k .before .before .before .before .args in
+mul-high : tie.Need-mul-high
+mul-high c = let k = c .before .before .before in let a = k .before .before .before .before .args in
     let d = drawable-says (a .font .now) (a .h) (a .v) (a .text .now) (sym (k .drawable-ok .ensures) ∙ not-false _ (c .before .before .if1 .left)) in
     record { fits = omega (arith, byte-times (c .cell-height .result) (a .v) 9 (c .cell-height .ensures .1) (d .high)) }
 
@@ -63,11 +57,18 @@ returns-2 c =
     let m = k .before .before .before in
     let g = m .before .before in
     let a = g .before .before .before .before .args in
-    text-drawn (a .width) (a .length) (a .x) (a .y) (a .r) (a .h) (a .v) (a .reverse) (a .font .now) (a .text .now) (a .page .now) _ _
+    text-drawn (a .width) (a .length) (a .x) (a .y) (a .r) (a .h) (a .v) (a .reverse) (a .font .now) (a .text .now) (a .page .now) _
     (k .ink-text .last .0)
     (sym (g .drawable-ok .ensures) ∙ not-false _ (m .before .if1 .left))
-    (ap (λ (w : ℕ). length (a .text .now) * (w * a .h)) (m .cell-width .ensures .0))
-    (ap (λ (w : ℕ). w * a .v) (k .before .before .cell-height .ensures .0))
+    (λ i. record {
+      width = a .width;
+      length = a .length;
+      r = a .r;
+      x = a .x;
+      y = a .y;
+      wide = length (a .text .now) * (m .cell-width .ensures .0 i * a .h);
+      high = k .before .before .cell-height .ensures .0 i * a .v;
+    })
     (k .ink-text .ensures)
 
 pub draw-spec : {M : Type 1} → statement M
@@ -77,10 +78,10 @@ draw-spec =
     drawable-ok-requires
     returns
     cell-width-requires
-    mul-across
-    mul-across-2
+    mul-wide
+    mul-wide-2
     cell-height-requires
-    mul-down
+    mul-high
     ink-text-requires
     same-length
     returns-2)

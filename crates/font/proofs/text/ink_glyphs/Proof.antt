@@ -7,17 +7,16 @@ use borrow.Author.Needs.{needs}
 use lib.ListN.{length}
 use Rattle.font.specs.Text.{along}
 use Rattle.font.proofs.Passes.{byte-times}
-use Rattle.font.proofs.Cells.{next-times, drawnTo, glyphs-start, glyphs-next}
+use Rattle.font.proofs.Cells.{drawnTo, glyphs-start, glyphs-next, next-times}
 use Rattle.font.proofs.text.ink_glyphs.Statement.{statement}
 use Rattle.font.proofs.text.ink_glyphs.Tie as tie
 
 abbrev Inv-loop : tie.InvT-loop
-Inv-loop page₀ ink width height r x y across down h v font text wide high stride step n₀ u₀ page n u =
-    (n ≤ length text) × (u ≡ n * along font h) × (u ≤ n * 1530) × (page ≡ drawnTo ink width height r x y across down font h v text page₀ n) ×
-    (length page ≡ length page₀)
+Inv-loop page₀ ink s h v font text cell rows stride step n₀ u₀ page n u =
+    (n ≤ length text) × (u ≡ n * along font h) × (u ≤ n * 1530) × (page ≡ drawnTo ink s font h v text page₀ n) × (length page ≡ length page₀)
 
 abbrev μ-loop : tie.MeasureT-loop
-μ-loop page₀ ink width height r x y across down h v font text wide high stride step n₀ u₀ page n u = length text - n
+μ-loop page₀ ink s h v font text cell rows stride step n₀ u₀ page n u = length text - n
 
 cell-width-requires : tie.Need-cell-width-requires Inv-loop μ-loop
 cell-width-requires c κs = search needs
@@ -43,8 +42,8 @@ loop-holds c = let a = c .before .before .before .before .before .before .args i
   search needs,
   omega arith,
   search needs,
-  glyphs-start (a .ink) (a .width) (a .length) (a .r) (a .x) (a .y) (a .across) (a .down) (a .font .now) (a .h) (a .v) (a .text .now)
-      (a .page .now) (λ j. omega (arith, c .before .before .before .before .before .slice-known .given j)),
+  glyphs-start (a .ink) (a .s) (a .font .now) (a .h) (a .v) (a .text .now) (a .page .now)
+      (λ j. omega (arith, c .before .before .before .before .before .slice-known .given j)),
   refl,
 )
 
@@ -84,12 +83,10 @@ loop-again c =
       search needs,
       omega (arith, next-times (l .loop .n) (along (a .font .now) (a .h)), ap (λ (m : ℕ). m * a .h) (w .cell-width .ensures .0)),
       omega arith,
-      glyphs-next (a .ink) (a .width) (a .length) (a .r) (a .x) (a .y) (a .across) (a .down) (a .font .now) (a .h) (a .v) (a .text .now)
-          (a .page .now)
+      glyphs-next (a .ink) (a .s) (a .font .now) (a .h) (a .v) (a .text .now) (a .page .now)
           (l .loop .n) (l .loop .u) (w .cell-width .result) (l .before .before .cell-height .result) (l .before .row-bytes .result) _
-          (l .loop .page) (k .ink-bitmap .last .0)
-          (l .loop .inv .3) (k .ink-bitmap .ensures) (l .loop .inv .1) (w .cell-width .ensures .0) (l .before .before .cell-height .ensures .0)
-          (l .before .row-bytes .ensures .0)
+          (l .loop .page) (k .ink-bitmap .last .0) (l .loop .inv .3) (k .ink-bitmap .ensures) (l .loop .inv .1)
+          (w .cell-width .ensures .0) (l .before .before .cell-height .ensures .0) (l .before .row-bytes .ensures .0)
           (k .before .before .rows .ensures),
       omega (arith, k .ink-bitmap .kept .0),
     )
@@ -102,8 +99,7 @@ returns c =
     let a = c .before .before .before .before .before .before .before .before .args in
     let l = c .before .loop in
     let e : l .n ≡ length (a .text .now) = omega arith in
-    l .inv .3 ∙ ap (drawnTo (a .ink) (a .width) (a .length) (a .r) (a .x) (a .y) (a .across) (a .down) (a .font .now) (a .h) (a .v) (a .text .now)
-    (a .page .now)) e
+    l .inv .3 ∙ ap (drawnTo (a .ink) (a .s) (a .font .now) (a .h) (a .v) (a .text .now) (a .page .now)) e
 
 pub ink-glyphs-spec : {M : Type 1} → statement M
 ink-glyphs-spec =
