@@ -1,0 +1,6 @@
+-- Laws that belong to no one function.
+pub mod Passes
+pub mod Enough
+pub mod Writing
+pub mod Cells
+pub mod Lines

@@ -1,0 +1,45 @@
+-- `font::rules::rows` meets its contract.
+-- Assumes nothing.
+use native.Mathlib.Omega.{arith}
+use borrow.Author.Needs.{needs}
+use Rattle.font.specs.Rules.{rowsOf}
+use Rattle.font.proofs.Passes.{bytes-product}
+use Rattle.font.proofs.rules.rows.Statement.{statement}
+use Rattle.font.proofs.rules.rows.Tie as tie
+
+place-of-requires : tie.Need-place-of-requires
+place-of-requires c κs = search needs
+
+cell-height-requires : tie.Need-cell-height-requires
+cell-height-requires c κs = search needs
+
+row-bytes-requires : tie.Need-row-bytes-requires
+row-bytes-requires c κs = search needs
+
+mul-part : tie.Need-mul-part
+mul-part c =
+    record {
+      fits = omega (
+        arith,
+        bytes-product (c .before .cell-height .result) (c .row-bytes .result) (c .before .cell-height .ensures .1)
+            (c .row-bytes .ensures .1),
+      );
+    }
+
+part-requires : tie.Need-part-requires
+part-requires c κs = search needs
+
+returns : tie.Need-returns
+unfolding rowsOf
+returns c = cc
+
+pub rows-spec : {M : Type 1} → statement M
+rows-spec =
+    tie.close
+    (tie.spec
+    place-of-requires
+    cell-height-requires
+    row-bytes-requires
+    mul-part
+    part-requires
+    returns)

@@ -1,0 +1,4 @@
+pub mod Rules
+pub mod Written
+pub mod Text
+pub mod Samples

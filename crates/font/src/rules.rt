@@ -1,0 +1,214 @@
+// The font's rules, read in one pass over its fields, and the rows of a code. A byte past the end reads as 0, so that any bytes get an answer.
+ghost use mathlib.Core.Path.{_≡_};
+ghost use mathlib.Core.Bool.{_&&_};
+ghost use Prim.Native.Nat.{ℕ, _+_, _-_, _*_, _/_, _%_, _^_, _≤_, _<_};
+ghost use lib.ListN.{length, getD, take, drop};
+ghost use Rattle.font.specs.Rules.{sizeAt, codeAt, nextField, cellWidth, cellHeight, headed, rowBytes};
+ghost use Rattle.font.specs.Rules.{rowClean, rowsClean, isGlyph, sized, coded, glyph, ended, fieldsFrom, legal, placeFrom, rowsOf};
+
+pub fn both(a: bool, b: bool) -> bool
+    ensures { λ r. ⌜ r ≡ (a && b) ⌝ }
+{
+    if a { b } else { false }
+}
+
+// The byte at a place.
+fn byte_at(s: &[u8], at: usize) -> usize
+    ensures { λ r. ⌜ (r ≡ getD (now (s .entry)) at 0) × (r < 256) ⌝ }
+{
+    if at < s.len() { s[at] as usize } else { 0 }
+}
+
+fn size_at(font: &[u8], at: usize) -> usize
+    requires { ⌜ at < 2 ^ 32 ⌝ }
+    ensures { λ r. ⌜ (r ≡ sizeAt (now (font .entry)) at) × (r < 65536) ⌝ }
+{
+    byte_at(font, at + 1) + byte_at(font, at + 2) * 256
+}
+
+fn code_at(font: &[u8], at: usize) -> usize
+    requires { ⌜ at < 2 ^ 32 ⌝ }
+    ensures { λ r. ⌜ (r ≡ codeAt (now (font .entry)) at) × (r < 256) ⌝ }
+{
+    byte_at(font, at + 3)
+}
+
+fn next_field(font: &[u8], at: usize) -> usize
+    requires { ⌜ at < 2 ^ 32 ⌝ }
+    ensures { λ r. ⌜ (r ≡ nextField (now (font .entry)) at) × (r < at + 65539) ⌝ }
+{
+    at + 3 + size_at(font, at)
+}
+
+pub fn cell_width(font: &[u8]) -> usize
+    ensures { λ r. ⌜ (r ≡ cellWidth (now (font .entry))) × (r < 256) ⌝ }
+{
+    byte_at(font, 3)
+}
+
+pub fn cell_height(font: &[u8]) -> usize
+    ensures { λ r. ⌜ (r ≡ cellHeight (now (font .entry))) × (r < 256) ⌝ }
+{
+    byte_at(font, 4)
+}
+
+pub fn row_bytes(font: &[u8]) -> usize
+    ensures { λ r. ⌜ (r ≡ rowBytes (now (font .entry))) × (r < 256) ⌝ }
+{
+    (cell_width(font) + 7) / 8
+}
+
+fn headed_ok(font: &[u8]) -> bool
+    ensures { λ r. ⌜ r ≡ headed (now (font .entry)) ⌝ }
+{
+    let width = cell_width(font);
+    let height = cell_height(font);
+    let first = both(byte_at(font, 0) == 1, size_at(font, 0) == 2);
+    let wide = both(1 <= width, width <= 32);
+    let high = both(1 <= height, height <= 64);
+    both(first, both(wide, high))
+}
+
+fn row_clean(font: &[u8], at: usize) -> bool
+    requires { ⌜ (0 < at) × (at < 2 ^ 32) ⌝ }
+    ensures { λ r. ⌜ r ≡ rowClean (now (font .entry)) at ⌝ }
+{
+    let bytes = row_bytes(font);
+    let unit = 1usize << (bytes * 8 - cell_width(font));
+    byte_at(font, at + bytes - 1) % unit == 0
+}
+
+// Whether a cell's height of rows from a place on have their spare bits zero.
+fn rows_clean(font: &[u8], at: usize) -> bool
+    requires { ⌜ (0 < at) × (at < 2 ^ 31) ⌝ }
+    ensures { λ r. ⌜ r ≡ rowsClean (now (font .entry)) (cellHeight (now (font .entry))) at ⌝ }
+{
+    let bytes = row_bytes(font);
+    let mut row = at;
+    let mut left = cell_height(font);
+    while 0 < left {
+        if !row_clean(font, row) {
+            return false;
+        }
+        row += bytes;
+        left -= 1;
+    }
+    true
+}
+
+fn is_glyph(font: &[u8], at: usize) -> bool
+    ensures { λ r. ⌜ r ≡ isGlyph (now (font .entry)) at ⌝ }
+{
+    byte_at(font, at) == 2
+}
+
+fn sized_ok(font: &[u8], at: usize) -> bool
+    requires { ⌜ at < 2 ^ 30 ⌝ }
+    ensures { λ r. ⌜ r ≡ sized (now (font .entry)) at ⌝ }
+{
+    size_at(font, at) == 1 + cell_height(font) * row_bytes(font)
+}
+
+fn coded_ok(font: &[u8], last: usize, at: usize) -> bool
+    requires { ⌜ at < 2 ^ 30 ⌝ }
+    ensures { λ r. ⌜ r ≡ coded (now (font .entry)) last at ⌝ }
+{
+    let code = code_at(font, at);
+    both(both(32 <= code, code <= 126), last < code)
+}
+
+fn glyph_ok(font: &[u8], last: usize, at: usize) -> bool
+    requires { ⌜ at < 2 ^ 30 ⌝ }
+    ensures { λ r. ⌜ r ≡ glyph (now (font .entry)) last at ⌝ }
+{
+    if both(
+        is_glyph(font, at),
+        both(sized_ok(font, at), coded_ok(font, last, at)),
+    ) {
+        rows_clean(font, at + 4)
+    } else {
+        false
+    }
+}
+
+fn ended_ok(font: &[u8], at: usize) -> bool
+    requires { ⌜ at < 2 ^ 31 ⌝ }
+    ensures { λ r. ⌜ r ≡ ended (now (font .entry)) at ⌝ }
+{
+    both(size_at(font, at) == 0, at + 3 == font.len())
+}
+
+// Whether the fields after the first are glyphs and the last field.
+fn fields_ok(font: &[u8]) -> bool
+    ensures { λ r. ⌜ r ≡ fieldsFrom (now (font .entry)) 96 31 5 ⌝ }
+{
+    let mut left: usize = 96;
+    let mut last: usize = 31;
+    let mut at: usize = 5;
+    while 0 < left {
+        if byte_at(font, at) == 255 {
+            return ended_ok(font, at);
+        }
+        if !glyph_ok(font, last, at) {
+            return false;
+        }
+        last = code_at(font, at);
+        at = next_field(font, at);
+        left -= 1;
+    }
+    false
+}
+
+pub fn is_legal(font: &[u8]) -> bool
+    ensures { λ r. ⌜ r ≡ legal (now (font .entry)) ⌝ }
+{
+    if headed_ok(font) {
+        fields_ok(font)
+    } else {
+        false
+    }
+}
+
+// Where the rows of a code stand, and the font's length where it has none.
+fn place_of(font: &[u8], code: usize) -> usize
+    ensures { λ r. ⌜ r ≡ placeFrom (now (font .entry)) code 95 5 ⌝ }
+{
+    let mut left: usize = 95;
+    let mut at: usize = 5;
+    while 0 < left {
+        if !is_glyph(font, at) {
+            return font.len();
+        }
+        if code_at(font, at) == code {
+            return at + 4;
+        }
+        at = next_field(font, at);
+        left -= 1;
+    }
+    font.len()
+}
+
+// At most n elements from a place on.
+fn part(s: &[u8], at: usize, n: usize) -> &[u8]
+    ensures { λ r. ⌜ now r ≡ take n (drop at (now (s .entry))) ⌝ }
+{
+    if s.len() <= at {
+        return &s[..0];
+    }
+    if s.len() - at <= n {
+        return &s[at..];
+    }
+    let end = at + n;
+    &s[at..end]
+}
+
+// The rows of a code.
+pub fn rows(font: &[u8], code: usize) -> &[u8]
+    ensures { λ r. ⌜ now r ≡ rowsOf (now (font .entry)) code ⌝ }
+{
+    part(
+        font,
+        place_of(font, code),
+        cell_height(font) * row_bytes(font),
+    )
+}

@@ -1,0 +1,131 @@
+// A text drawn: its cells side by side in one box, which is turned and cut as a whole.
+ghost use mathlib.Core.Path.{_≡_};
+ghost use Prim.Native.Nat.{_≤_};
+ghost use Rattle.dots.specs.Dots.{drawn, box};
+ghost use Rattle.font.specs.Text.{glyphs, onLabel, drawable, inMode, textDrawn};
+use crate::rules;
+use dots::Ink;
+
+// Where the box of a text stands: a label's width and length, the turn and the corner, and the box's own size before the turn.
+struct Spot {
+    width: usize,
+    length: usize,
+    r: usize,
+    x: usize,
+    y: usize,
+    wide: usize,
+    high: usize,
+}
+
+// Whether a text is drawn at all: a legal font, and numbers within their limits.
+fn drawable_ok(font: &[u8], h: usize, v: usize, text: &[u8]) -> bool
+    ensures { λ r. ⌜ r ≡ drawable (now (font .entry)) h v (now (text .entry)) ⌝ }
+{
+    rules::both(
+        rules::is_legal(font),
+        rules::both(h <= 6, rules::both(v <= 9, text.len() <= 128)),
+    )
+}
+
+// Draws the glyphs of a text.
+fn ink_glyphs(page: &mut [u8], ink: Ink, s: Spot, h: usize, v: usize, font: &[u8], text: &[u8])
+    requires { do ⌜ (h ≤ 6) × ((← ⟦text.len()⟧) ≤ 128) ⌝ }
+    ensures { λ _. ⌜ now (page .exit) ≡ drawn ink (onLabel s (glyphs (now (font .entry)) h v (now (text .entry)))) (now (page .entry)) ⌝ }
+{
+    let cell = rules::cell_width(font);
+    let rows = rules::cell_height(font);
+    let stride = rules::row_bytes(font);
+    let step = cell * h;
+    let mut n = 0;
+    let mut u: usize = 0;
+    while n < text.len() {
+        let bits = rules::rows(font, text[n] as usize);
+        figures::ink_bitmap(
+            page,
+            ink,
+            s.width,
+            s.length,
+            s.r,
+            s.x,
+            s.y,
+            s.wide,
+            s.high,
+            u,
+            bits,
+            stride,
+            cell,
+            rows,
+            h,
+            v,
+        );
+        n += 1;
+        u += step;
+    }
+}
+
+// Blackens the whole box of a text.
+fn ink_cells(page: &mut [u8], s: Spot)
+    ensures { λ _. ⌜ now (page .exit) ≡ drawn Ink.Black (onLabel s (box 0 0 (s .wide) (s .high))) (now (page .entry)) ⌝ }
+{
+    figures::ink_part(
+        page,
+        Ink::Black,
+        s.width,
+        s.length,
+        s.r,
+        s.x,
+        s.y,
+        s.wide,
+        s.high,
+        0,
+        0,
+        s.wide,
+        s.high,
+    );
+}
+
+// Draws a text in its mode.
+fn ink_text(page: &mut [u8], reverse: bool, s: Spot, h: usize, v: usize, font: &[u8], text: &[u8])
+    requires { do ⌜ (h ≤ 6) × ((← ⟦text.len()⟧) ≤ 128) ⌝ }
+    ensures { λ _. ⌜ now (page .exit) ≡ inMode reverse s (glyphs (now (font .entry)) h v (now (text .entry))) (now (page .entry)) ⌝ }
+{
+    if reverse {
+        ink_cells(page, s);
+        ink_glyphs(page, Ink::White, s, h, v, font, text);
+    } else {
+        ink_glyphs(page, Ink::Black, s, h, v, font, text);
+    }
+}
+
+// `Ax,y,r,h,v,m,data`: draws a text, cut at width and length; reverse is mode R.
+pub fn draw(
+    page: &mut [u8],
+    width: usize,
+    length: usize,
+    x: usize,
+    y: usize,
+    r: usize,
+    h: usize,
+    v: usize,
+    reverse: bool,
+    font: &[u8],
+    text: &[u8],
+)
+    ensures { λ _. ⌜ now (page .exit) ≡ textDrawn width length x y r h v reverse (now (font .entry)) (now (text .entry)) (now (page .entry)) ⌝ }
+{
+    if !drawable_ok(font, h, v, text) {
+        return;
+    }
+    let wide = text.len() * (rules::cell_width(font) * h);
+    let high = rules::cell_height(font) * v;
+    let s = Spot {
+        width,
+        length,
+        r,
+        x,
+        y,
+        wide,
+        high,
+    };
+    ink_text(page, reverse, s, h, v, font, text);
+}
