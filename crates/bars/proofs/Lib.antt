@@ -1,0 +1,4 @@
+pub mod Lists
+pub mod Checks
+pub mod Tables
+pub mod Fill128
