@@ -2,3 +2,6 @@ pub mod Lists
 pub mod Checks
 pub mod Tables
 pub mod Fill128
+pub mod Fill39
+pub mod Fill25
+pub mod FillEan

@@ -52,6 +52,9 @@ put-more xs ys at l m n q r p s =
       written = s .written ∙ ap (λ k. sets k q ys) (p .written) ∙ ap (λ k. sets (sets l at xs) k ys) (p .next) ∙ sym (sets-append l at xs ys);
     }
 
+pub put-all : (ws : List ℕ) (at from : ℕ) (l m : List ℕ) (r : ℕ) → at ≡ from → r ≡ at + length ws → m ≡ sets l from ws → Put ws at l m r
+put-all ws at from l m r e n f = record { next = n; written = f ∙ ap (λ k. sets l k ws) (sym e) }
+
 -- ---- `each`
 
 pub each-more : (f : ℕ → List ℕ) (s : List ℕ) (i : ℕ) → i < length s → each f (drop i s) ≡ f (getD s i 0) ++ each f (drop (i + 1) s)

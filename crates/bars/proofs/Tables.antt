@@ -7,7 +7,7 @@ use Prim.Native.Nat.{ℕ, zero, suc, _+_, _-_, _*_, _/_, _%_, _≤_, _<_}
 use native.Mathlib.Decide.{ℕ-discrete}
 use native.Mathlib.Nat.{le-of-suc-le-suc, mod-eq-of-lt}
 use native.Mathlib.Omega.{arith}
-use lib.Dec.{T, ltb, ltb→lt}
+use lib.Dec.{T, ltb, eqb, ltb→lt, eqb→eq}
 use lib.ListN.{length, getD, length-append, List·getD-append, List·getD-eq-default}
 use lib.Seq.{getD-append-add}
 use Rattle.bars.specs.Tables.{rows128}
@@ -34,6 +34,20 @@ all-at f [] t v h = absurd (omega arith)
 all-at f (r ∷ rs) t zero h = and-left (f r) (all f rs) t
 all-at f (r ∷ rs) t (suc v) h = all-at f rs (and-right (f r) (all f rs) t) v (le-of-suc-le-suc h)
 
+-- two lists are the same
+abbrev pub same : List ℕ → List ℕ → Bool
+same [] [] = true
+same [] (y ∷ ys) = false
+same (x ∷ xs) [] = false
+same (x ∷ xs) (y ∷ ys) = eqb x y && same xs ys
+
+pub same-eq : (xs ys : List ℕ) → T (same xs ys) → xs ≡ ys
+same-eq [] [] t = refl
+same-eq [] (y ∷ ys) t = absurd t
+same-eq (x ∷ xs) [] t = absurd t
+same-eq (x ∷ xs) (y ∷ ys) t =
+    ap (λ k. k ∷ xs) (eqb→eq x y (and-left (eqb x y) (same xs ys) t)) ∙ ap (λ k. y ∷ k) (same-eq xs ys (and-right (eqb x y) (same xs ys) t))
+
 -- the test holds of each number below n
 abbrev pub below : (ℕ → Bool) → ℕ → Bool
 below f zero = true
@@ -46,6 +60,11 @@ below-at f (suc n) t k h =
       | yes e ↦ subst (λ m. T (f m)) (sym e) (and-left (f n) (below f n) t)
       | no d ↦ below-at f n (and-right (f n) (below f n) t) k (omega arith)
     ]
+
+-- ---- a row that is not there
+
+pub past-rows : (rows : List ℕ) (v w : ℕ) → length rows ≤ v → v ≡ w → 0 ≡ getD rows w 0
+past-rows rows v w h e = sym (List·getD-eq-default rows 0 (rw e at h))
 
 -- ---- rows side by side
 
@@ -124,4 +143,4 @@ row-128 v a b c d e f h p q r s t u =
     ) (six-digits row top)
 
 pub row-128-none : (v : ℕ) → 107 ≤ v → 0 ≡ getD rows128 v 0
-row-128-none v h = sym (List·getD-eq-default rows128 0 (rw length-rows h))
+row-128-none v h = past-rows rows128 v v (rw length-rows h) refl

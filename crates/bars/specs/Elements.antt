@@ -85,8 +85,11 @@ unfoldable pub checked : List ℕ → List ℕ
 checked s = s ++ ((48 + checkDigit s) ∷ [])
 
 -- a digit in a set: 1 A, 2 B, 3 C
+unfoldable pub patternRow : ℕ → ℕ → ℕ
+patternRow set b = getD (cond (eqb set 2) rowsB rowsA) (b - 48) 0
+
 unfoldable pub pattern : ℕ → ℕ → List ℕ
-pattern set b = digits 4 (getD (cond (eqb set 2) rowsB rowsA) (b - 48) 0)
+pattern set b = digits 4 (patternRow set b)
 
 -- as many digits as there are sets, each in its set
 unfoldable pub patterns : List ℕ → List ℕ → List ℕ

@@ -19,6 +19,12 @@ fn widened(b: u8) -> usize
     b as usize
 }
 
+pub fn wide(row: u32) -> usize
+    ensures { λ r. ⌜ (r ≡ row) × (r ≤ 4294967295) ⌝ }
+{
+    row as usize
+}
+
 fn store(out: &mut [u8], i: usize, x: u8)
     ensures { λ _. ⌜ now (out .exit) ≡ set (now (out .entry)) i x ⌝ }
 {
