@@ -1,0 +1,6 @@
+-- Laws that belong to no one function.
+pub mod Bits
+pub mod Pages
+pub mod Shapes
+pub mod WholePages
+pub mod Turned

@@ -1,0 +1,252 @@
+-- Whole pages: white ones, copies, the count of black dots, and pages that are white outside the label.
+-- Assumes nothing.
+use mathlib.Core.Path.{_≡_, refl, sym, ap, _∙_}
+use mathlib.Core.Bool.{Bool, true, false, not, cond, _&&_, _||_, and-false}
+use mathlib.Core.List.{List, [], _∷_, _++_, append-nil}
+use Prim.Native.Nat.{suc-le-suc, ℕ, zero, suc, _+_, _-_, _*_, _/_, _%_, _^_, _≤_, _<_, min}
+use native.Mathlib.Decide.{ℕ-discrete, decLt}
+use native.Mathlib.Nat.{zero-add, zero-div, le-of-suc-le-suc, not-suc-le-zero}
+use native.Mathlib.Numerals.{add-one}
+use native.Mathlib.Omega.{arith}
+use lib.Dec.{leb, ltb, eqb}
+use lib.Bits.{bitAnd, and-lt}
+use lib.ListN.{length, getD, take, drop, set, length-set, length-take, replicate, length-replicate, getD-replicate, drop-of-length-le}
+use lib.Seq.{ext-getD, getD-set-same, getD-set-other, drop-cons, getD-take, take-all, paste, paste-suc}
+use borrow.Author.Tests.{leb-true, ltb-true, le-leb, lt-ltb, eqb-true, eq-eqb, not-true}
+use Rattle.dots.specs.declared.Ink.{Ink}
+use Rattle.dots.specs.Dots.{bitOf, byteOf, within, rows, dotAt, inked, redrawn, drawn, cut}
+use Rattle.dots.specs.Whole.{white, copied, turnedIn, turned, blackIn, blackDots, outside, whiteByte, whiteFrom, whiteOutside}
+use Rattle.dots.proofs.Bits.{is-false, and-true, one-le, byte-lt, not-below, byte-cong, byte-by-bits, bit-of-byte, and-bit}
+use Rattle.dots.proofs.Pages.{dot-redrawn, length-redrawn, dot-drawn, length-drawn}
+
+-- ---- white
+pub length-white : (n : ℕ) → length (white n) ≡ n
+unfolding white
+length-white n = length-replicate n 0
+
+pub getD-white : (n i : ℕ) → getD (white n) i 0 ≡ 0
+unfolding white
+getD-white zero i = refl
+getD-white (suc n) zero = refl
+getD-white (suc n) (suc i) = getD-white n i
+
+no-dot : (k : ℕ) → bitOf 0 k ≡ false
+no-dot k = rw (zero-div (2 ^ (7 - k)))
+
+pub dot-white : (n x y : ℕ) → dotAt (white n) x y ≡ false
+unfolding dotAt
+dot-white n x y = rw (getD-white n (y * 76 + x / 8)) (no-dot (x % 8))
+
+-- a page all of whose bytes are 0
+pub white-by-bytes : (p q : List ℕ) (i : ℕ) → length q ≡ length p → length p ≤ i → ((j : ℕ) → j < i → getD q j 0 ≡ 0) → q ≡ white (length p)
+white-by-bytes p q i e h z = ext-getD 0 q (white (length p)) (e ∙ sym (length-white (length p))) (λ j t. z j (omega arith) ∙ sym (getD-white (length p) j))
+
+pub white-next : (q : List ℕ) (i : ℕ) → i < length q → ((j : ℕ) → j < i → getD q j 0 ≡ 0) → (j : ℕ) → j < i + 1 → getD (set q i 0) j 0 ≡ 0
+white-next q i h z j t = at (ℕ-discrete j i)
+  where
+    at : Dec (j ≡ i) → getD (set q i 0) j 0 ≡ 0
+    at (yes e) = rw e (getD-set-same q i 0 0 h)
+    at (no n) = getD-set-other q i j 0 0 n ∙ z j (omega arith)
+
+-- ---- copies
+pub copy-next : (p b q : List ℕ) (i : ℕ) → i < length p → i < length b → q ≡ paste p 0 b i → set q i (getD b i 0) ≡ paste p 0 b (i + 1)
+copy-next p b q i h k e =
+    let z : i ≡ 0 + i = omega arith in
+    (λ d. set (e d) (z d) (getD b i 0)) ∙ paste-suc p 0 b i 0 (omega arith) k ∙ ap (paste p 0 b) (sym (add-one i))
+
+pub copy-done : (p b : List ℕ) (n : ℕ) → n ≡ min (length p) (length b) → paste p 0 b n ≡ copied p b
+unfolding copied
+copy-done p b n e = at (decLt (length p) (length b))
+  where
+    at : Dec (length p < length b) → take n b ++ drop (0 + n) p ≡ take (length p) b ++ drop (length b) p
+    at (yes h) =
+        let s : n ≡ length p = omega arith in
+        let none : drop (length p) p ≡ [] = drop-of-length-le p {i = length p} (omega arith) in
+        let less : drop (length b) p ≡ [] = drop-of-length-le p {i = length b} (omega arith) in
+        let z : 0 + length p ≡ length p = omega arith in
+        rw (s, z, none, less)
+    at (no h) =
+        let s : n ≡ length b = omega arith in
+        let z : 0 + length b ≡ length b = omega arith in
+        rw (s, z) (ap (λ (l : List ℕ). l ++ drop (length b) p) (take-all (length b) b (omega arith) ∙ sym (take-all (length p) b (omega arith))))
+
+-- a background of the page's length takes its place
+pub copied-same : (p b : List ℕ) → length b ≡ length p → copied p b ≡ b
+unfolding copied
+copied-same p b e =
+    rw (drop-of-length-le p (let h : length p ≤ length b = omega arith in h)) (append-nil (take (length p) b) ∙ take-all (length p) b (omega arith))
+
+-- ---- the count of black dots
+pub count-start : (most : ℕ) (p : List ℕ) → min most (0 + blackDots (drop 0 p)) ≡ min most (blackDots p)
+count-start most p = ap (min most) (let z : 0 + blackDots p ≡ blackDots p = omega arith in z)
+
+pub count-next : (p : List ℕ) (i n m most : ℕ) → i < length p → m ≡ min most (n + blackIn (getD p i 0))
+    → min most (m + blackDots (drop (i + 1) p)) ≡ min most (n + blackDots (drop i p))
+unfolding blackDots
+count-next p i n m most h e = rw (drop-cons p i 0 h, add-one i) (sum (blackIn (getD p i 0)) (blackDots (drop (suc i) p)) e)
+  where
+    sum : (b r : ℕ) → m ≡ min most (n + b) → min most (m + r) ≡ min most (n + (b + r))
+    sum b r e = omega arith
+
+pub count-done : (p : List ℕ) (i n most : ℕ) → length p ≤ i → n ≤ most → min most (n + blackDots (drop i p)) ≡ n
+unfolding blackDots
+count-done p i n most h k = rw (drop-of-length-le p h) (let z : min most (n + 0) ≡ n = omega arith in z)
+
+pub black-le : (p : List ℕ) → blackDots p ≤ 8 * length p
+unfolding blackDots
+black-le [] = omega arith
+black-le (b ∷ bs) =
+    omega (
+      arith,
+      black-le bs,
+      one-le (bitOf b 0),
+      one-le (bitOf b 1),
+      one-le (bitOf b 2),
+      one-le (bitOf b 3),
+      one-le (bitOf b 4),
+      one-le (bitOf b 5),
+      one-le (bitOf b 6),
+      one-le (bitOf b 7),
+    )
+
+-- ---- white outside the label
+pub white-and : (b m : ℕ) (f : ℕ → Bool) → b < 256 → m ≡ byteOf f → bitAnd b m ≡ byteOf (λ k. bitOf b k && f k)
+white-and b m f h e =
+    byte-by-bits (bitAnd b m) _ (and-lt 8 b m h (rw e (byte-lt f)))
+    (λ k t. and-bit b m k ∙ ap (λ (q : Bool). bitOf b k && q) (ap (λ (n : ℕ). bitOf n k) e ∙ bit-of-byte f k t))
+
+-- the dots of byte i of a page that lie outside: all of them, or those from the width on
+module _ (w l i : ℕ) where
+  out : (x y : ℕ) → (x < w → y < l → ⊥) → outside w l x y ≡ true
+  out x y n = rw (is-false (ltb x w && ltb y l) (λ e. let h = and-true (ltb x w) (ltb y l) e in n (ltb-true x w (h .0)) (ltb-true y l (h .1))))
+
+  pub all-outside : ((k : ℕ) → k < 8 → i % 76 * 8 + k < w → i / 76 < l → ⊥) → 255 ≡ byteOf (λ k. outside w l (i % 76 * 8 + k) (i / 76))
+  all-outside n = byte-cong (λ k. true) _ (λ k t. sym (out (i % 76 * 8 + k) (i / 76) (n k t)))
+
+  pub some-outside : (lo : ℕ) → lo ≡ min (w - i % 76 * 8) 8 → i % 76 * 8 < w → i / 76 < l
+      → byteOf (within lo 8) ≡ byteOf (λ k. outside w l (i % 76 * 8 + k) (i / 76))
+  some-outside lo e hx hy = byte-cong (within lo 8) _ (λ k t. at k t (decLt (i % 76 * 8 + k) w))
+    where
+      at : (k : ℕ) → k < 8 → Dec (i % 76 * 8 + k < w) → within lo 8 k ≡ outside w l (i % 76 * 8 + k) (i / 76)
+      at k t (yes h) = rw (lt-ltb (i % 76 * 8 + k) w h, lt-ltb (i / 76) l hy, is-false (leb lo k) (λ q. omega (arith, leb-true lo k q)))
+      at k t (no h) = rw (le-leb lo k (omega arith), lt-ltb k 8 t, not-below (i % 76 * 8 + k) w (omega arith))
+
+module _ (w l : ℕ) (p : List ℕ) where
+  whole : List ℕ
+  whole = take (rows p * 76) p
+
+  -- what is left to look at from byte i on
+  pub whiteLeft : ℕ → Bool
+  whiteLeft i = whiteFrom w l i (drop i whole)
+
+  pub white-start : whiteLeft 0 ≡ whiteOutside w l p
+  unfolding whiteLeft whole whiteOutside whiteFrom
+  white-start = refl
+
+  cons : (i : ℕ) → i < rows p * 76 → drop i whole ≡ getD p i 0 ∷ drop (suc i) whole
+  unfolding whole
+  cons i h =
+      drop-cons (take (rows p * 76) p) i 0 (rw (length-take (rows p * 76) p) (omega arith))
+      ∙ ap (λ (b : ℕ). b ∷ drop (suc i) (take (rows p * 76) p)) (getD-take (rows p * 76) p i 0 h)
+
+  pub white-step : (i : ℕ) → i < rows p * 76 → whiteByte w l i (getD p i 0) ≡ true → whiteLeft (i + 1) ≡ whiteLeft i
+  unfolding whiteLeft whiteFrom
+  white-step i h e = rw (cons i h, add-one i, e)
+
+  pub white-stop : (i : ℕ) → i < rows p * 76 → whiteByte w l i (getD p i 0) ≡ false → whiteLeft i ≡ false
+  unfolding whiteLeft whiteFrom
+  white-stop i h e = rw (cons i h, e)
+
+  pub white-done : (i : ℕ) → rows p * 76 ≤ i → whiteLeft i ≡ true
+  unfolding whiteLeft whole whiteFrom
+  white-done i h = rw (drop-of-length-le (take (rows p * 76) p) (let k : length (take (rows p * 76) p) ≤ i = rw (length-take (rows p * 76) p) (omega arith) in k))
+
+-- a byte is white outside exactly when none of its dots is black there
+white-byte-dot : (w l i b k : ℕ) → k < 8 → whiteByte w l i b ≡ true → outside w l (i % 76 * 8 + k) (i / 76) ≡ true → bitOf b k ≡ false
+white-byte-dot w l i b k t e o =
+    first (bitOf b k) (outside w l (i % 76 * 8 + k) (i / 76)) o
+    (sym (bit-of-byte (λ n. bitOf b n && outside w l (i % 76 * 8 + n) (i / 76)) k t) ∙ ap (λ (n : ℕ). bitOf n k) (eqb-true _ 0 e) ∙ no-dot k)
+  where
+    first : (a c : Bool) → c ≡ true → (a && c) ≡ false → a ≡ false
+    first true c e f = sym e ∙ f
+    first false c e f = refl
+
+dots-white-byte : (w l i b : ℕ) → ((k : ℕ) → k < 8 → outside w l (i % 76 * 8 + k) (i / 76) ≡ true → bitOf b k ≡ false) → whiteByte w l i b ≡ true
+dots-white-byte w l i b h = eq-eqb _ 0 (byte-cong _ (λ k. false) (λ k t. both (bitOf b k) (outside w l (i % 76 * 8 + k) (i / 76)) (h k t)))
+  where
+    both : (a c : Bool) → (c ≡ true → a ≡ false) → (a && c) ≡ false
+    both a true h = rw (h refl)
+    both a false h = and-false a
+
+white-from-byte : (w l i : ℕ) (bs : List ℕ) (j : ℕ) → j < length bs → whiteFrom w l i bs ≡ true → whiteByte w l (i + j) (getD bs j 0) ≡ true
+unfolding whiteFrom
+white-from-byte w l i [] j h e = absurd (not-suc-le-zero h)
+white-from-byte w l i (b ∷ bs) zero h e = ap (λ (n : ℕ). whiteByte w l n b) (omega arith) ∙ and-true (whiteByte w l i b) (whiteFrom w l (suc i) bs) e .0
+white-from-byte w l i (b ∷ bs) (suc j) h e =
+    ap (λ (n : ℕ). whiteByte w l n (getD bs j 0)) (omega arith)
+    ∙ white-from-byte w l (suc i) bs j (le-of-suc-le-suc h) (and-true (whiteByte w l i b) (whiteFrom w l (suc i) bs) e .1)
+
+bytes-white-from : (w l i : ℕ) (bs : List ℕ) → ((j : ℕ) → j < length bs → whiteByte w l (i + j) (getD bs j 0) ≡ true) → whiteFrom w l i bs ≡ true
+unfolding whiteFrom
+bytes-white-from w l i [] h = refl
+bytes-white-from w l i (b ∷ bs) h =
+    let e : whiteByte w l i b ≡ true = ap (λ (n : ℕ). whiteByte w l n b) (omega arith) ∙ h 0 (omega arith) in
+    rw e (bytes-white-from w l (suc i) bs (λ j t. ap (λ (n : ℕ). whiteByte w l n (getD bs j 0)) (omega arith) ∙ h (suc j) (suc-le-suc t)))
+
+-- the page is white outside exactly when no dot of a whole row is black there
+pub white-outside-dot : (w l : ℕ) (p : List ℕ) (x y : ℕ) → whiteOutside w l p ≡ true → x < 608 → y < rows p → outside w l x y ≡ true
+    → dotAt p x y ≡ false
+unfolding whiteOutside dotAt
+white-outside-dot w l p x y e hx hy o =
+    let i = y * 76 + x / 8 in
+    let col : i % 76 * 8 + x % 8 ≡ x = omega arith in
+    let row : i / 76 ≡ y = omega arith in
+    white-byte-dot w l i (getD p i 0) (x % 8) (omega arith)
+    ((λ d. whiteByte w l (sym (zero-add i) d) (sym (getD-take (rows p * 76) p i 0 (omega arith)) d))
+    ∙ white-from-byte w l 0 (take (rows p * 76) p) i (rw (length-take (rows p * 76) p) (omega arith)) e)
+    ((λ d. outside w l (col d) (row d)) ∙ o)
+
+pub dots-white-outside : (w l : ℕ) (p : List ℕ) → ((x y : ℕ) → x < 608 → y < rows p → outside w l x y ≡ true → dotAt p x y ≡ false)
+    → whiteOutside w l p ≡ true
+unfolding whiteOutside dotAt
+dots-white-outside w l p h =
+    bytes-white-from w l 0 (take (rows p * 76) p) (λ j t. at j (rw (length-take (rows p * 76) p) at t))
+  where
+    at : (j : ℕ) → j < min (rows p * 76) (length p) → whiteByte w l (0 + j) (getD (take (rows p * 76) p) j 0) ≡ true
+    at j t =
+        (λ d. whiteByte w l (zero-add j d) (getD-take (rows p * 76) p j 0 (omega arith) d))
+        ∙ dots-white-byte w l j (getD p j 0)
+        (λ k s o.
+        let col : j / 76 * 76 + (j % 76 * 8 + k) / 8 ≡ j = omega arith in
+        let bit : (j % 76 * 8 + k) % 8 ≡ k = omega arith in
+        rw (col, bit) at (h (j % 76 * 8 + k) (j / 76) (omega arith) (omega arith) o))
+
+-- pages that are white outside the label, and what keeps them so
+pub white-outside-white : (w l n : ℕ) → whiteOutside w l (white n) ≡ true
+white-outside-white w l n = dots-white-outside w l (white n) (λ x y s t o. dot-white n x y)
+
+pub white-outside-drawn : (ink : Ink) (w l : ℕ) (s : ℕ → ℕ → Bool) (p : List ℕ) → whiteOutside w l p ≡ true → whiteOutside w l (drawn ink (cut w l s) p) ≡ true
+white-outside-drawn ink w l s p e =
+    dots-white-outside w l (drawn ink (cut w l s) p)
+    (λ x y hx hy o. let k : y < rows p = omega (arith, length-drawn ink (cut w l s) p) in
+    dot-drawn ink (cut w l s) p x y hx k
+    ∙ ap (λ (t : Bool). cond (t && s x y) (inked ink (dotAt p x y)) (dotAt p x y)) (not-true (ltb x w && ltb y l) o)
+    ∙ white-outside-dot w l p x y e hx k o)
+
+pub white-outside-turned : (w l : ℕ) (p : List ℕ) → w ≤ 608 → l ≤ rows p → whiteOutside w l (turned w l p) ≡ true
+unfolding turnedIn
+white-outside-turned w l p hw hl =
+    dots-white-outside w l (turned w l p)
+    (λ x y hx hy o. let k : y < rows p = omega (arith, length-redrawn dots p) in
+    dot-redrawn dots p x y hx k
+    ∙ (λ d. (ltb x (ew d) && ltb y (el d)) && dotAt p (min w 608 - 1 - x) (min l (rows p) - 1 - y))
+    ∙ ap (λ (t : Bool). t && dotAt p (min w 608 - 1 - x) (min l (rows p) - 1 - y)) (not-true (ltb x w && ltb y l) o))
+  where
+    ew : min w 608 ≡ w
+    ew = omega arith
+
+    el : min l (rows p) ≡ l
+    el = omega arith
+
+    dots : ℕ → ℕ → Bool → Bool
+    dots x y o = (ltb x (min w 608) && ltb y (min l (rows p))) && dotAt p (min w 608 - 1 - x) (min l (rows p) - 1 - y)
