@@ -5,3 +5,5 @@ pub mod Fill128
 pub mod Fill39
 pub mod Fill25
 pub mod FillEan
+pub mod Strokes
+pub mod Fits

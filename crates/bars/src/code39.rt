@@ -96,7 +96,7 @@ fn body(s: &[u8], out: &mut [u8])
 
 pub fn fill(s: &[u8], out: &mut [u8]) -> usize
     requires { ⌜ length (now s) ≤ 128 ⌝ }
-    ensures { λ r. ⌜ Put (elements39 (now (s .entry))) 0 (now (out .entry)) (now (out .exit)) r ⌝ }
+    ensures { λ r. ⌜ (Put (elements39 (now (s .entry))) 0 (now (out .entry)) (now (out .exit)) r) × (r ≤ 1299) ⌝ }
 {
     let start = put(out, 0, wide(row(b'*')) * 10 + 1, 10);
     body(s, out);

@@ -1,4 +1,5 @@
 -- `code128::fill` meets its contract. Assumes nothing.
+use native.Mathlib.Omega.{arith}
 use Rattle.bars.proofs.Fill128.{filled-128}
 use borrow.Author.Needs.{needs}
 use Rattle.bars.proofs.code128.fill.Statement.{statement}
@@ -44,11 +45,13 @@ same-length : tie.Need-same-length
 same-length c = search needs
 
 returns : tie.Need-returns
-returns c =
-    filled-128 _ _ _ _ _ _ _ _ _ _ _ _ _ _ _ _ (c .before .before .before .before .before .before .before .before .before .before .before .before .before .before .before .before .before .before .before .before .before .before .before .row .ensures) (c .before .before .before .before .before .before .before .before .before .before .before .before .before .before .before .before .before .before .before .before .before .before .put .ensures)
-    (c .before .before .before .before .before .before .before .before .before .before .before .before .before .before .before .before .before .before .body .ensures) (c .before .before .before .before .before .before .before .before .before .before .before .before .before .before .check .ensures) (c .before .before .before .before .before .before .before .before .before .before .before .before .before .row2 .ensures)
-    (c .before .before .before .before .before .before .before .before .before .before .before .before .put2 .ensures) (c .before .before .before .before .before .before .before .before .row3 .ensures) (c .before .before .before .before .before .before .before .put3 .ensures) (c .before .before .before .last-bar .ensures)
-    (c .before .before .put4 .ensures)
+returns c = (
+  filled-128 _ _ _ _ _ _ _ _ _ _ _ _ _ _ _ _ (c .before .before .before .before .before .before .before .before .before .before .before .before .before .before .before .before .before .before .before .before .before .before .before .row .ensures) (c .before .before .before .before .before .before .before .before .before .before .before .before .before .before .before .before .before .before .before .before .before .before .put .ensures)
+      (c .before .before .before .before .before .before .before .before .before .before .before .before .before .before .before .before .before .before .body .ensures) (c .before .before .before .before .before .before .before .before .before .before .before .before .before .before .check .ensures) (c .before .before .before .before .before .before .before .before .before .before .before .before .before .row2 .ensures)
+      (c .before .before .before .before .before .before .before .before .before .before .before .before .put2 .ensures) (c .before .before .before .before .before .before .before .before .row3 .ensures) (c .before .before .before .before .before .before .before .put3 .ensures) (c .before .before .before .last-bar .ensures)
+      (c .before .before .put4 .ensures),
+  omega arith,
+)
 
 pub fill-spec : {M : Type 1} → statement M
 fill-spec =

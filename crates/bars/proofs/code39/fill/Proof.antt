@@ -1,4 +1,5 @@
 -- `code39::fill` meets its contract. Assumes nothing.
+use native.Mathlib.Omega.{arith}
 use Rattle.bars.proofs.Fill39.{filled-39}
 use borrow.Author.Needs.{needs}
 use Rattle.bars.proofs.code39.fill.Statement.{statement}
@@ -41,9 +42,11 @@ same-length : tie.Need-same-length
 same-length c = search needs
 
 returns : tie.Need-returns
-returns c =
-    filled-39 _ _ _ _ _ _ _ _ _ _ _ (c .before .before .before .before .before .before .before .before .before .before .before .before .before .wide .ensures .0) (c .before .before .before .before .before .before .before .before .before .before .before .before .before .before .row .ensures) (c .before .before .before .before .before .before .before .before .before .before .before .before .put .ensures)
-    (c .before .before .before .before .before .before .before .before .body .ensures) (c .before .before .before .wide2 .ensures .0) (c .before .before .before .before .row2 .ensures) (c .before .before .put2 .ensures)
+returns c = (
+  filled-39 _ _ _ _ _ _ _ _ _ _ _ (c .before .before .before .before .before .before .before .before .before .before .before .before .before .wide .ensures .0) (c .before .before .before .before .before .before .before .before .before .before .before .before .before .before .row .ensures) (c .before .before .before .before .before .before .before .before .before .before .before .before .put .ensures)
+      (c .before .before .before .before .before .before .before .before .body .ensures) (c .before .before .before .wide2 .ensures .0) (c .before .before .before .before .row2 .ensures) (c .before .before .put2 .ensures),
+  omega arith,
+)
 
 pub fill-spec : {M : Type 1} → statement M
 fill-spec =

@@ -1,4 +1,5 @@
 -- `ean::fill` meets its contract. Assumes nothing.
+use native.Mathlib.Omega.{arith}
 use Rattle.bars.proofs.FillEan.{filled-ean}
 use borrow.Author.Needs.{needs}
 use Rattle.bars.proofs.ean.fill.Statement.{statement}
@@ -47,10 +48,12 @@ same-length : tie.Need-same-length
 same-length c = search needs
 
 returns : tie.Need-returns
-returns c =
-    filled-ean _ _ _ _ _ _ _ _ _ _ _ (c .before .before .before .before .before .before .before .before .before .before .before .before .before .before .before .before .before .before .before .before .before .before .before .before .before .before .before .before .before .before .before .pre) (c .before .before .before .before .before .before .before .before .before .before .before .before .before .before .before .before .before .before .before .before .before .before .before .before .wide .ensures .0) (c .before .before .before .before .before .before .before .before .before .before .before .before .before .before .before .before .before .before .before .before .before .before .before .before .before .row-of-sets .ensures)
-    (c .before .before .before .before .before .before .before .before .before .before .before .before .before .before .before .before .before .before .before .before .before .before .before .put .ensures .1) (c .before .before .before .before .before .before .before .before .before .before .before .before .before .before .before .before .before .before .before .before .put2 .ensures .1) (c .before .before .before .before .before .before .before .before .before .before .before .before .before .before .before .half .ensures)
-    (c .before .before .before .before .before .before .before .before .before .before .before .put3 .ensures .1) (c .before .before .before .before .before .before .half2 .ensures) (c .before .before .put4 .ensures)
+returns c = (
+  filled-ean _ _ _ _ _ _ _ _ _ _ _ (c .before .before .before .before .before .before .before .before .before .before .before .before .before .before .before .before .before .before .before .before .before .before .before .before .before .before .before .before .before .before .before .pre) (c .before .before .before .before .before .before .before .before .before .before .before .before .before .before .before .before .before .before .before .before .before .before .before .before .wide .ensures .0) (c .before .before .before .before .before .before .before .before .before .before .before .before .before .before .before .before .before .before .before .before .before .before .before .before .before .row-of-sets .ensures)
+      (c .before .before .before .before .before .before .before .before .before .before .before .before .before .before .before .before .before .before .before .before .before .before .before .put .ensures .1) (c .before .before .before .before .before .before .before .before .before .before .before .before .before .before .before .before .before .before .before .before .put2 .ensures .1) (c .before .before .before .before .before .before .before .before .before .before .before .before .before .before .before .half .ensures)
+      (c .before .before .before .before .before .before .before .before .before .before .before .put3 .ensures .1) (c .before .before .before .before .before .before .half2 .ensures) (c .before .before .put4 .ensures),
+  omega arith,
+)
 
 pub fill-spec : {M : Type 1} → statement M
 fill-spec =

@@ -1,4 +1,5 @@
 -- `interleaved::fill` meets its contract. Assumes nothing.
+use native.Mathlib.Omega.{arith}
 use Rattle.bars.proofs.Fill25.{filled-25}
 use borrow.Author.Needs.{needs}
 use Rattle.bars.proofs.interleaved.fill.Statement.{statement}
@@ -23,8 +24,7 @@ same-length : tie.Need-same-length
 same-length c = search needs
 
 returns : tie.Need-returns
-returns c =
-    filled-25 _ _ _ _ _ _ _ (c .before .before .before .before .before .before .before .before .before .before .before .before .before .before .pre .1) (c .before .before .before .before .before .before .before .before .before .before .put .ensures) (c .before .before .before .before .before .before .body .ensures) (c .before .before .put2 .ensures)
+returns c = (filled-25 _ _ _ _ _ _ _ (c .before .before .before .before .before .before .before .before .before .before .before .before .before .before .pre .1) (c .before .before .before .before .before .before .before .before .before .before .put .ensures) (c .before .before .before .before .before .before .body .ensures) (c .before .before .put2 .ensures), omega arith)
 
 pub fill-spec : {M : Type 1} → statement M
 fill-spec =
