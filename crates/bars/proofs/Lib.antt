@@ -7,3 +7,4 @@ pub mod Fill25
 pub mod FillEan
 pub mod Strokes
 pub mod Fits
+pub mod Rule
