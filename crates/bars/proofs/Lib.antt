@@ -1,0 +1,10 @@
+pub mod Lists
+pub mod Checks
+pub mod Tables
+pub mod Fill128
+pub mod Fill39
+pub mod Fill25
+pub mod FillEan
+pub mod Strokes
+pub mod Fits
+pub mod Rule

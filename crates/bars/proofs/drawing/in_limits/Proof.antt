@@ -1,0 +1,39 @@
+-- `drawing::in_limits` meets its contract. Assumes nothing.
+use Rattle.bars.specs.Drawing.{inLimits}
+use borrow.Author.Needs.{needs}
+use Rattle.bars.proofs.drawing.in_limits.Statement.{statement}
+use Rattle.bars.proofs.drawing.in_limits.Tie as tie
+
+is-between-requires : tie.Need-is-between-requires
+is-between-requires c κs = search needs
+
+is-between-requires-2 : tie.Need-is-between-requires-2
+is-between-requires-2 c κs = search needs
+
+both-requires : tie.Need-both-requires
+both-requires c κs = search needs
+
+is-between-requires-3 : tie.Need-is-between-requires-3
+is-between-requires-3 c κs = search needs
+
+both-requires-2 : tie.Need-both-requires-2
+both-requires-2 c κs = search needs
+
+both-requires-3 : tie.Need-both-requires-3
+both-requires-3 c κs = search needs
+
+returns : tie.Need-returns
+unfolding inLimits
+returns c = cc
+
+pub in-limits-spec : {M : Type 1} → statement M
+in-limits-spec =
+    tie.close
+    (tie.spec
+    is-between-requires
+    is-between-requires-2
+    both-requires
+    is-between-requires-3
+    both-requires-2
+    both-requires-3
+    returns)

@@ -1,0 +1,59 @@
+// Interleaved 2 of 5, ISO/IEC 16390: start, digits two by two, stop.
+ghost use mathlib.Core.Path.{_≡_};
+ghost use Prim.Native.Nat.{_-_, _%_, _≤_};
+ghost use lib.ListN.{length, getD};
+ghost use lib.Seq.{sets};
+ghost use Rattle.bars.specs.Elements.{pairs, elements25};
+ghost use Rattle.bars.specs.Laid.{Put, spread};
+use crate::row::above;
+use crate::row::put;
+use crate::row::wide;
+
+// The digits: five elements, 1 narrow and 2 wide, with a place left between them for those of another digit.
+const W25: [u32; 10] = [
+    101020201,
+    201010102,
+    102010102,
+    202010101,
+    101020102,
+    201020101,
+    102020101,
+    101010202,
+    201010201,
+    102010201,
+];
+
+fn row(b: u8) -> u32
+    ensures { λ r. ⌜ r ≡ getD spread (b - 48) 0 ⌝ }
+{
+    let v = above(b, 48);
+    if 10 <= v {
+        return 0;
+    }
+    W25[v]
+}
+
+fn body(s: &[u8], out: &mut [u8])
+    requires { ⌜ length (now s) ≤ 128 ⌝ }
+    ensures { λ _. ⌜ now (out .exit) ≡ sets (now (out .entry)) 4 (pairs (now (s .entry))) ⌝ }
+{
+    let mut i = 0;
+    while i + 1 < s.len() {
+        put(
+            out,
+            5 * i + 4,
+            wide(row(s[i])) * 10 + wide(row(s[i + 1])),
+            10,
+        );
+        i += 2;
+    }
+}
+
+pub fn fill(s: &[u8], out: &mut [u8]) -> usize
+    requires { ⌜ (length (now s) ≤ 128) × (length (now s) % 2 ≡ 0) ⌝ }
+    ensures { λ r. ⌜ (Put (elements25 (now (s .entry))) 0 (now (out .entry)) (now (out .exit)) r) × (r ≤ 1299) ⌝ }
+{
+    let start = put(out, 0, 1111, 4);
+    body(s, out);
+    put(out, start + 5 * s.len(), 211, 3)
+}

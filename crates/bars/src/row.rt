@@ -1,0 +1,55 @@
+// A row of widths is fetched from its table as one number, and its digits are written out side by side. What would stand past
+// the end of the list that is lent is left out.
+ghost use mathlib.Core.Path.{_≡_};
+ghost use Prim.Native.Nat.{_+_, _-_, _%_, _≤_};
+ghost use lib.ListN.{set};
+ghost use lib.Seq.{sets};
+ghost use Rattle.bars.specs.Elements.{digits};
+
+// How far a byte is above k.
+pub fn above(b: u8, k: u8) -> usize
+    ensures { λ r. ⌜ (r ≡ b - k) × (r ≤ 255) ⌝ }
+{
+    if b < k { 0 } else { widened(b - k) }
+}
+
+fn widened(b: u8) -> usize
+    ensures { λ r. ⌜ r ≡ b ⌝ }
+{
+    b as usize
+}
+
+pub fn wide(row: u32) -> usize
+    ensures { λ r. ⌜ (r ≡ row) × (r ≤ 4294967295) ⌝ }
+{
+    row as usize
+}
+
+fn store(out: &mut [u8], i: usize, x: u8)
+    ensures { λ _. ⌜ now (out .exit) ≡ set (now (out .entry)) i x ⌝ }
+{
+    if i < out.len() {
+        out[i] = x;
+    }
+}
+
+fn last_digit(row: usize) -> u8
+    ensures { λ r. ⌜ r ≡ row % 10 ⌝ }
+{
+    (row % 10) as u8
+}
+
+// Writes the n digits of a row at a place, and answers the place after them.
+pub fn put(out: &mut [u8], at: usize, row: usize, n: usize) -> usize
+    requires { ⌜ at + n ≤ 10000 ⌝ }
+    ensures { λ r. ⌜ (r ≡ at + n) × (now (out .exit) ≡ sets (now (out .entry)) at (digits n row)) ⌝ }
+{
+    let mut left = n;
+    let mut rest = row;
+    while 0 < left {
+        left -= 1;
+        store(out, at + left, last_digit(rest));
+        rest /= 10;
+    }
+    at + n
+}
