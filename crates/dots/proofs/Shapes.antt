@@ -207,7 +207,8 @@ bands c x0 y0 x1 y1 top bottom left right hx hy et eb el er x y =
         → box x0 y0 left y1 x y ≡ false → Dec (x < right) → box right y0 x1 y1 x y ≡ true
     last i n f g h (no d) = box-in right y0 x1 y1 x y (omega arith)
     last i n f g h (yes d) = absurd (differ (box (x0 + c) (y0 + c) (x1 - c) (y1 - c) x y)
-        (box-in (x0 + c) (y0 + c) (x1 - c) (y1 - c) x y (let a = above (decLt y top) in let b = beneath (decLt y bottom) in let l = beyond (decLt x left) in omega arith))
+        (box-in (x0 + c) (y0 + c) (x1 - c) (y1 - c) x y
+        (let a = above (decLt y top) in let b = beneath (decLt y bottom) in let l = beyond (decLt x left) in omega arith))
         (not-true _ n))
       where
         above : Dec (y < top) → top ≤ y

@@ -10,7 +10,8 @@ use Rattle.figures.proofs.edge.Tie as tie
 
 returns : tie.Need-returns
 returns c = let a = c .before .args in
-    edge-none 18446744073709551615 (a .d) (a .g) (omega arith) ∙ ap (λ (n : ℕ). min 18446744073709551615 (a .d + a .g * n)) (let z : 0 ≡ a .m = omega arith in z)
+    edge-none 18446744073709551615 (a .d) (a .g) (omega arith)
+    ∙ ap (λ (n : ℕ). min 18446744073709551615 (a .d + a .g * n)) (let z : 0 ≡ a .m = omega arith in z)
 
 sub-room : tie.Need-sub-room
 sub-room c = search needs

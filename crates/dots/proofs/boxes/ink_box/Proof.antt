@@ -35,7 +35,9 @@ returns c = let s = c .before .before .before .before .before in let a = s .befo
     (λ j. omega (arith, s .slice-known .given j)) (λ x y i j h. omega arith)
 
 loop-holds : tie.Need-loop-holds Inv-loop μ-loop
-loop-holds c = (search needs, search needs, box-none _ _ _ _ _ _ (λ j. omega (arith, c .before .before .before .before .before .slice-known .given j)) (λ x y s t h. omega arith), search needs)
+loop-holds c =
+    let s = c .before .before .before .before .before in
+    (search needs, search needs, box-none _ _ _ _ _ _ (λ j. omega (arith, s .slice-known .given j)) (λ x y i k h. omega arith), search needs)
 
 ink-span-requires : tie.Need-ink-span-requires Inv-loop μ-loop
 ink-span-requires c κs = search needs

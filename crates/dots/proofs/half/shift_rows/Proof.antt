@@ -29,7 +29,8 @@ loop-less c = search needs
 
 loop-again : tie.Need-loop-again Inv-loop μ-loop
 loop-again c = let w = c .before .before in let l = w .before .before .before in let a = l .before .before .args in
-    shifted-step (a .s) (a .page .now) (l .loop .page) (w .shift-byte .last .0) (l .loop .i) (l .loop .inv) (w .before .before .loop-test .taken) (w .shift-byte .ensures)
+    shifted-step (a .s) (a .page .now) (l .loop .page) (w .shift-byte .last .0) (l .loop .i) (l .loop .inv)
+    (w .before .before .loop-test .taken) (w .shift-byte .ensures)
 
 same-length : tie.Need-same-length Inv-loop μ-loop
 same-length c = search needs

@@ -44,7 +44,8 @@ loop-again c = let l = c .before .before .before .before in (
 )
 
 returns : tie.Need-returns Inv-loop μ-loop
-returns c = sym (count-done _ (c .before .loop .i) (c .before .loop .n) 18446744073709551615 (c .loop-test .left) (c .before .loop .inv .1)) ∙ c .before .loop .inv .2
+returns c =
+    let l = c .before .loop in sym (count-done _ (l .i) (l .n) 18446744073709551615 (c .loop-test .left) (l .inv .1)) ∙ l .inv .2
 
 pub black-dots-spec : {M : Type 1} → statement M
 black-dots-spec =

@@ -35,8 +35,11 @@ loop-less : tie.Need-loop-less Inv-loop μ-loop
 loop-less c = search needs
 
 loop-again : tie.Need-loop-again Inv-loop μ-loop
-loop-again c = let l = c .before .before in let a = l .before .before .before .before .args in
-    (search needs, copy-next (a .page .now) (a .background .now) (l .loop .page) (l .loop .i) (omega arith) (omega arith) (l .loop .inv .1), simp length-set (omega arith))
+loop-again c = let l = c .before .before in let a = l .before .before .before .before .args in (
+  search needs,
+  copy-next (a .page .now) (a .background .now) (l .loop .page) (l .loop .i) (omega arith) (omega arith) (l .loop .inv .1),
+  simp length-set (omega arith),
+)
 
 same-length : tie.Need-same-length Inv-loop μ-loop
 same-length c = search needs
