@@ -360,3 +360,11 @@ module _ (line : List ℕ) (d : Declared) (es : List Element) (k : Kind) where
       go false b p q = (low d, low-permitted d, p)
       go true false p q = (high d, high-permitted d, q)
       go true true p q = absurd (true≢false (sym (extremes-judged p q) ∙ j))
+
+  -- refused exactly when some permitted values make the data unfit
+  pub refused-iff-unfit : (judged line d es k ≡ false) ↔ ((v : Values) × Permitted d v × (fit k (assembled line d v es) ≡ false))
+  refused-iff-unfit = (unfit-witness, λ w. go (judged line d es k) refl w)
+    where
+      go : (b : Bool) → judged line d es k ≡ b → ((v : Values) × Permitted d v × (fit k (assembled line d v es) ≡ false)) → b ≡ false
+      go false p w = refl
+      go true p w = absurd (true≢false (sym (judged-always p (w .0) (w .1)) ∙ w .2))

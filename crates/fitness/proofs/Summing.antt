@@ -13,7 +13,7 @@ use Rattle.fit.specs.Fit.{fitLength}
 use Rattle.fields.specs.declared.Element.{Element}
 use Rattle.values.specs.declared.declarations.Declared.{Declared}
 use Rattle.fitness.specs.declared.summary.Summary.{Summary as Sum}
-use Rattle.fitness.specs.Summary.{leastOf, mostOf, goodOf, least, most, good, judged, upTo, summary, summaryOf, decided, summed}
+use Rattle.fitness.specs.Summary.{leastOf, mostOf, goodOf, least, most, good, judged, upTo, summary, summaryOf, joined, decided}
 
 -- ---- lengths past 128
 
@@ -32,6 +32,11 @@ fit-upTo k n = elim (decLe n 129) [
 ]
 
 -- ---- the sums
+
+-- the elements' summaries joined, one after another
+abbrev pub summed : Kind → List ℕ → Declared → Sum → List Element → Sum
+summed k line d s [] = s
+summed k line d s (e ∷ es) = summed k line d (joined s (summaryOf k line d e)) es
 
 up-up : (a x : ℕ) → upTo (upTo a + x) ≡ upTo (a + x)
 up-up a x = omega arith

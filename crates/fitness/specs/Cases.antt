@@ -1,9 +1,12 @@
 -- The paper's own data, judged.
 -- Assumes nothing.
 use Prim.Native.Nat.{ℕ}
+use Prim.Native.String.{String}
 use mathlib.Core.Path.{_≡_, refl}
-use mathlib.Core.Bool.{true, false}
-use Rattle.fit.specs.declared.Kind.the-variants.{Code39, Interleaved, Ean13, Code128}
+use mathlib.Core.Bool.{Bool, true, false}
+use mathlib.Core.List.{[], _∷_}
+use Rattle.fit.specs.declared.Kind.{Kind}
+use Rattle.fit.specs.declared.Kind.the-variants.{Shown, Code39, Interleaved, Ean13, Code128}
 use Rattle.fit.specs.Bytes.{between}
 use Rattle.fit.specs.Fit.{inClass, fitLength}
 use Rattle.fields.specs.Text.{bytes}
@@ -12,6 +15,7 @@ use Rattle.fields.specs.Field.{numberAt, textAt, byteAt}
 use Rattle.fields.specs.Data.{modifierAt, heldAt, elementAt, elementsFrom, elements}
 use Rattle.values.specs.declared.declarations.Declared.{Declared}
 use Rattle.values.specs.Declarations.{nothing, withVariable, withCounter}
+use Rattle.fitness.specs.declared.answers.DataAnswer.{DataAnswer}
 use Rattle.fitness.specs.declared.answers.DataAnswer.the-variants.{Good, Undeclared, Past}
 use Rattle.fitness.specs.Answers.{reachesPast, undeclaredBy, pastBy, dataAnswer}
 use Rattle.fitness.specs.Summary.{partLength, judged}
@@ -20,47 +24,31 @@ use Rattle.fitness.specs.Summary.{partLength, judged}
 declared : ℕ → Declared
 declared side = withCounter (withVariable nothing 0 5 side) 0 2 false 1
 
--- "Taking Code 39 for a text variable because today's value is fine": refused for L (76), taken for Z (90)
-case-39 : judged (bytes "V0L1V0M3.2V0R1") (declared 76) (elements (bytes "V0L1V0M3.2V0R1") 0) Code39 ≡ false
-unfolding judged inClass fitLength partLength declared withCounter withVariable nothing between run valueFrom numberAt textAt byteAt modifierAt heldAt elementAt elementsFrom elements
-case-39 = refl
+judgedOf : String → ℕ → Kind → Bool
+judgedOf text side k = judged (bytes text) (declared side) (elements (bytes text) 0) k
 
-case-39-digits : judged (bytes "V0L1V0M3.2V0R1") (declared 90) (elements (bytes "V0L1V0M3.2V0R1") 0) Code39 ≡ true
-unfolding judged inClass fitLength partLength declared withCounter withVariable nothing between run valueFrom numberAt textAt byteAt modifierAt heldAt elementAt elementsFrom elements
-case-39-digits = refl
+-- "Taking Code 39 for a text variable because today's value is fine": L (76) is refused, Z (90) taken; four digits of a Z are two pairs, five
+-- are none; ten digits and a counter of two are E30's twelve; an N (78) may be empty, so it is no data of type 1 by itself
+case-15 :
+    judgedOf "V0L1V0M3.2V0R1" 76 Code39
+    ∷ judgedOf "V0L1V0M3.2V0R1" 90 Code39
+    ∷ judgedOf "V0L1V0M3.2V0R1" 90 Interleaved
+    ∷ judgedOf "V0" 90 Interleaved
+    ∷ judgedOf "\"1234567890\"C0" 76 Ean13
+    ∷ judgedOf "V0" 78 Code128
+    ∷ judgedOf "V0\"-\"" 78 Code128
+    ∷ judgedOf "V0" 78 Shown
+    ∷ []
+    ≡ false ∷ true ∷ true ∷ false ∷ true ∷ false ∷ true ∷ true ∷ []
+unfolding judgedOf judged inClass fitLength partLength declared withCounter withVariable nothing between run valueFrom numberAt textAt byteAt modifierAt heldAt elementAt elementsFrom elements
+case-15 = refl
 
--- four digits of a Z variable are two pairs; five are none
-case-pairs : judged (bytes "V0L1V0M3.2V0R1") (declared 90) (elements (bytes "V0L1V0M3.2V0R1") 0) Interleaved ≡ true
-unfolding judged inClass fitLength partLength declared withCounter withVariable nothing between run valueFrom numberAt textAt byteAt modifierAt heldAt elementAt elementsFrom elements
-case-pairs = refl
+answerOf : String → DataAnswer
+answerOf text = dataAnswer (declared 76) (elements (bytes text) 0)
 
-case-odd : judged (bytes "V0") (declared 90) (elements (bytes "V0") 0) Interleaved ≡ false
-unfolding judged inClass fitLength partLength declared withCounter withVariable nothing between run valueFrom numberAt textAt byteAt modifierAt heldAt elementAt elementsFrom elements
-case-odd = refl
-
--- E30: ten digits and a counter of two
-case-ean : judged (bytes "\"1234567890\"C0") (declared 76) (elements (bytes "\"1234567890\"C0") 0) Ean13 ≡ true
-unfolding judged inClass fitLength partLength declared withCounter withVariable nothing between run valueFrom numberAt textAt byteAt modifierAt heldAt elementAt elementsFrom elements
-case-ean = refl
-
--- an N (78) variable may be empty, so it is no data of type 1 by itself
-case-empty : judged (bytes "V0") (declared 78) (elements (bytes "V0") 0) Code128 ≡ false
-unfolding judged inClass fitLength partLength declared withCounter withVariable nothing between run valueFrom numberAt textAt byteAt modifierAt heldAt elementAt elementsFrom elements
-case-empty = refl
-
-case-some : judged (bytes "V0\"-\"") (declared 78) (elements (bytes "V0\"-\"") 0) Code128 ≡ true
-unfolding judged inClass fitLength partLength declared withCounter withVariable nothing between run valueFrom numberAt textAt byteAt modifierAt heldAt elementAt elementsFrom elements
-case-some = refl
-
--- the lowest of 13 and 14 over all elements; `M4.2` reaches to place 5, `M5.2` past it
-case-within : dataAnswer (declared 76) (elements (bytes "V0M4.2C0R2") 0) ≡ Good
-unfolding dataAnswer undeclaredBy pastBy reachesPast declared withCounter withVariable nothing between run valueFrom numberAt textAt byteAt modifierAt heldAt elementAt elementsFrom elements
-case-within = refl
-
-case-14 : dataAnswer (declared 76) (elements (bytes "V0M5.2C0R2") 0) ≡ Past
-unfolding dataAnswer undeclaredBy pastBy reachesPast declared withCounter withVariable nothing between run valueFrom numberAt textAt byteAt modifierAt heldAt elementAt elementsFrom elements
-case-14 = refl
-
-case-13 : dataAnswer (declared 76) (elements (bytes "V0M5.2C1") 0) ≡ Undeclared
-unfolding dataAnswer undeclaredBy pastBy reachesPast declared withCounter withVariable nothing between run valueFrom numberAt textAt byteAt modifierAt heldAt elementAt elementsFrom elements
-case-13 = refl
+-- the lowest of 13 and 14 over all elements; `M4.2` reaches to place 5, `M5.2` past it; a counter's length is its width
+case-13-14 :
+    answerOf "V0M4.2C0R2" ∷ answerOf "V0M5.2C0R2" ∷ answerOf "C0R3" ∷ answerOf "V0M5.2C1" ∷ answerOf "\"V1\"" ∷ []
+    ≡ Good ∷ Past ∷ Past ∷ Undeclared ∷ Good ∷ []
+unfolding answerOf dataAnswer undeclaredBy pastBy reachesPast declared withCounter withVariable nothing between run valueFrom numberAt textAt byteAt modifierAt heldAt elementAt elementsFrom elements
+case-13-14 = refl

@@ -91,7 +91,3 @@ joined s t = summary (upTo (s .least + t .least)) (upTo (s .most + t .most)) (s 
 
 abbrev pub decided : Summary → Kind → Bool
 decided s k = fitLength k (s .least) && (fitLength k (s .most) && s .good)
-
-abbrev pub summed : Kind → List ℕ → Declared → Summary → List Element → Summary
-summed k line d s [] = s
-summed k line d s (e ∷ es) = summed k line d (joined s (summaryOf k line d e)) es

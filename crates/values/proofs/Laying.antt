@@ -10,7 +10,7 @@ use Rattle.fields.specs.declared.What.{What}
 use Rattle.fields.specs.declared.Element.{Element}
 use Rattle.values.specs.declared.declarations.Declared.{Declared}
 use Rattle.values.specs.Counters.{digits, digitsOf}
-use Rattle.values.specs.Data.{Values, valueOf, pieceOf, pieceAt, assembled, row, shown, lay, laid}
+use Rattle.values.specs.Data.{Laid, Values, valueOf, pieceOf, pieceAt, assembled, row, shown, lay}
 use Rattle.values.proofs.Lists.{length-digits}
 use Rattle.values.proofs.Writing.{sets-past, sets-append}
 
@@ -31,6 +31,11 @@ pub counter-shown : (g : List ℕ) (n w m x : ℕ) → g ≡ digitsOf n w → w 
 counter-shown g n w m x p q r = rw p (digits-front n w (omega arith) ∙ rw (q, r))
 
 -- ---- what is laid out
+
+-- the pieces of all elements, one behind another
+abbrev pub laid : List ℕ → Declared → Values → Laid → List Element → Laid
+laid line d v l [] = l
+laid line d v l (e ∷ es) = laid line d v (lay (pieceAt line d v e) l) es
 
 row-same : (a b : ℕ) (x y : List ℕ) → a ≡ b → x ≡ y → row a x ≡ row b y
 row-same a b x y p q = cc

@@ -15,7 +15,7 @@ use Rattle.values.specs.declared.counters.Entered.the-variants.{Undeclar
 use Rattle.values.specs.Declarations.{nothing, withVariable, withCounter}
 use Rattle.values.specs.Counters.{tenTo, digits, noneSet, counterValue, counterEntered, moved, movedAt, movedAll}
 use Rattle.values.specs.Stored.{enters, padded, variableEntered}
-use Rattle.values.specs.Data.{partOf, pieceOf, Values, assembled}
+use Rattle.values.specs.Data.{partOf, pieceOf, Values, dataOf}
 
 -- V0 of length 5, left justified (76), and C0 of two digits, step +1
 declared : Declared
@@ -25,12 +25,12 @@ abcde : Values
 abcde = record { variable = λ k. bytes "ABCDE"; counter = λ k. 7 }
 
 -- (7) "V0, m 5, = `ABCDE`: `V0L1V0M3.2V0R1` gives `ACDE`"
-case-7 : assembled (bytes "V0L1V0M3.2V0R1") declared abcde (elements (bytes "V0L1V0M3.2V0R1") 0) ≡ bytes "ACDE"
+case-7 : dataOf (bytes "V0L1V0M3.2V0R1") 0 declared abcde ≡ bytes "ACDE"
 unfolding abcde partOf pieceOf between run valueFrom numberAt textAt byteAt modifierAt heldAt elementAt elementsFrom elements
 case-7 = refl
 
 -- a counter is its w digits, and quoted text stands as it is, from any place of a line on
-case-text : assembled (bytes "A\"No \"C0\"!\"") declared abcde (elements (bytes "A\"No \"C0\"!\"") 1) ≡ bytes "No 07!"
+case-text : dataOf (bytes "A\"No \"C0\"!\"") 1 declared abcde ≡ bytes "No 07!"
 unfolding declared withCounter withVariable nothing abcde partOf pieceOf digits between run valueFrom numberAt textAt byteAt modifierAt heldAt elementAt elementsFrom elements
 case-text = refl
 

@@ -49,11 +49,23 @@ nothing = record {
 -- `Vn,m,j`: a length above 32 counts as 32, and an n above 9 declares nothing
 unfoldable pub withVariable : Declared → ℕ → ℕ → ℕ → Declared
 withVariable d n m j = cond (ltb n 10)
-    (record { lengths = set (d .lengths) n (min m 32); sides = set (d .sides) n j; widths = d .widths; minus = d .minus; steps = d .steps })
+    (record {
+      lengths = set (d .lengths) n (min m 32);
+      sides = set (d .sides) n j;
+      widths = d .widths;
+      minus = d .minus;
+      steps = d .steps;
+    })
     d
 
 -- `Cn,w,s`: a width above 9 counts as 9, a step above 99999 as 99999, and an n above 9 declares nothing
 unfoldable pub withCounter : Declared → ℕ → ℕ → Bool → ℕ → Declared
 withCounter d n w minus step = cond (ltb n 10)
-    (record { lengths = d .lengths; sides = d .sides; widths = set (d .widths) n (min w 9); minus = set (d .minus) n (cond minus 1 0); steps = set (d .steps) n (min step 99999) })
+    (record {
+      lengths = d .lengths;
+      sides = d .sides;
+      widths = set (d .widths) n (min w 9);
+      minus = set (d .minus) n (cond minus 1 0);
+      steps = set (d .steps) n (min step 99999);
+    })
     d

@@ -77,7 +77,9 @@ stored a vs = record { answer = a; values = vs }
 -- `?Vn,"text"`: [13] not declared; [17] the text does not fit; else field n keeps it as padded
 unfoldable pub variableEntered : Declared → ℕ → List ℕ → List ℕ → Stored
 variableEntered d n text values = cond (variableDeclared d n)
-    (cond (enters (sideAt d n) (lengthAt d n) text) (stored Taken (sets values (34 * n) (field (padded (sideAt d n) (lengthAt d n) text)))) (stored Unfit values))
+    (cond (enters (sideAt d n) (lengthAt d n) text)
+    (stored Taken (sets values (34 * n) (field (padded (sideAt d n) (lengthAt d n) text))))
+    (stored Unfit values))
     (stored Undeclared values)
 
 -- every byte 0: "An unset field is all zero"
@@ -86,7 +88,7 @@ unset values = replicate (length values) 0
 
 -- ---- sound
 
--- "A variable's stored bytes fit when: L, R, C: exactly m legal bytes; N: 0 to m legal bytes; Z: exactly m digits"
+-- a stored value fits: L, R and C exactly m legal bytes, N 0 to m legal bytes, Z exactly m digits
 unfoldable pub fits : ℕ → ℕ → List ℕ → Bool
 fits side m v =
     cond (eqb side 78) (leb (length v) m && allIn legal v)

@@ -7,8 +7,8 @@ use lib.ListN.{length}
 use Rattle.fields.specs.Data.{elements}
 use Rattle.fields.proofs.Steps.{element-took, element-past, elements-next, elements-stop}
 use Rattle.fitness.specs.declared.summary.Summary.{Summary as Sum}
-use Rattle.fitness.specs.Summary.{summary, summed, decided}
-use Rattle.fitness.proofs.Summing.{decided-judged}
+use Rattle.fitness.specs.Summary.{summary, decided}
+use Rattle.fitness.proofs.Summing.{summed, decided-judged}
 use borrow.Author.Needs.{needs}
 use Rattle.fitness.proofs.summary.always_fit.Statement.{statement}
 use Rattle.fitness.proofs.summary.always_fit.Tie as tie
