@@ -4,6 +4,7 @@ use mathlib.Core.Path.{_≡_, refl, sym, ap, subst, _∙_}
 use mathlib.Core.Bool.{Bool, true, false, not, _&&_}
 use mathlib.Core.List.{List, [], _∷_, _++_, map}
 use Prim.Native.Nat.{ℕ, zero, suc, _+_, _-_, _*_, _%_, _≤_, _<_}
+use native.Mathlib.Nat.{mul-le-mul}
 use native.Mathlib.Omega.{arith}
 use borrow.Author.Tests.{leb-true}
 use lib.Dec.{T, T-not, leb, eqb, eqb→eq, eqb-refl, leb→le}
@@ -66,6 +67,14 @@ rule v h =
           T-not (eqb (number u) (number v)) (below-at (apart-of v) v (and-right (bars-of v) (below (apart-of v) v) t2) u l)
           (subst (λ k. T (eqb (number u) k)) (ap packed e) (eqb-refl (number u)));
     }
+
+-- ---- widths: an element of symbol v is from e to 4 e dots wide
+pub width-128 : (v j e f : ℕ) → v < 106 → j < 6 → (e ≤ dotsOf Code128 e f (getD (six v) j 0)) × (dotsOf Code128 e f (getD (six v) j 0) ≤ 4 * e)
+unfolding dotsOf
+width-128 v j e f h i =
+    let w = rule v h .each j i in
+    let low : 1 * e ≤ getD (six v) j 0 * e = mul-le-mul {n₂ = getD (six v) j 0} {m₂ = e} (w .0) (omega arith) in
+    (omega arith, mul-le-mul {n₂ = 4} {m₂ = e} (w .1) (omega arith))
 
 -- ---- widths: a symbol of Code 128 with n bytes of data is e times 11 n + 35 dots wide
 

@@ -19,7 +19,8 @@ use Rattle.dots.proofs.Shapes.{then-black, cut-ext}
 use Rattle.figures.specs.Figures.{placed}
 use Rattle.figures.proofs.Placed.{placed-or, placed-ext, none-placed}
 use Rattle.fit.specs.declared.Kind.{Kind}
-use Rattle.bars.specs.Elements.{elements}
+use Rattle.fit.specs.Fit.{fit}
+use Rattle.bars.specs.Elements.{elementsIn, elements}
 use Rattle.bars.specs.Drawing.{dotsOf, widths, sum, inBar, bars}
 use Rattle.bars.specs.Laid.{Put}
 
@@ -133,16 +134,17 @@ written-front xs l m n p h =
     let e : n ≡ length xs = omega (arith, p .next) in
     ap (λ k. take k m) e ∙ ap (take (length xs)) (p .written ∙ s) ∙ take-append-seam xs (drop (0 + length xs) l)
 
-pub strokes-drawn : (W L x y r g w n a b e f : ℕ) (kind : Kind) (s l m p q : List ℕ) → a ≡ e → b ≡ f → Put (elements kind s) 0 l m n → n ≤ 1299 → 1299 ≤ length l
+pub strokes-drawn : (W L x y r g w n a b e f : ℕ) (kind : Kind) (s l m p q : List ℕ) → a ≡ e → b ≡ f → fit kind s ≡ true → Put (elementsIn kind s) 0 l m n → n ≤ 1299 → 1299 ≤ length l
     → w ≡ sum (map (dotsOf kind a b) (take n m)) → q ≡ drawn Black (cut W L (placed r w g x y (bars (map (dotsOf kind a b) (take n m))))) p
     → q ≡ drawn Black (cut W L (placed r (sum (widths kind e f s)) g x y (bars (widths kind e f s)))) p
-unfolding widths
-strokes-drawn W L x y r g w n a b e f kind s l m p q ea eb put h k t d =
-    let front : take n m ≡ elements kind s = written-front (elements kind s) l m n put (omega (arith, put .next)) in
-    let same : map (dotsOf kind a b) (take n m) ≡ map (dotsOf kind e f) (elements kind s) =
+unfolding widths elements
+strokes-drawn W L x y r g w n a b e f kind s l m p q ea eb ok put h k t d =
+    let front : take n m ≡ elementsIn kind s = written-front (elementsIn kind s) l m n put (omega (arith, put .next)) in
+    let same : map (dotsOf kind a b) (take n m) ≡ map (dotsOf kind e f) (elementsIn kind s) =
     ap (λ i. map (dotsOf kind i b) (take n m)) ea ∙ ap (λ i. map (dotsOf kind e i) (take n m)) eb ∙ ap (map (dotsOf kind e f)) front in
-    d ∙ ap (λ i. drawn Black (cut W L (placed r i g x y (bars (map (dotsOf kind a b) (take n m))))) p) t
-    ∙ ap (λ ws. drawn Black (cut W L (placed r (sum ws) g x y (bars ws))) p) same
+    rw ok
+    (d ∙ ap (λ i. drawn Black (cut W L (placed r i g x y (bars (map (dotsOf kind a b) (take n m))))) p) t
+    ∙ ap (λ ws. drawn Black (cut W L (placed r (sum ws) g x y (bars ws))) p) same)
 
 pub part-length : (xs l m : List ℕ) (n : ℕ) → Put xs 0 l m n → n ≤ 1299 → 1299 ≤ length l → n ≡ length (take n m)
 part-length xs l m n p h k =

@@ -8,6 +8,7 @@ use lib.Dec.{ltb, eqb}
 use Rattle.fit.specs.declared.Kind.{Kind}
 use Rattle.fit.specs.declared.Kind.the-variants.{Shown, Code39, Interleaved, Ean13, Code128}
 use Rattle.fit.specs.Bytes.{between}
+use Rattle.fit.specs.Fit.{fit}
 use Rattle.dots.specs.declared.Ink.the-variants.{Black}
 use Rattle.dots.specs.Dots.{within, drawn, cut}
 use Rattle.figures.specs.Figures.{placed}
@@ -43,7 +44,8 @@ inBar bar at (w ∷ ws) u = (bar && within at (at + w) u) || inBar (not bar) (at
 unfoldable pub bars : List ℕ → ℕ → ℕ → Bool
 bars ws u v = inBar true 0 ws u
 
--- "Spaces leave dots as they are"; with numbers out of their limits, as with unfit data (which have no elements), nothing is drawn
+-- "Spaces leave dots as they are"; with numbers out of their limits, or data that are unfit for the type, nothing is drawn
 unfoldable pub barsDrawn : ℕ → ℕ → ℕ → ℕ → ℕ → Kind → ℕ → ℕ → ℕ → List ℕ → List ℕ → List ℕ
 barsDrawn width length x y r kind e f g s page =
-    let ws = widths kind e f s in cond (inLimits e f g) (drawn Black (cut width length (placed r (sum ws) g x y (bars ws))) page) page
+    let ws = widths kind e f s in
+    cond (inLimits e f g && fit kind s) (drawn Black (cut width length (placed r (sum ws) g x y (bars ws))) page) page

@@ -71,10 +71,10 @@ fn place(
     bytes: &[u8],
     ws: &mut [u8],
 )
-    requires { ⌜ (e ≤ 6) × (f ≤ 10) × (1299 ≤ ListN.length (now ws)) ⌝ }
+    requires { ⌜ (e ≤ 6) × (f ≤ 10) × (1299 ≤ ListN.length (now ws)) × (fit kind (now bytes) ≡ true) ⌝ }
     ensures { λ _. ⌜ now (page .exit) ≡ drawn Ink.Black (cut width length (placed r (sum (widths kind e f (now (bytes .entry)))) g x y (bars (widths kind e f (now (bytes .entry)))))) (now (page .entry)) ⌝ }
 {
-    let n = elements(kind, bytes, ws);
+    let n = fill(kind, bytes, ws);
     let narrow = e as u8;
     let wide = f as u8;
     let w = drawing::total(kind, narrow, wide, &ws[..n]);
@@ -111,7 +111,9 @@ pub fn draw(
     ensures { λ _. ⌜ now (page .exit) ≡ barsDrawn width length x y r kind e f g (now (bytes .entry)) (now (page .entry)) ⌝ }
 {
     if drawing::in_limits(e, f, g) {
-        let mut ws = [0u8; 1299];
-        place(page, width, length, x, y, r, kind, e, f, g, bytes, &mut ws);
+        if fit::fits(kind, bytes) {
+            let mut ws = [0u8; 1299];
+            place(page, width, length, x, y, r, kind, e, f, g, bytes, &mut ws);
+        }
     }
 }
