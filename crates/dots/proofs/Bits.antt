@@ -1,14 +1,14 @@
 -- The dots of a byte: a byte is what its eight dots say, and what `|` and `^` do to them.
 -- Assumes nothing.
-use mathlib.Core.Path.{_≡_, refl, sym, ap, _∙_, subst}
-use mathlib.Core.Bool.{Bool, true, false, not, cond, _&&_, _||_, xor}
+use mathlib.Core.Path.{_≡_, refl, sym, ap, _∙_}
+use mathlib.Core.Bool.{Bool, true, false, not, cond, _&&_, _||_}
 use Prim.Native.Nat.{ℕ, zero, suc, _+_, _-_, _*_, _/_, _%_, _^_, _≤_, _<_}
 use native.Mathlib.Nat.{mod-lt, le-of-suc-le-suc, not-suc-le-zero}
 use native.Mathlib.Omega.{arith}
 use native.Mathlib.Decide.{ℕ-discrete}
 use lib.Dec.{leb, ltb, eqb, lit<}
 use lib.Count.{ones, onesIn}
-use lib.Bits.{bitAnd, bitOr, bitXor, and-shr, and-mod, or-shr, or-mod, xor-shr, xor-mod, and-lt, or-lt, xor-lt}
+use lib.Bits.{bitAnd, bitOr, bitXor, and-shr, and-mod, or-shr, or-mod, xor-shr, xor-mod, or-lt, xor-lt}
 use borrow.Author.Tests.{leb-true, ltb-true, eqb-true, le-leb}
 use Rattle.dots.specs.declared.Ink.{Ink}
 use Rattle.dots.specs.declared.Ink.the-variants.{Black, White, Inverted}
@@ -163,8 +163,8 @@ white-byte b m hb hm =
     byte-by-bits (bitXor (bitOr b m) m) _ (xor-lt 8 (bitOr b m) m (or-lt 8 b m hb hm) hm)
     (λ k t. xor-bit (bitOr b m) m k ∙ ap (λ (o : Bool). cond (bitOf m k) (not o) o) (or-bit b m k) ∙ white-dot (bitOf b k) (bitOf m k))
 
-pub flip-byte : (b m : ℕ) → b < 256 → m < 256 → bitXor b m ≡ inkedByte Inverted b m
-flip-byte b m hb hm = byte-by-bits (bitXor b m) _ (xor-lt 8 b m hb hm) (λ k t. xor-bit b m k)
+pub inverted-byte : (b m : ℕ) → b < 256 → m < 256 → bitXor b m ≡ inkedByte Inverted b m
+inverted-byte b m hb hm = byte-by-bits (bitXor b m) _ (xor-lt 8 b m hb hm) (λ k t. xor-bit b m k)
 
 -- ---- a test at each number below n, which antt computes
 abbrev pub allBelow : ℕ → (ℕ → Bool) → Bool

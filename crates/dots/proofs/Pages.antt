@@ -1,20 +1,20 @@
 -- The laws of `redrawn` and `drawn`: bytes and dots of the page drawn, two drawings in turn, drawings that are equal, drawings that change nothing.
 -- Assumes nothing.
-use mathlib.Core.Path.{_≡_, refl, sym, ap, _∙_, subst}
-use mathlib.Core.Bool.{Bool, true, false, not, cond, _&&_, _||_}
+use mathlib.Core.Path.{_≡_, refl, sym, ap, _∙_}
+use mathlib.Core.Bool.{Bool, true, false, cond, _&&_, _||_}
 use mathlib.Core.List.{List, [], _∷_}
-use Prim.Native.Nat.{ℕ, zero, suc, _+_, _-_, _*_, _/_, _%_, _^_, _≤_, _<_}
-use native.Mathlib.Nat.{mod-lt, zero-add, le-of-suc-le-suc, not-suc-le-zero}
+use Prim.Native.Nat.{ℕ, zero, suc, _+_, _-_, _*_, _/_, _%_, _≤_, _<_}
+use native.Mathlib.Nat.{zero-add, le-of-suc-le-suc, not-suc-le-zero}
 use native.Mathlib.Decide.{ℕ-discrete, decLt}
 use native.Mathlib.Omega.{arith}
 use lib.Dec.{ltb, lit<}
-use lib.ListN.{length, getD, set, length-set}
+use lib.ListN.{List·getD-eq-default, length, getD, set, length-set}
 use lib.Seq.{ext-getD, getD-set-same, getD-set-other}
 use borrow.Author.Tests.{lt-ltb}
 use Rattle.dots.specs.declared.Ink.{Ink}
-use Rattle.dots.specs.declared.Ink.the-variants.{Black, White, Inverted}
-use Rattle.dots.specs.Dots.{one, bitOf, byteOf, byteDrawn, redrawnFrom, redrawn, inked, drawn, rows, dotAt}
-use Rattle.dots.proofs.Bits.{byte-cong, bit-of-byte, byte-is, byte-by-bits, byte-lt, inkedByte, not-below}
+use Rattle.dots.specs.declared.Ink.the-variants.{Black}
+use Rattle.dots.specs.Dots.{bitOf, byteDrawn, redrawnFrom, redrawn, inked, drawn, rows, dotAt}
+use Rattle.dots.proofs.Bits.{byte-lt, byte-cong, bit-of-byte, byte-is, byte-by-bits, inkedByte, not-below}
 
 -- each element is a byte
 abbrev pub Bytes : List ℕ → Type 0
@@ -104,6 +104,15 @@ redrawn-same f p by e =
     redrawn-ext f (λ x y o. o) p e
     ∙ sym (redrawn-by-bytes (λ x y o. o) p p refl (λ i h. sym (byte-is (getD p i 0) (by i))) (λ i h k. refl))
 
+-- a page drawn on is a page of bytes
+pub bytes-redrawn : (f : ℕ → ℕ → Bool → Bool) (p : List ℕ) → Bytes p → Bytes (redrawn f p)
+bytes-redrawn f p by i = at (decLt i (rows p * 76)) (decLt i (length p))
+  where
+    at : Dec (i < rows p * 76) → Dec (i < length p) → getD (redrawn f p) i 0 < 256
+    at (yes t) d = rw (getD-redrawn f p i t) (byte-lt (λ k. f (i % 76 * 8 + k) (i / 76) (bitOf (getD p i 0) k)))
+    at (no t) (yes s) = rw (getD-redrawn-rest f p i (omega arith) s) (by i)
+    at (no t) (no s) = rw (List·getD-eq-default (redrawn f p) 0 (let e : length (redrawn f p) ≤ i = omega (arith, length-redrawn f p) in e)) (lit< tt)
+
 -- ---- `redrawn`, dot by dot: each dot of the page is what f says, and no other page is so
 pub dot-redrawn : (f : ℕ → ℕ → Bool → Bool) (p : List ℕ) (x y : ℕ) → x < 608 → y < rows p
     → dotAt (redrawn f p) x y ≡ f x y (dotAt p x y)
@@ -142,13 +151,18 @@ pub length-drawn : (ink : Ink) (s : ℕ → ℕ → Bool) (p : List ℕ) → len
 unfolding drawn
 length-drawn ink s p = length-redrawn (dot ink s) p
 
+pub bytes-drawn : (ink : Ink) (s : ℕ → ℕ → Bool) (p : List ℕ) → Bytes p → Bytes (drawn ink s p)
+unfolding drawn
+bytes-drawn ink s p by = bytes-redrawn (dot ink s) p by
+
 -- a dot of the page after a drawing
 pub dot-drawn : (ink : Ink) (s : ℕ → ℕ → Bool) (p : List ℕ) (x y : ℕ) → x < 608 → y < rows p
     → dotAt (drawn ink s p) x y ≡ cond (s x y) (inked ink (dotAt p x y)) (dotAt p x y)
 unfolding drawn
 dot-drawn ink s p x y h k = dot-redrawn (dot ink s) p x y h k
 
-join-dot : (ink : Ink) (a b c o : Bool) → c ≡ (a || b) → (a && b) ≡ false → cond b (inked ink (cond a (inked ink o) o)) (cond a (inked ink o) o) ≡ cond c (inked ink o) o
+join-dot : (ink : Ink) (a b c o : Bool) → c ≡ (a || b) → (a && b) ≡ false
+    → cond b (inked ink (cond a (inked ink o) o)) (cond a (inked ink o) o) ≡ cond c (inked ink o) o
 join-dot ink true true c o e d = cc
 join-dot ink true false c o e d = rw e
 join-dot ink false b c o e d = rw e

@@ -1,13 +1,12 @@
 -- Tests on dots: what a rectangle's test says, and rectangles that are one rectangle together.
 -- Assumes nothing.
-use mathlib.Core.Path.{_≡_, refl, sym, ap, _∙_, subst}
-use mathlib.Core.Bool.{Bool, true, false, not, cond, _&&_, _||_, and-false}
-use Prim.Native.Nat.{ℕ, zero, suc, _+_, _-_, _*_, _/_, _%_, _^_, _≤_, _<_, min, max}
+use mathlib.Core.Path.{_≡_, refl, sym, ap, _∙_}
+use mathlib.Core.Bool.{Bool, true, false, not, _&&_, _||_, and-false}
+use Prim.Native.Nat.{ℕ, _+_, _-_, _*_, _/_, _%_, _≤_, _<_, min, max}
 use native.Mathlib.Omega.{arith}
 use native.Mathlib.Decide.{decLt}
 use mathlib.Core.Logic.{_⊎_, inl, inr, ⊎-elim}
 use mathlib.Core.List.{List}
-use lib.ListN.{length}
 use Rattle.dots.specs.declared.Ink.{Ink}
 use Rattle.dots.specs.declared.Ink.the-variants.{Black}
 use Rattle.dots.proofs.Pages.{Bytes, drawn-join, drawn-off, drawn-ext, drawn-black}
@@ -208,7 +207,8 @@ bands c x0 y0 x1 y1 top bottom left right hx hy et eb el er x y =
         → box x0 y0 left y1 x y ≡ false → Dec (x < right) → box right y0 x1 y1 x y ≡ true
     last i n f g h (no d) = box-in right y0 x1 y1 x y (omega arith)
     last i n f g h (yes d) = absurd (differ (box (x0 + c) (y0 + c) (x1 - c) (y1 - c) x y)
-        (box-in (x0 + c) (y0 + c) (x1 - c) (y1 - c) x y (let a = above (decLt y top) in let b = beneath (decLt y bottom) in let l = beyond (decLt x left) in omega arith))
+        (box-in (x0 + c) (y0 + c) (x1 - c) (y1 - c) x y
+        (let a = above (decLt y top) in let b = beneath (decLt y bottom) in let l = beyond (decLt x left) in omega arith))
         (not-true _ n))
       where
         above : Dec (y < top) → top ≤ y

@@ -2,8 +2,8 @@
 -- Assumes nothing.
 use mathlib.Core.Path.{_≡_, refl, sym, ap, _∙_}
 use mathlib.Core.Bool.{Bool, true, false, not, cond, _&&_, _||_, and-false}
-use mathlib.Core.List.{List, [], _∷_}
-use Prim.Native.Nat.{ℕ, zero, suc, _+_, _-_, _*_, _/_, _%_, _^_, _≤_, _<_, min}
+use mathlib.Core.List.{List}
+use Prim.Native.Nat.{ℕ, _+_, _-_, _*_, _/_, _%_, _^_, _≤_, _<_, min}
 use native.Mathlib.Decide.{ℕ-discrete, decLt}
 use native.Mathlib.Nat.{zero-div}
 use native.Mathlib.Omega.{arith}
@@ -13,10 +13,10 @@ use lib.ListN.{length, getD, set, length-set}
 use lib.Seq.{getD-set-same, getD-set-other}
 use borrow.Author.Tests.{eqb-true, lt-ltb}
 use Rattle.dots.specs.declared.Ink.the-variants.{White}
-use Rattle.dots.specs.Dots.{bitOf, byteOf, dotAt, rows, redrawn, drawn, cut, box, inked}
+use Rattle.dots.specs.Dots.{bitOf, byteOf, dotAt, rows, redrawn, drawn, cut, box}
 use Rattle.dots.specs.Whole.{turnedIn}
 use Rattle.dots.proofs.Bits.{allBelow, all-below, byte-cong, byte-is, byte-lt, byte-by-bits, bit-of-byte, or-bit, not-below}
-use Rattle.dots.proofs.Pages.{Bytes, redrawn-by-bytes, redrawn-redrawn, redrawn-ext, dot-redrawn, length-redrawn}
+use Rattle.dots.proofs.Pages.{Bytes, redrawn-by-bytes, redrawn-redrawn, redrawn-ext, dot-redrawn}
 use Rattle.dots.proofs.Shapes.{cut-box, box-in, not-in-box}
 
 abbrev pub mirrored : ℕ → ℕ
@@ -57,14 +57,16 @@ turned-rows n p q by h e f g = redrawn-by-bytes _ p q e (λ i t. at i t (decLt i
     bit : (i k : ℕ) → k < 8 → 7 - k ≡ (607 - (i % 76 * 8 + k)) % 8
     bit i k s = omega arith
 
-    at : (i : ℕ) → i < rows p * 76 → Dec (i < n * 76)
-        → getD q i 0 ≡ byteOf (λ k. cond (ltb (i / 76) n) (bitOf (getD p ((n - 1 - i / 76) * 76 + (607 - (i % 76 * 8 + k)) / 8) 0) ((607 - (i % 76 * 8 + k)) % 8)) (bitOf (getD p i 0) k))
+    -- what dot k of byte i becomes, where `turned` says whether its row is turned
+    dot : ℕ → Bool → ℕ → Bool
+    dot i turned k = cond turned (dotAt p (607 - (i % 76 * 8 + k)) (n - 1 - i / 76)) (bitOf (getD p i 0) k)
+
+    at : (i : ℕ) → i < rows p * 76 → Dec (i < n * 76) → getD q i 0 ≡ byteOf (dot i (ltb (i / 76) n))
     at i t (yes s) =
-        f i s ∙ byte-cong _ _ (λ k r. (λ d. bitOf (getD p (byte i k s r d) 0) (bit i k r d))
-        ∙ ap (λ (c : Bool). cond c (bitOf (getD p ((n - 1 - i / 76) * 76 + (607 - (i % 76 * 8 + k)) / 8) 0) ((607 - (i % 76 * 8 + k)) % 8)) (bitOf (getD p i 0) k)) (sym (lt-ltb (i / 76) n (omega arith))))
+        f i s ∙ byte-cong _ (dot i true) (λ k r. (λ d. bitOf (getD p (byte i k s r d) 0) (bit i k r d)))
+        ∙ ap (λ (c : Bool). byteOf (dot i c)) (sym (lt-ltb (i / 76) n (omega arith)))
     at i t (no s) =
-        g i (omega arith) ∙ sym (byte-is (getD p i 0) (by i))
-        ∙ byte-cong _ _ (λ k r. ap (λ (c : Bool). cond c (bitOf (getD p ((n - 1 - i / 76) * 76 + (607 - (i % 76 * 8 + k)) / 8) 0) ((607 - (i % 76 * 8 + k)) % 8)) (bitOf (getD p i 0) k)) (sym (not-below (i / 76) n (omega arith))))
+        g i (omega arith) ∙ sym (byte-is (getD p i 0) (by i)) ∙ ap (λ (c : Bool). byteOf (dot i c)) (sym (not-below (i / 76) n (omega arith)))
 
 -- A page on the way: of its first m bytes those below i and from j on are mirrored from the other end, and all others are as they were.
 pub record Turned (m : ℕ) (p q : List ℕ) (i j : ℕ) : Type 0 where
@@ -161,7 +163,8 @@ pub between-byte : (a b t l r : ℕ) → a < 256 → b < 256 → t < 8 → l ≡
 between-byte a b t l r ha hb ht el er =
     let fl = el ∙ left-byte t a ht ha in
     let fr = er ∙ right-byte t b ht hb in
-    byte-by-bits (bitOr l r) _ (or-lt 8 l r (rw fl (byte-lt (λ k. ltb (k + t) 8 && bitOf a (k + t)))) (rw fr (byte-lt (λ k. not (ltb (k + t) 8) && bitOf b (k + t - 8)))))
+    byte-by-bits (bitOr l r) _
+    (or-lt 8 l r (rw fl (byte-lt (λ k. ltb (k + t) 8 && bitOf a (k + t)))) (rw fr (byte-lt (λ k. not (ltb (k + t) 8) && bitOf b (k + t - 8)))))
     (λ k s. or-bit l r k
     ∙ (λ d. (ap (λ (n : ℕ). bitOf n k) fl ∙ bit-of-byte (λ n. ltb (n + t) 8 && bitOf a (n + t)) k s) d
     || (ap (λ (n : ℕ). bitOf n k) fr ∙ bit-of-byte (λ n. not (ltb (n + t) 8) && bitOf b (n + t - 8)) k s) d)
@@ -256,7 +259,12 @@ turned-all w l n p q r t hw hl en eq er et =
     at x y hx hy (no a) d =
         rw (cut-box 608 n 0 l 608 n x y, box-in 0 l (min 608 608) (min n n) x y (omega arith), not-below y l (omega arith), and-false (ltb x w))
     at x y hx hy (yes a) (no d) =
-        rw (cut-box 608 n 0 l 608 n x y, not-in-box 0 l (min 608 608) (min n n) x y (λ i. omega arith), not-below x w (omega arith), not-below (x + (608 - w)) 608 (omega arith))
+        rw (
+          cut-box 608 n 0 l 608 n x y,
+          not-in-box 0 l (min 608 608) (min n n) x y (λ i. omega arith),
+          not-below x w (omega arith),
+          not-below (x + (608 - w)) 608 (omega arith),
+        )
     at x y hx hy (yes a) (yes d) =
         let z : 607 - (x + (608 - w)) ≡ w - 1 - x = omega arith in
         rw (cut-box 608 n 0 l 608 n x y, not-in-box 0 l (min 608 608) (min n n) x y (λ i. omega arith), lt-ltb x w d, lt-ltb (x + (608 - w)) 608 (omega arith))

@@ -1,23 +1,23 @@
 -- Whole pages: white ones, copies, the count of black dots, and pages that are white outside the label.
 -- Assumes nothing.
 use mathlib.Core.Path.{_≡_, refl, sym, ap, _∙_}
-use mathlib.Core.Bool.{Bool, true, false, not, cond, _&&_, _||_, and-false}
+use mathlib.Core.Bool.{Bool, true, false, cond, _&&_, and-false}
 use mathlib.Core.List.{List, [], _∷_, _++_, append-nil}
 use Prim.Native.Nat.{suc-le-suc, ℕ, zero, suc, _+_, _-_, _*_, _/_, _%_, _^_, _≤_, _<_, min}
 use native.Mathlib.Decide.{ℕ-discrete, decLt}
 use native.Mathlib.Nat.{zero-add, zero-div, le-of-suc-le-suc, not-suc-le-zero}
 use native.Mathlib.Numerals.{add-one}
 use native.Mathlib.Omega.{arith}
-use lib.Dec.{leb, ltb, eqb}
+use lib.Dec.{lit<, leb, ltb}
 use lib.Bits.{bitAnd, and-lt}
-use lib.ListN.{length, getD, take, drop, set, length-set, length-take, replicate, length-replicate, getD-replicate, drop-of-length-le}
+use lib.ListN.{length-append, length-drop, length, getD, take, drop, set, length-take, length-replicate, drop-of-length-le}
 use lib.Seq.{ext-getD, getD-set-same, getD-set-other, drop-cons, getD-take, take-all, paste, paste-suc}
 use borrow.Author.Tests.{leb-true, ltb-true, le-leb, lt-ltb, eqb-true, eq-eqb, not-true}
 use Rattle.dots.specs.declared.Ink.{Ink}
-use Rattle.dots.specs.Dots.{bitOf, byteOf, within, rows, dotAt, inked, redrawn, drawn, cut}
+use Rattle.dots.specs.Dots.{bitOf, byteOf, within, rows, dotAt, inked, drawn, cut}
 use Rattle.dots.specs.Whole.{white, copied, turnedIn, turned, blackIn, blackDots, outside, whiteByte, whiteFrom, whiteOutside}
 use Rattle.dots.proofs.Bits.{is-false, and-true, one-le, byte-lt, not-below, byte-cong, byte-by-bits, bit-of-byte, and-bit}
-use Rattle.dots.proofs.Pages.{dot-redrawn, length-redrawn, dot-drawn, length-drawn}
+use Rattle.dots.proofs.Pages.{Bytes, bytes-redrawn, dot-redrawn, length-redrawn, dot-drawn, length-drawn}
 
 -- ---- white
 pub length-white : (n : ℕ) → length (white n) ≡ n
@@ -29,6 +29,9 @@ unfolding white
 getD-white zero i = refl
 getD-white (suc n) zero = refl
 getD-white (suc n) (suc i) = getD-white n i
+
+pub bytes-white : (n : ℕ) → Bytes (white n)
+bytes-white n i = rw (getD-white n i) (lit< tt)
 
 no-dot : (k : ℕ) → bitOf 0 k ≡ false
 no-dot k = rw (zero-div (2 ^ (7 - k)))
@@ -75,6 +78,20 @@ pub copied-same : (p b : List ℕ) → length b ≡ length p → copied p b ≡ 
 unfolding copied
 copied-same p b e =
     rw (drop-of-length-le p (let h : length p ≤ length b = omega arith in h)) (append-nil (take (length p) b) ∙ take-all (length p) b (omega arith))
+
+pub length-copied : (p b : List ℕ) → length (copied p b) ≡ length p
+unfolding copied
+length-copied p b =
+    length-append (take (length p) b) (drop (length b) p)
+    ∙ (λ i. length-take (length p) b i + length-drop (length b) p i) ∙ (let e : min (length p) (length b) + (length p - length b) ≡ length p = omega arith in e)
+
+pub length-turned : (w l : ℕ) (p : List ℕ) → length (turned w l p) ≡ length p
+unfolding turnedIn
+length-turned w l p = length-redrawn _ p
+
+pub bytes-turned : (w l : ℕ) (p : List ℕ) → Bytes p → Bytes (turned w l p)
+unfolding turnedIn
+bytes-turned w l p by = bytes-redrawn _ p by
 
 -- ---- the count of black dots
 pub count-start : (most : ℕ) (p : List ℕ) → min most (0 + blackDots (drop 0 p)) ≡ min most (blackDots p)
@@ -159,7 +176,9 @@ module _ (w l : ℕ) (p : List ℕ) where
 
   pub white-done : (i : ℕ) → rows p * 76 ≤ i → whiteLeft i ≡ true
   unfolding whiteLeft whole whiteFrom
-  white-done i h = rw (drop-of-length-le (take (rows p * 76) p) (let k : length (take (rows p * 76) p) ≤ i = rw (length-take (rows p * 76) p) (omega arith) in k))
+  white-done i h =
+      let k : length (take (rows p * 76) p) ≤ i = rw (length-take (rows p * 76) p) (omega arith) in
+      rw (drop-of-length-le (take (rows p * 76) p) k)
 
 -- a byte is white outside exactly when none of its dots is black there
 white-byte-dot : (w l i b k : ℕ) → k < 8 → whiteByte w l i b ≡ true → outside w l (i % 76 * 8 + k) (i / 76) ≡ true → bitOf b k ≡ false

@@ -2,10 +2,10 @@
 -- Assumes nothing.
 use Prim.Native.Nat.{ℕ, zero, suc, _+_}
 use mathlib.Core.Path.{_≡_, refl}
-use mathlib.Core.List.{List, [], _∷_, _++_}
-use mathlib.Core.Bool.{Bool, true, false, not}
+use mathlib.Core.List.{[], _∷_, _++_}
+use mathlib.Core.Bool.{Bool, true, false}
 use lib.ListN.{replicate}
-use Rattle.dots.specs.declared.Ink.the-variants.{Black, White, Inverted}
+use Rattle.dots.specs.declared.Ink.the-variants.{Black, Inverted}
 use Rattle.dots.specs.Dots.{one, redrawn, drawn, dotAt, box, cut, frame}
 use Rattle.dots.specs.Whole.{white, turnedIn, turned, blackDots, whiteFrom, whiteOutside}
 

@@ -4,15 +4,19 @@
 -- So a row has 608 dots, and dot x of row y is in byte y * 76 + x / 8. A page may be of any length here: bytes after the last whole row are no dots
 -- of the page, and no drawing touches them.
 -- Assumes nothing.
-use Prim.Native.Nat.{ℕ, zero, suc, _+_, _-_, _*_, _/_, _%_, _^_, min, max}
-use mathlib.Core.Bool.{Bool, true, false, not, cond, _&&_, _||_}
+use Prim.Native.Nat.{ℕ, suc, _+_, _-_, _*_, _/_, _%_, _^_, min, max}
+use mathlib.Core.Bool.{Bool, true, false, not, cond, _&&_}
 use mathlib.Core.List.{List, [], _∷_}
 use lib.ListN.{length, getD}
 use lib.Dec.{leb, ltb, eqb}
 use Rattle.dots.specs.declared.Ink.{Ink}
 use Rattle.dots.specs.declared.Ink.the-variants.{Black, White, Inverted}
 
--- ---- tests
+-- ---- numbers
+-- a number as a usize holds it: no more than the greatest there is
+abbrev pub capped : ℕ → ℕ
+capped n = min 18446744073709551615 n
+
 -- from ≤ n < to
 abbrev pub within : ℕ → ℕ → ℕ → Bool
 within from to n = leb from n && ltb n to

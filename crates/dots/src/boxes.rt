@@ -5,6 +5,8 @@ ghost use mathlib.Core.Bool.{cond};
 ghost use lib.ListN.{length, getD};
 ghost use Rattle.dots.specs.Dots.{within, bitOf, byteOf, inked, drawn, box, cut, hollow, frame};
 use crate::Ink;
+use crate::numbers::greatest;
+use crate::numbers::least;
 
 // The byte whose dots from lo up to hi, hi not among them, are black.
 pub(crate) fn span_mask(lo: usize, hi: usize) -> u8
@@ -65,13 +67,6 @@ fn ink_span(page: &mut [u8], ink: Ink, y: usize, x0: usize, x1: usize)
     }
 }
 
-// The smaller of two numbers.
-pub(crate) fn least(a: usize, b: usize) -> usize
-    ensures { λ r. ⌜ r ≡ min a b ⌝ }
-{
-    if a < b { a } else { b }
-}
-
 // LO, LW, LE: draws the dots from x0 up to x1 of the rows from y0 up to y1 in an ink, cut at width and length.
 pub fn ink_box(
     page: &mut [u8],
@@ -111,13 +106,6 @@ fn band_start(from: usize, to: usize, c: usize) -> usize
     ensures { λ r. ⌜ r ≡ max (to - c) from ⌝ }
 {
     if to - from < c { from } else { to - c }
-}
-
-// The greater of two numbers.
-fn greatest(a: usize, b: usize) -> usize
-    ensures { λ r. ⌜ r ≡ max a b ⌝ }
-{
-    if a < b { b } else { a }
 }
 
 // Draws a box less the box that is shrunk by c on each side black, cut at width and length: the bands at its four sides.

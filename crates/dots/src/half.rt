@@ -9,7 +9,7 @@ ghost use Rattle.dots.specs.Dots.{bitOf, byteOf, dotAt, redrawn};
 ghost use Rattle.dots.specs.Whole.{turned};
 use crate::Ink;
 use crate::boxes::ink_box;
-use crate::boxes::least;
+use crate::numbers::least;
 
 // A byte with its dots in the other order.
 fn mirror(b: u8) -> u8

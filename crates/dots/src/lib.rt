@@ -5,11 +5,15 @@
 // What is drawn where, and when, is left to the crates above.
 mod boxes; // boxes in three inks, and the frame
 mod half; // the half turn
+mod numbers; // small sums
 mod whole; // whole pages: whitened, copied, counted
 
 pub use boxes::ink_box;
 pub use boxes::ink_frame;
 pub use half::turn;
+pub use numbers::capped_sum;
+pub use numbers::greatest;
+pub use numbers::least;
 pub use whole::black_dots;
 pub use whole::copy;
 pub use whole::white_outside;

@@ -1,12 +1,13 @@
 // Whole pages: whitened, copied, counted, and looked over for black dots outside the label.
 ghost use mathlib.Core.Path.{_≡_};
 ghost use mathlib.Core.Bool.{not, _&&_};
-ghost use Prim.Native.Nat.{ℕ, _+_, _*_, _/_, _%_, min};
+ghost use Prim.Native.Nat.{ℕ, _+_, _*_, _/_, _%_};
 ghost use lib.ListN.{length};
-ghost use Rattle.dots.specs.Dots.{byteOf};
+ghost use Rattle.dots.specs.Dots.{byteOf, capped};
 ghost use Rattle.dots.specs.Whole.{white, copied, blackIn, blackDots, outside, whiteByte, whiteOutside};
-use crate::boxes::least;
 use crate::boxes::span_mask;
+use crate::numbers::capped_sum;
+use crate::numbers::least;
 
 // Makes every dot white.
 pub fn whiten(page: &mut [u8])
@@ -38,20 +39,9 @@ fn black_in(b: u8) -> usize
     u8::count_ones(b) as usize
 }
 
-// The sum of two numbers, or the greatest number there is.
-fn capped_sum(a: usize, b: usize) -> usize
-    ensures { λ r. ⌜ r ≡ min 18446744073709551615 (a + b) ⌝ }
-{
-    let room = 18446744073709551615 - a;
-    if room < b {
-        return 18446744073709551615;
-    }
-    a + b
-}
-
 // How many dots of a page are black, or the greatest number there is where they are more.
 pub fn black_dots(page: &[u8]) -> usize
-    ensures { λ r. ⌜ r ≡ min 18446744073709551615 (blackDots (now (page .entry))) ⌝ }
+    ensures { λ r. ⌜ r ≡ capped (blackDots (now (page .entry))) ⌝ }
 {
     let mut n: usize = 0;
     let mut i = 0;

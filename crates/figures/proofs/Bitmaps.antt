@@ -1,17 +1,17 @@
 -- Bitmaps: edges of cells, runs of equal dots, rows drawn run by run and bitmaps row by row.
 -- Assumes nothing.
 use mathlib.Core.Path.{_≡_, refl, sym, ap, _∙_}
-use mathlib.Core.Bool.{Bool, true, false, _&&_, _||_, not, cond, and-false}
+use mathlib.Core.Bool.{Bool, true, false, _&&_, not, cond, and-false}
 use mathlib.Core.Logic.{_⊎_, inl, inr}
 use mathlib.Core.List.{List}
-use Prim.Native.Nat.{ℕ, zero, suc, _+_, _-_, _*_, _/_, _%_, _^_, _≤_, _<_, min}
-use native.Mathlib.Nat.{add-mul, one-mul, mul-zero, mul-le-mul-right, zero-div, div-lt-iff-lt-mul, le-div-iff-mul-le, eq-zero-or-pos}
+use Prim.Native.Nat.{ℕ, _+_, _-_, _*_, _/_, _%_, _^_, _≤_, _<_, min}
+use native.Mathlib.Nat.{add-mul, one-mul, mul-zero, mul-le-mul-right, zero-div, div-lt-iff-lt-mul, le-div-iff-mul-le}
 use native.Mathlib.Decide.{decLt, ℕ-discrete}
 use native.Mathlib.Omega.{arith}
 use lib.Dec.{leb}
-use lib.ListN.{length, getD, List·getD-eq-default}
+use lib.ListN.{length, List·getD-eq-default}
 use borrow.Author.Tests.{leb-true, le-leb}
-use Rattle.dots.specs.Dots.{box, bitOf}
+use Rattle.dots.specs.Dots.{box}
 use Rattle.dots.proofs.Bits.{and-true}
 use Rattle.dots.proofs.Shapes.{In, same-box, in-box, box-in, not-in-box, join-test}
 use Rattle.figures.specs.Figures.{bitRow, bitmap, rowOf, scaled, shifted, Run}
@@ -101,8 +101,14 @@ row-joins row g e w m v0 v1 u v R =
         let at : row g ≡ true = sym (same (omega arith) (i .right)) ∙ t in
         inr (rw (at, box-in (g * m) v0 (e * m) v1 u v (omega arith)))
 
-pub row-none : (row : ℕ → Bool) (m v0 v1 u v : ℕ) → rowOf row 0 m v0 v1 u v ≡ false
+shifted-none : (d : ℕ) (f : ℕ → ℕ → Bool) → ((u v : ℕ) → f u v ≡ false) → (u v : ℕ) → shifted d f u v ≡ false
+shifted-none d f h u v = rw (h (u - d) v) (and-false (leb d u))
+
+row-none : (row : ℕ → Bool) (m v0 v1 u v : ℕ) → rowOf row 0 m v0 v1 u v ≡ false
 row-none row m v0 v1 u v = rw (not-in-box 0 v0 (0 * m) v1 u v (λ h. omega arith))
+
+pub row-start : (row : ℕ → Bool) (d m v0 v1 u v : ℕ) → shifted d (rowOf row 0 m v0 v1) u v ≡ false
+row-start row d m v0 v1 u v = shifted-none d (rowOf row 0 m v0 v1) (row-none row m v0 v1) u v
 
 -- a run of a figure further to the right, with edges that are capped
 shifted-run : (d g e m v0 v1 s0 s1 most u v : ℕ) (on : Bool) → u < most → s0 ≡ min most (d + g * m) → s1 ≡ min most (d + e * m)
@@ -174,8 +180,8 @@ bitmap-next bytes stride d w g hm vm s t0 t1 most u v h k e e0 e1 =
     rw (capped-rows bytes s (g * stride) most w hm (g * vm) ((g + 1) * vm) t0 t1 (u - d) v h k (omega arith) (omega arith) (omega arith))
     (bitmap-joins (bitmap bytes stride) w g hm vm (u - d) v))
 
-pub bitmap-none : (pic : ℕ → ℕ → Bool) (w hm vm u v : ℕ) → scaled w 0 hm vm pic u v ≡ false
+bitmap-none : (pic : ℕ → ℕ → Bool) (w hm vm u v : ℕ) → scaled w 0 hm vm pic u v ≡ false
 bitmap-none pic w hm vm u v = rw (not-in-box 0 0 (w * hm) (0 * vm) u v (λ h. omega arith))
 
-pub shifted-none : (d : ℕ) (f : ℕ → ℕ → Bool) → ((u v : ℕ) → f u v ≡ false) → (u v : ℕ) → shifted d f u v ≡ false
-shifted-none d f h u v = rw (h (u - d) v) (and-false (leb d u))
+pub bitmap-start : (pic : ℕ → ℕ → Bool) (d w hm vm u v : ℕ) → shifted d (scaled w 0 hm vm pic) u v ≡ false
+bitmap-start pic d w hm vm u v = shifted-none d (scaled w 0 hm vm pic) (bitmap-none pic w hm vm) u v

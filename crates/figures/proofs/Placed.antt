@@ -4,18 +4,17 @@
 use mathlib.Core.Path.{_≡_, refl, sym, ap, _∙_}
 use mathlib.Core.Bool.{Bool, true, false, _&&_, _||_, and-false}
 use mathlib.Core.List.{List}
-use Prim.Native.Nat.{ℕ, zero, suc, _+_, _-_, _*_, _/_, _%_, _≤_, _<_, min}
-use native.Mathlib.Decide.{decLt}
+use Prim.Native.Nat.{ℕ, zero, suc, _+_, _-_, _%_, _≤_, _<_, min}
 use native.Mathlib.Omega.{arith}
 use lib.Dec.{leb, ltb}
 use lib.ListN.{length}
 use borrow.Author.Tests.{leb-true, ltb-true, le-leb, lt-ltb}
 use Rattle.dots.specs.declared.Ink.{Ink}
-use Rattle.dots.specs.Dots.{drawn, box, cut, rows}
-use Rattle.dots.proofs.Bits.{is-false, and-true}
-use Rattle.dots.proofs.Pages.{Bytes, drawn-join, drawn-ext, drawn-off}
-use Rattle.dots.proofs.Shapes.{In, same-test, same-box, in-box, box-in, not-in-box, cut-ext, cut-off}
-use Rattle.figures.specs.Figures.{quarter, standing, turnedBy, placed}
+use Rattle.dots.specs.Dots.{drawn, box, cut}
+use Rattle.dots.proofs.Bits.{and-true}
+use Rattle.dots.proofs.Pages.{Bytes, drawn-join}
+use Rattle.dots.proofs.Shapes.{same-box, in-box, box-in, cut-ext, cut-off}
+use Rattle.figures.specs.Figures.{quarter, turnedBy, placed}
 
 -- ---- where a dot of the page lies in a figure
 -- the dot (a, b) of the page shows dot (u, v) of the figure, where `seen` is true

@@ -1,14 +1,14 @@
 -- Turns: each is the one before turned once more, and four of them are none.
 -- Assumes nothing.
-use mathlib.Core.Path.{_≡_, refl, sym, ap, _∙_}
-use mathlib.Core.Bool.{Bool, true, false, _&&_}
-use Prim.Native.Nat.{ℕ, zero, suc, _+_, _-_, _%_, _≤_, _<_}
+use mathlib.Core.Path.{_≡_, sym, ap, _∙_}
+use mathlib.Core.Bool.{Bool, _&&_}
+use Prim.Native.Nat.{ℕ, zero, suc, _+_, _-_, _%_, _<_}
 use native.Mathlib.Decide.{decLt}
 use native.Mathlib.Nat.{le-add-right}
 use native.Mathlib.Omega.{arith}
 use lib.Dec.{leb, ltb}
 use borrow.Author.Tests.{ltb-true, le-leb, lt-ltb}
-use Rattle.figures.specs.Figures.{quarter, standing, turnedBy, placed}
+use Rattle.figures.specs.Figures.{quarter, turnedBy, placed}
 use Rattle.dots.proofs.Bits.{and-true}
 use Rattle.figures.proofs.Placed.{guarded}
 

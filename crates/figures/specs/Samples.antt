@@ -6,7 +6,7 @@ use mathlib.Core.List.{List, [], _∷_}
 use lib.ListN.{replicate, getD}
 use Rattle.dots.specs.declared.Ink.the-variants.{Black}
 use Rattle.dots.specs.Dots.{drawn, redrawn}
-use Rattle.figures.specs.Figures.{placed, scaled, shifted, bitmap}
+use Rattle.figures.specs.Figures.{placed, scaled, bitmap}
 
 -- the second byte of each of the first five rows
 seen : ℕ → ℕ → List ℕ

@@ -3,11 +3,12 @@
 // definition for all turns, and each function promises `drawn ink (cut width length (placed ..))` of the page, for any page and any numbers.
 // Which figures there are, a glyph or the bars of a symbol, is left to the crates above.
 use dots::Ink;
+use dots::capped_sum;
+use dots::least;
 ghost use mathlib.Core.Path.{_≡_};
-ghost use Prim.Native.Nat.{ℕ, _+_, _-_, _*_, _/_, _%_, _≤_, _<_, min};
+ghost use Prim.Native.Nat.{_+_, _-_, _*_, _<_};
 ghost use mathlib.Core.Bool.{cond, not, _&&_};
-ghost use lib.ListN.{getD};
-ghost use Rattle.dots.specs.Dots.{bitOf, drawn, box, cut};
+ghost use Rattle.dots.specs.Dots.{drawn, box, cut, capped};
 ghost use Rattle.figures.specs.Figures.{bitmap, bitRow, rowOf, scaled, shifted, placed, Run};
 
 // a less b, and 0 where b is more.
@@ -15,24 +16,6 @@ fn less(a: usize, b: usize) -> usize
     ensures { λ r. ⌜ r ≡ a - b ⌝ }
 {
     if b < a { a - b } else { 0 }
-}
-
-// The smaller of two numbers.
-fn least(a: usize, b: usize) -> usize
-    ensures { λ r. ⌜ r ≡ min a b ⌝ }
-{
-    if a < b { a } else { b }
-}
-
-// The sum of two numbers, or the greatest number there is: no dot of a page is so far out.
-fn capped_sum(a: usize, b: usize) -> usize
-    ensures { λ r. ⌜ r ≡ min 18446744073709551615 (a + b) ⌝ }
-{
-    let room = 18446744073709551615 - a;
-    if room < b {
-        return 18446744073709551615;
-    }
-    a + b
 }
 
 // Draws the box p0 up to p1, q0 up to q1 that is counted from (x, y).
@@ -91,7 +74,7 @@ pub fn ink_part(
 
 // d and g times m, or the greatest number there is.
 fn edge(d: usize, g: usize, m: usize) -> usize
-    ensures { λ r. ⌜ r ≡ min 18446744073709551615 (d + g * m) ⌝ }
+    ensures { λ r. ⌜ r ≡ capped (d + g * m) ⌝ }
 {
     if m == 0 {
         return d;

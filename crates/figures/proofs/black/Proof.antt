@@ -1,4 +1,6 @@
-use mathlib.Core.Path.{sym, ap, _∙_}
+-- `figures::black` meets its contract: a byte of the bitmap, and past its end none.
+-- Assumes nothing.
+use mathlib.Core.Path.{sym, ap}
 use Prim.Native.Nat.{ℕ, _%_}
 use native.Mathlib.Omega.{arith}
 use lib.ListN.{getD}
@@ -7,36 +9,26 @@ use Rattle.figures.proofs.Bitmaps.{no-dot}
 use borrow.Author.Needs.{needs}
 use Rattle.figures.proofs.black.Statement.{statement}
 use Rattle.figures.proofs.black.Tie as tie
-use Rattle.figures.proofs.black.Reads as reads
-use Rattle.figures.proofs.black.Lts as lts
-use Rattle.figures.proofs.capped_sum.Reads as capped-sum-reads
 
--- src/lib.rt:110:9
 capped-sum-requires : tie.Need-capped-sum-requires
 capped-sum-requires c κs = search needs
 
--- src/lib.rt:112:17
 shared-slice-read-result : tie.Need-shared-slice-read-result
 shared-slice-read-result c = search needs
 
--- src/lib.rt:112:29
 sub-result : tie.Need-sub-result
 sub-result c = search needs
 
--- src/lib.rt:112:29
 cast-result : tie.Need-cast-result
 cast-result c = search needs
 
--- src/lib.rt:112:17
 shr-result : tie.Need-shr-result
 shr-result c = search needs
 
--- src/lib.rt:112:9
 returns : tie.Need-returns
 returns c = let s = c .before .before in let a = s .before .before .args in
     ap (λ (n : ℕ). bitOf (getD (a .bits .now) n 0) (a .g % 8)) (omega arith)
 
--- src/lib.rt:107:1
 returns-2 : tie.Need-returns-2
 returns-2 c = let a = c .before .before .before .args in sym (no-dot (a .bits .now) (a .at) (a .g) (omega arith))
 

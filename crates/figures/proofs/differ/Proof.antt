@@ -1,16 +1,13 @@
+-- `figures::differ` meets its contract: the two tests, case by case.
+-- Assumes nothing.
 use mathlib.Core.Path.{sym, ap}
 use mathlib.Core.Bool.{Bool, cond, not}
-use borrow.Author.Needs.{needs}
 use Rattle.figures.proofs.differ.Statement.{statement}
 use Rattle.figures.proofs.differ.Tie as tie
-use Rattle.figures.proofs.differ.Reads as reads
-use Rattle.figures.proofs.differ.Lts as lts
 
--- src/lib.rt:118:1
 returns : tie.Need-returns
 returns c = ap (λ (t : Bool). cond t (not (c .before .args .b)) (c .before .args .b)) (sym (c .if1 .taken))
 
--- src/lib.rt:118:1
 returns-2 : tie.Need-returns-2
 returns-2 c = ap (λ (t : Bool). cond t (not (c .before .args .b)) (c .before .args .b)) (sym (c .if1 .left))
 

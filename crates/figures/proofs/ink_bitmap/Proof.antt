@@ -1,3 +1,5 @@
+-- `figures::ink_bitmap` meets its contract. The loop's invariant: the first g rows of the bitmap are drawn. The measure is what is left to bh.
+-- Assumes nothing.
 use mathlib.Core.Path.{_≡_, refl, ap, _∙_}
 use Prim.Native.Nat.{ℕ, _+_, _-_, _≤_}
 use native.Mathlib.Omega.{arith}
@@ -5,60 +7,48 @@ use lib.ListN.{length as len}
 use Rattle.dots.specs.Dots.{drawn, cut}
 use Rattle.figures.specs.Figures.{bitRow, bitmap, rowOf, scaled, shifted, placed}
 use Rattle.figures.proofs.Placed.{then-placed, none-placed}
-use Rattle.figures.proofs.Bitmaps.{bitmap-next, bitmap-none, shifted-none}
+use Rattle.figures.proofs.Bitmaps.{bitmap-next, bitmap-start}
 use borrow.Author.Needs.{needs}
 use Rattle.figures.proofs.ink_bitmap.Statement.{statement}
 use Rattle.figures.proofs.ink_bitmap.Tie as tie
-use Rattle.figures.proofs.ink_bitmap.Reads as reads
-use Rattle.figures.proofs.ink_bitmap.Lts as lts
-use Rattle.figures.proofs.edge.Reads as edge-reads
-use Rattle.figures.proofs.ink_row.Reads as ink-row-reads
 
 abbrev Inv-loop : tie.InvT-loop
-Inv-loop page₀ ink width length r x y w h d bits stride bw bh hm vm g₀ page g = (g ≤ bh) × (page ≡ drawn ink (cut width length (placed r w h x y (shifted d (scaled bw g hm vm (bitmap bits stride))))) page₀) × (len page ≡ len page₀)
+Inv-loop page₀ ink width length r x y w h d bits stride bw bh hm vm g₀ page g =
+    (g ≤ bh) × (page ≡ drawn ink (cut width length (placed r w h x y (shifted d (scaled bw g hm vm (bitmap bits stride))))) page₀) × (len page ≡ len page₀)
 
 abbrev μ-loop : tie.MeasureT-loop
 μ-loop page₀ ink width length r x y w h d bits stride bw bh hm vm g₀ page g = bh - g
 
--- src/lib.rt:220:5
 loop-holds : tie.Need-loop-holds Inv-loop μ-loop
-loop-holds c = let s = c .before in let a = s .before .args in let pic = bitmap (a .bits .now) (a .stride) in (
-  search needs,
-  none-placed (a .ink) (a .width) (a .length) (a .r) (a .w) (a .h) (a .x) (a .y) (shifted (a .d) (scaled (a .bw) 0 (a .hm) (a .vm) pic)) (a .page .now)
-      (λ j. omega (arith, s .slice-known .given j))
-      (λ u v i j. shifted-none (a .d) (scaled (a .bw) 0 (a .hm) (a .vm) pic) (bitmap-none pic (a .bw) (a .hm) (a .vm)) u v),
-  refl,
-)
+loop-holds c =
+    let s = c .before in let a = s .before .args in let pic = bitmap (a .bits .now) (a .stride) in (
+      search needs,
+      none-placed (a .ink) (a .width) (a .length) (a .r) (a .w) (a .h) (a .x) (a .y) (shifted (a .d) (scaled (a .bw) 0 (a .hm) (a .vm) pic)) (a .page .now)
+          (λ j. omega (arith, s .slice-known .given j)) (λ u v i j. bitmap-start pic (a .d) (a .bw) (a .hm) (a .vm) u v),
+      refl,
+    )
 
--- src/lib.rt:221:13
 edge-requires : tie.Need-edge-requires Inv-loop μ-loop
 edge-requires c κs = search needs
 
--- src/lib.rt:222:13
 edge-requires-2 : tie.Need-edge-requires-2 Inv-loop μ-loop
 edge-requires-2 c κs = search needs
 
--- src/lib.rt:223:26
 add-edge : tie.Need-add-edge Inv-loop μ-loop
 add-edge c = search needs
 
--- src/lib.rt:223:13
 edge-requires-3 : tie.Need-edge-requires-3 Inv-loop μ-loop
 edge-requires-3 c κs = search needs
 
--- src/lib.rt:224:9
 ink-row-requires : tie.Need-ink-row-requires Inv-loop μ-loop
 ink-row-requires c κs = search needs
 
--- src/lib.rt:225:9
 add-g : tie.Need-add-g Inv-loop μ-loop
 add-g c = search needs
 
--- src/lib.rt:220:5
 loop-less : tie.Need-loop-less Inv-loop μ-loop
 loop-less c = search needs
 
--- src/lib.rt:220:5
 loop-again : tie.Need-loop-again Inv-loop μ-loop
 loop-again c = let d = c .before .before in let e = d .before .before in
     let l = e .before .before .before .before in let a = l .before .before .before .args in
@@ -68,20 +58,20 @@ loop-again c = let d = c .before .before in let e = d .before .before in
           (shifted (a .d) (rowOf (bitRow (a .bits .now) (e .before .before .edge .result)) (a .bw) (a .hm) (e .before .edge2 .result) (e .edge3 .result)))
           (shifted (a .d) (scaled (a .bw) (l .loop .g + 1) (a .hm) (a .vm) pic))
           (a .page .now) (l .loop .page) (d .ink-row .last .0) (l .loop .inv .1) (d .ink-row .ensures)
-          (λ u v i j. bitmap-next (a .bits .now) (a .stride) (a .d) (a .bw) (l .loop .g) (a .hm) (a .vm) (e .before .before .edge .result) (e .before .edge2 .result)
-          (e .edge3 .result) 18446744073709551615 u v (omega (arith, l .before .before .before .good)) (omega arith) (e .before .before .edge .ensures) (e .before .edge2 .ensures) (e .edge3 .ensures)),
+          (λ u v i j. bitmap-next (a .bits .now) (a .stride) (a .d) (a .bw) (l .loop .g) (a .hm) (a .vm) (e .before .before .edge .result)
+          (e .before .edge2 .result) (e .edge3 .result) 18446744073709551615 u v (omega (arith, l .before .before .before .good)) (omega arith)
+          (e .before .before .edge .ensures) (e .before .edge2 .ensures) (e .edge3 .ensures)),
       omega (arith, d .ink-row .kept .0),
     )
 
--- src/lib.rt:199:1
 same-length : tie.Need-same-length Inv-loop μ-loop
 same-length c = search needs
 
--- src/lib.rt:199:1
 returns : tie.Need-returns Inv-loop μ-loop
 returns c = let l = c .before in let a = l .before .before .before .args in
     l .loop .inv .1
-    ∙ ap (λ (n : ℕ). drawn (a .ink) (cut (a .width) (a .length) (placed (a .r) (a .w) (a .h) (a .x) (a .y) (shifted (a .d) (scaled (a .bw) n (a .hm) (a .vm) (bitmap (a .bits .now) (a .stride)))))) (a .page .now))
+    ∙ ap (λ (n : ℕ). drawn (a .ink) (cut (a .width) (a .length) (placed (a .r) (a .w) (a .h) (a .x) (a .y)
+    (shifted (a .d) (scaled (a .bw) n (a .hm) (a .vm) (bitmap (a .bits .now) (a .stride)))))) (a .page .now))
     (let z : l .loop .g ≡ a .bh = omega arith in z)
 
 pub ink-bitmap-spec : {M : Type 1} → statement M

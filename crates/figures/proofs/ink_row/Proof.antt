@@ -1,4 +1,6 @@
-use mathlib.Core.Path.{_≡_, refl, sym, ap, _∙_}
+-- `figures::ink_row` meets its contract. The loop's invariant: the first g dots of the row are drawn. The measure is what is left to bw.
+-- Assumes nothing.
+use mathlib.Core.Path.{_≡_, refl, ap, _∙_}
 use mathlib.Core.Bool.{_&&_}
 use Prim.Native.Nat.{ℕ, _-_, _≤_}
 use native.Mathlib.Omega.{arith}
@@ -6,58 +8,45 @@ use lib.ListN.{length as len}
 use Rattle.dots.specs.Dots.{drawn, cut, box}
 use Rattle.figures.specs.Figures.{bitRow, rowOf, shifted, placed}
 use Rattle.figures.proofs.Placed.{then-placed, none-placed}
-use Rattle.figures.proofs.Bitmaps.{row-next, row-none, shifted-none}
+use Rattle.figures.proofs.Bitmaps.{row-next, row-start}
 use borrow.Author.Needs.{needs}
 use Rattle.figures.proofs.ink_row.Statement.{statement}
 use Rattle.figures.proofs.ink_row.Tie as tie
-use Rattle.figures.proofs.ink_row.Reads as reads
-use Rattle.figures.proofs.ink_row.Lts as lts
-use Rattle.figures.proofs.black.Reads as black-reads
-use Rattle.figures.proofs.edge.Reads as edge-reads
-use Rattle.figures.proofs.ink_run.Reads as ink-run-reads
-use Rattle.figures.proofs.run_end.Reads as run-end-reads
 
 abbrev Inv-loop : tie.InvT-loop
-Inv-loop page₀ ink width length r x y w h d bits at bw hm v0 v1 g₀ page g = (g ≤ bw) × (page ≡ drawn ink (cut width length (placed r w h x y (shifted d (rowOf (bitRow bits at) g hm v0 v1)))) page₀) × (len page ≡ len page₀)
+Inv-loop page₀ ink width length r x y w h d bits at bw hm v0 v1 g₀ page g =
+    (g ≤ bw) × (page ≡ drawn ink (cut width length (placed r w h x y (shifted d (rowOf (bitRow bits at) g hm v0 v1)))) page₀) × (len page ≡ len page₀)
 
 abbrev μ-loop : tie.MeasureT-loop
 μ-loop page₀ ink width length r x y w h d bits at bw hm v0 v1 g₀ page g = bw - g
 
--- src/lib.rt:180:5
 loop-holds : tie.Need-loop-holds Inv-loop μ-loop
-loop-holds c = let s = c .before in let a = s .before .args in (
-  search needs,
-  none-placed (a .ink) (a .width) (a .length) (a .r) (a .w) (a .h) (a .x) (a .y) (shifted (a .d) (rowOf (bitRow (a .bits .now) (a .at)) 0 (a .hm) (a .v0) (a .v1)))
-      (a .page .now) (λ j. omega (arith, s .slice-known .given j))
-      (λ u v i j. shifted-none (a .d) (rowOf (bitRow (a .bits .now) (a .at)) 0 (a .hm) (a .v0) (a .v1)) (row-none (bitRow (a .bits .now) (a .at)) (a .hm) (a .v0) (a .v1)) u v),
-  refl,
-)
+loop-holds c =
+    let s = c .before in let a = s .before .args in let row = bitRow (a .bits .now) (a .at) in (
+      search needs,
+      none-placed (a .ink) (a .width) (a .length) (a .r) (a .w) (a .h) (a .x) (a .y) (shifted (a .d) (rowOf row 0 (a .hm) (a .v0) (a .v1))) (a .page .now)
+          (λ j. omega (arith, s .slice-known .given j)) (λ u v i j. row-start row (a .d) (a .hm) (a .v0) (a .v1) u v),
+      refl,
+    )
 
--- src/lib.rt:181:13
 run-end-requires : tie.Need-run-end-requires Inv-loop μ-loop
 run-end-requires c κs = search needs
 
--- src/lib.rt:182:13
 black-requires : tie.Need-black-requires Inv-loop μ-loop
 black-requires c κs = search needs
 
--- src/lib.rt:183:13
 edge-requires : tie.Need-edge-requires Inv-loop μ-loop
 edge-requires c κs = search needs
 
--- src/lib.rt:184:13
 edge-requires-2 : tie.Need-edge-requires-2 Inv-loop μ-loop
 edge-requires-2 c κs = search needs
 
--- src/lib.rt:185:9
 ink-run-requires : tie.Need-ink-run-requires Inv-loop μ-loop
 ink-run-requires c κs = search needs
 
--- src/lib.rt:180:5
 loop-less : tie.Need-loop-less Inv-loop μ-loop
 loop-less c = omega (arith, c .before .before .before .before .before .before .before .run-end .ensures .more)
 
--- src/lib.rt:180:5
 loop-again : tie.Need-loop-again Inv-loop μ-loop
 loop-again c = let d = c .before .before in let e = d .before .before in let b = e .before .before in let n = b .before in
     let l = n .before .before in let a = l .before .before .before .args in
@@ -67,20 +56,20 @@ loop-again c = let d = c .before .before in let e = d .before .before in let b =
           (λ u v. b .black .result && box (e .before .edge .result) (a .v0) (e .edge2 .result) (a .v1) u v)
           (shifted (a .d) (rowOf row (n .run-end .result) (a .hm) (a .v0) (a .v1)))
           (a .page .now) (l .loop .page) (d .ink-run .last .0) (l .loop .inv .1) (d .ink-run .ensures)
-          (λ u v i j. row-next row (b .black .result) (a .d) (l .loop .g) (n .run-end .result) (a .bw) (a .hm) (a .v0) (a .v1) (e .before .edge .result) (e .edge2 .result)
+          (λ u v i j. row-next row (b .black .result) (a .d) (l .loop .g) (n .run-end .result) (a .bw) (a .hm) (a .v0) (a .v1)
+          (e .before .edge .result) (e .edge2 .result)
           18446744073709551615 u v (n .run-end .ensures) (b .black .ensures) (omega arith) (e .before .edge .ensures) (e .edge2 .ensures)),
       omega (arith, d .ink-run .kept .0),
     )
 
--- src/lib.rt:159:1
 same-length : tie.Need-same-length Inv-loop μ-loop
 same-length c = search needs
 
--- src/lib.rt:159:1
 returns : tie.Need-returns Inv-loop μ-loop
 returns c = let l = c .before in let a = l .before .before .before .args in
     l .loop .inv .1
-    ∙ ap (λ (n : ℕ). drawn (a .ink) (cut (a .width) (a .length) (placed (a .r) (a .w) (a .h) (a .x) (a .y) (shifted (a .d) (rowOf (bitRow (a .bits .now) (a .at)) n (a .hm) (a .v0) (a .v1))))) (a .page .now))
+    ∙ ap (λ (n : ℕ). drawn (a .ink) (cut (a .width) (a .length) (placed (a .r) (a .w) (a .h) (a .x) (a .y)
+    (shifted (a .d) (rowOf (bitRow (a .bits .now) (a .at)) n (a .hm) (a .v0) (a .v1))))) (a .page .now))
     (let z : l .loop .g ≡ a .bw = omega arith in z)
 
 pub ink-row-spec : {M : Type 1} → statement M

@@ -1,15 +1,12 @@
-use mathlib.Core.Path.{_≡_, sym, ap, _∙_}
-use Prim.Native.Nat.{ℕ, _-_}
-use native.Mathlib.Omega.{arith}
+-- `figures::run_end` meets its contract. The loop's invariant is `Run` itself; the measure is what is left to w.
+-- Assumes nothing.
+use mathlib.Core.Path.{sym, _∙_}
+use Prim.Native.Nat.{_-_}
 use Rattle.figures.specs.Figures.{bitRow, Run}
 use Rattle.figures.proofs.Bitmaps.{run-start, run-step, same-tests}
 use borrow.Author.Needs.{needs}
 use Rattle.figures.proofs.run_end.Statement.{statement}
 use Rattle.figures.proofs.run_end.Tie as tie
-use Rattle.figures.proofs.run_end.Reads as reads
-use Rattle.figures.proofs.run_end.Lts as lts
-use Rattle.figures.proofs.black.Reads as black-reads
-use Rattle.figures.proofs.differ.Reads as differ-reads
 
 abbrev Inv-loop : tie.InvT-loop
 Inv-loop bits at g w on e₀ e = Run (bitRow bits at) g w e
@@ -17,45 +14,35 @@ Inv-loop bits at g w on e₀ e = Run (bitRow bits at) g w e
 abbrev μ-loop : tie.MeasureT-loop
 μ-loop bits at g w on e₀ e = w - e
 
--- src/lib.rt:129:9
 black-requires : tie.Need-black-requires Inv-loop μ-loop
 black-requires c κs = search needs
 
--- src/lib.rt:130:17
 add-e : tie.Need-add-e Inv-loop μ-loop
 add-e c = search needs
 
--- src/lib.rt:131:5
 loop-holds : tie.Need-loop-holds Inv-loop μ-loop
 loop-holds c = let a = c .before .before .args in run-start (bitRow (a .bits .now) (a .at)) (a .g) (a .w) (c .before .before .pre)
 
--- src/lib.rt:132:19
 black-requires-2 : tie.Need-black-requires-2 Inv-loop μ-loop
 black-requires-2 c κs = search needs
 
--- src/lib.rt:132:12
 differ-requires : tie.Need-differ-requires Inv-loop μ-loop
 differ-requires c κs = search needs
 
--- src/lib.rt:133:13
 returns : tie.Need-returns Inv-loop μ-loop
 returns c = c .before .before .before .before .loop .inv
 
--- src/lib.rt:135:9
 add-e-2 : tie.Need-add-e-2 Inv-loop μ-loop
 add-e-2 c = search needs
 
--- src/lib.rt:131:5
 loop-less : tie.Need-loop-less Inv-loop μ-loop
 loop-less c = search needs
 
--- src/lib.rt:131:5
 loop-again : tie.Need-loop-again Inv-loop μ-loop
 loop-again c = let d = c .before in let b = d .before in let l = b .before .before in let a = l .before .before .before .args in
     run-step (bitRow (a .bits .now) (a .at)) (a .g) (a .w) (l .loop .e) (l .loop .inv) (b .before .loop-test .taken)
     (sym (b .black2 .ensures) ∙ same-tests _ _ (sym (d .differ .ensures) ∙ c .if1 .left) ∙ l .before .black .ensures)
 
--- src/lib.rt:125:1
 returns-2 : tie.Need-returns-2 Inv-loop μ-loop
 returns-2 c = c .before .loop .inv
 

@@ -1,19 +1,14 @@
-use Rattle.dots.proofs.Shapes.{as-cut-box, cut-box-none}
--- `dots::ink_box` meets its contract. The loop's invariant: the rows from y0 to y are drawn. The measure is what is left to the bottom.
+-- `dots::boxes::ink_box` meets its contract. The loop's invariant: the rows from y0 to y are drawn. The measure is what is left to the bottom.
 -- Assumes nothing.
+use Rattle.dots.proofs.Shapes.{as-cut-box, cut-box-none, then-below, box-none}
 use mathlib.Core.Path.{_≡_, refl}
-use Prim.Native.Nat.{ℕ, _+_, _*_, _-_, _<_, _≤_, max}
+use Prim.Native.Nat.{_-_, _≤_, max}
 use borrow.Author.Needs.{needs}
 use native.Mathlib.Omega.{arith}
 use lib.ListN.{length as len}
 use Rattle.dots.specs.Dots.{drawn, box}
-use Rattle.dots.proofs.Shapes.{then-below, box-none, as-box}
 use Rattle.dots.proofs.boxes.ink_box.Statement.{statement}
 use Rattle.dots.proofs.boxes.ink_box.Tie as tie
-use Rattle.dots.proofs.boxes.ink_box.Reads as reads
-use Rattle.dots.proofs.boxes.ink_box.Lts as lts
-use Rattle.dots.proofs.boxes.ink_span.Reads as ink-span-reads
-use Rattle.dots.proofs.boxes.least.Reads as least-reads
 
 abbrev Inv-loop : tie.InvT-loop
 Inv-loop page₀ ink width length x0 y0 x1 y1 right bottom y₀ page y =
@@ -40,7 +35,9 @@ returns c = let s = c .before .before .before .before .before in let a = s .befo
     (λ j. omega (arith, s .slice-known .given j)) (λ x y i j h. omega arith)
 
 loop-holds : tie.Need-loop-holds Inv-loop μ-loop
-loop-holds c = (search needs, search needs, box-none _ _ _ _ _ _ (λ j. omega (arith, c .before .before .before .before .before .slice-known .given j)) (λ x y s t h. omega arith), search needs)
+loop-holds c =
+    let s = c .before .before .before .before .before in
+    (search needs, search needs, box-none _ _ _ _ _ _ (λ j. omega (arith, s .slice-known .given j)) (λ x y i k h. omega arith), search needs)
 
 ink-span-requires : tie.Need-ink-span-requires Inv-loop μ-loop
 ink-span-requires c κs = search needs

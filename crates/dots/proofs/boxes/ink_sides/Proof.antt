@@ -1,50 +1,37 @@
+-- `dots::boxes::ink_sides` meets its contract: the bands at the four sides are the box less the shrunk one.
+-- Assumes nothing.
 use Rattle.dots.proofs.Shapes.{bands-drawn}
 use borrow.Author.Needs.{needs}
 use Rattle.dots.proofs.boxes.ink_sides.Statement.{statement}
 use Rattle.dots.proofs.boxes.ink_sides.Tie as tie
-use Rattle.dots.proofs.boxes.ink_sides.Reads as reads
-use Rattle.dots.proofs.boxes.ink_sides.Lts as lts
-use Rattle.dots.proofs.boxes.band_end.Reads as band-end-reads
-use Rattle.dots.proofs.boxes.band_start.Reads as band-start-reads
-use Rattle.dots.proofs.boxes.ink_box.Reads as ink-box-reads
 
--- src/boxes.rt:137:9
 band-end-requires : tie.Need-band-end-requires
 band-end-requires c κs = search needs
 
--- src/boxes.rt:138:9
 band-start-requires : tie.Need-band-start-requires
 band-start-requires c κs = search needs
 
--- src/boxes.rt:139:9
 band-end-requires-2 : tie.Need-band-end-requires-2
 band-end-requires-2 c κs = search needs
 
--- src/boxes.rt:140:9
 band-start-requires-2 : tie.Need-band-start-requires-2
 band-start-requires-2 c κs = search needs
 
--- src/boxes.rt:141:5
 ink-box-requires : tie.Need-ink-box-requires
 ink-box-requires c κs = search needs
 
--- src/boxes.rt:142:5
 ink-box-requires-2 : tie.Need-ink-box-requires-2
 ink-box-requires-2 c κs = search needs
 
--- src/boxes.rt:143:5
 ink-box-requires-3 : tie.Need-ink-box-requires-3
 ink-box-requires-3 c κs = search needs
 
--- src/boxes.rt:144:5
 ink-box-requires-4 : tie.Need-ink-box-requires-4
 ink-box-requires-4 c κs = search needs
 
--- src/boxes.rt:124:1
 same-length : tie.Need-same-length
 same-length c = search needs
 
--- src/boxes.rt:124:1
 returns : tie.Need-returns
 returns c = let d = c .before .before in
     let e = d .before .before .before .before in

@@ -1,40 +1,33 @@
+-- `dots::half::between` meets its contract: two bytes shifted towards each other have no dot in common.
+-- Assumes nothing.
 use mathlib.Core.Path.{refl}
-use Prim.Native.Nat.{_*_, _/_, _%_, _^_, _-_}
+use Prim.Native.Nat.{_*_, _^_, _-_}
 use native.Mathlib.Omega.{arith}
-use lib.Pow.{mod-mod-pow, shr-lt}
+use lib.Pow.{mod-mod-pow}
 use Rattle.dots.proofs.Turned.{between-byte, between-lt}
 use borrow.Author.Needs.{needs}
 use Rattle.dots.proofs.half.between.Statement.{statement}
 use Rattle.dots.proofs.half.between.Tie as tie
-use Rattle.dots.proofs.half.between.Reads as reads
-use Rattle.dots.proofs.half.between.Lts as lts
 
--- src/half.rt:45:31
 cast-left : tie.Need-cast-left
 cast-left c = search needs
 
--- src/half.rt:45:17
 shl-left : tie.Need-shl-left
 shl-left c = search needs
 
--- src/half.rt:46:32
 sub-right : tie.Need-sub-right
 sub-right c = search needs
 
--- src/half.rt:46:32
 cast-right : tie.Need-cast-right
 cast-right c = search needs
 
--- src/half.rt:46:17
 shr-right : tie.Need-shr-right
 shr-right c = search needs
 
--- src/half.rt:47:5
 cast-result : tie.Need-cast-result
 cast-result c = let a = c .args in
     omega (arith, between-lt (a .a) (a .b) (a .t) _ _ (omega arith) (omega arith) (c .pre) (mod-mod-pow (a .a * 2 ^ a .t) 24 8) refl)
 
--- src/half.rt:41:1
 returns : tie.Need-returns
 returns c = let a = c .args in between-byte (a .a) (a .b) (a .t) _ _ (omega arith) (omega arith) (c .pre) (mod-mod-pow (a .a * 2 ^ a .t) 24 8) refl
 

@@ -1,29 +1,24 @@
+-- `dots::half::byte_of_row` meets its contract: a byte in the row, and one beyond its end.
+-- Assumes nothing.
 use mathlib.Core.Path.{sym, ap}
 use mathlib.Core.Bool.{Bool, cond}
-use Prim.Native.Nat.{ℕ, _+_}
-use native.Mathlib.Omega.{arith}
+use Prim.Native.Nat.{_+_}
 use lib.ListN.{getD}
 use borrow.Author.Tests.{lt-ltb, le-ltb}
 use borrow.Author.Needs.{needs}
 use Rattle.dots.proofs.half.byte_of_row.Statement.{statement}
 use Rattle.dots.proofs.half.byte_of_row.Tie as tie
-use Rattle.dots.proofs.half.byte_of_row.Reads as reads
-use Rattle.dots.proofs.half.byte_of_row.Lts as lts
 
--- src/half.rt:55:22
 add-result : tie.Need-add-result
 add-result c = search needs
 
--- src/half.rt:55:17
 shared-slice-read-result : tie.Need-shared-slice-read-result
 shared-slice-read-result c = search needs
 
--- src/half.rt:51:1
 returns : tie.Need-returns
 returns c = let a = c .before .before .args in
     ap (λ (t : Bool). cond t (getD (a .page .now) (a .at + a .i) 0) 0) (sym (lt-ltb (a .i) 76 (c .before .if1 .taken)))
 
--- src/half.rt:51:1
 returns-2 : tie.Need-returns-2
 returns-2 c = let a = c .before .args in
     ap (λ (t : Bool). cond t (getD (a .page .now) (a .at + a .i) 0) 0) (sym (le-ltb (a .i) 76 (c .if1 .left)))

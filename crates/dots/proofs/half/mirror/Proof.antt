@@ -1,4 +1,4 @@
--- `dots::mirror` meets its contract: the rule, computed at each byte.
+-- `dots::half::mirror` meets its contract: the rule, computed at each byte.
 -- Assumes nothing.
 use Prim.Native.Nat.{_/_}
 use native.Mathlib.Omega.{arith}
@@ -7,8 +7,6 @@ use Rattle.dots.proofs.Turned.{halves, pairs, mirror-byte}
 use borrow.Author.Needs.{needs}
 use Rattle.dots.proofs.half.mirror.Statement.{statement}
 use Rattle.dots.proofs.half.mirror.Tie as tie
-use Rattle.dots.proofs.half.mirror.Reads as reads
-use Rattle.dots.proofs.half.mirror.Lts as lts
 
 mul-halves : tie.Need-mul-halves
 mul-halves c = search needs

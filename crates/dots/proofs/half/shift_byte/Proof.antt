@@ -1,48 +1,36 @@
+-- `dots::half::shift_byte` meets its contract: the dots of the two bytes that it reads.
+-- Assumes nothing.
 use mathlib.Core.Path.{ap}
-use Prim.Native.Nat.{ℕ}
 use lib.ListN.{set}
 use Rattle.dots.proofs.Turned.{shifted-byte}
 use borrow.Author.Needs.{needs}
 use Rattle.dots.proofs.half.shift_byte.Statement.{statement}
 use Rattle.dots.proofs.half.shift_byte.Tie as tie
-use Rattle.dots.proofs.half.shift_byte.Reads as reads
-use Rattle.dots.proofs.half.shift_byte.Lts as lts
-use Rattle.dots.proofs.half.between.Reads as between-reads
-use Rattle.dots.proofs.half.byte_of_row.Reads as byte-of-row-reads
 
--- src/half.rt:63:14
 mul-at : tie.Need-mul-at
 mul-at c = search needs
 
--- src/half.rt:64:16
 add-from : tie.Need-add-from
 add-from c = search needs
 
--- src/half.rt:65:9
 byte-of-row-requires : tie.Need-byte-of-row-requires
 byte-of-row-requires c κs = search needs
 
--- src/half.rt:66:35
 add-byte-of-row : tie.Need-add-byte-of-row
 add-byte-of-row c = search needs
 
--- src/half.rt:66:9
 byte-of-row-requires-2 : tie.Need-byte-of-row-requires-2
 byte-of-row-requires-2 c κs = search needs
 
--- src/half.rt:67:15
 between-requires : tie.Need-between-requires
 between-requires c κs = search needs
 
--- src/half.rt:67:5
 slice-write-page : tie.Need-slice-write-page
 slice-write-page c = search needs
 
--- src/half.rt:59:1
 same-length : tie.Need-same-length
 same-length c = search needs
 
--- src/half.rt:59:1
 returns : tie.Need-returns
 returns c = let w = c .before in
     let a = w .before .before .before .before .before .args in

@@ -1,47 +1,34 @@
+-- `dots::half::turn` meets its contract: rows turned, shifted and whitened are the label turned.
+-- Assumes nothing.
 use mathlib.Core.Path.{refl, _∙_}
-use Prim.Native.Nat.{ℕ}
 use native.Mathlib.Omega.{arith}
 use Rattle.dots.specs.Whole.{turnedIn}
 use Rattle.dots.proofs.Turned.{turned-all}
 use borrow.Author.Needs.{needs}
 use Rattle.dots.proofs.half.turn.Statement.{statement}
 use Rattle.dots.proofs.half.turn.Tie as tie
-use Rattle.dots.proofs.half.turn.Reads as reads
-use Rattle.dots.proofs.half.turn.Lts as lts
-use Rattle.dots.proofs.boxes.ink_box.Reads as ink-box-reads
-use Rattle.dots.proofs.boxes.least.Reads as least-reads
-use Rattle.dots.proofs.half.shift_rows.Reads as shift-rows-reads
-use Rattle.dots.proofs.half.turn_rows.Reads as turn-rows-reads
 
--- src/half.rt:88:9
 least-requires : tie.Need-least-requires
 least-requires c κs = search needs
 
--- src/half.rt:89:9
 least-requires-2 : tie.Need-least-requires-2
 least-requires-2 c κs = search needs
 
--- src/half.rt:90:5
 turn-rows-requires : tie.Need-turn-rows-requires
 turn-rows-requires c κs = search needs
 
--- src/half.rt:91:22
 sub-shift-rows : tie.Need-sub-shift-rows
 sub-shift-rows c = search needs
 
--- src/half.rt:91:5
 shift-rows-requires : tie.Need-shift-rows-requires
 shift-rows-requires c κs = search needs
 
--- src/half.rt:92:5
 ink-box-requires : tie.Need-ink-box-requires
 ink-box-requires c κs = search needs
 
--- src/half.rt:84:1
 same-length : tie.Need-same-length
 same-length c = search needs
 
--- src/half.rt:84:1
 returns : tie.Need-returns
 returns c = let d = c .before .before in
     let f = d .before .before .before .before in

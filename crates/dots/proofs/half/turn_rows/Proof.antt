@@ -1,3 +1,5 @@
+-- `dots::half::turn_rows` meets its contract. The loop's invariant is `Turned`; the measure is what is left between i and j.
+-- Assumes nothing.
 use Prim.Native.Nat.{_-_, _*_}
 use native.Mathlib.Omega.{arith}
 use lib.ListN.{length-set}
@@ -5,9 +7,6 @@ use Rattle.dots.proofs.Turned.{Turned, turned-start, turned-step, turne
 use borrow.Author.Needs.{needs}
 use Rattle.dots.proofs.half.turn_rows.Statement.{statement}
 use Rattle.dots.proofs.half.turn_rows.Tie as tie
-use Rattle.dots.proofs.half.turn_rows.Reads as reads
-use Rattle.dots.proofs.half.turn_rows.Lts as lts
-use Rattle.dots.proofs.half.mirror.Reads as mirror-reads
 
 abbrev Inv-loop : tie.InvT-loop
 Inv-loop page₀ n i₀ j₀ page i j = Turned (n * 76) page₀ page i j
@@ -15,69 +14,53 @@ Inv-loop page₀ n i₀ j₀ page i j = Turned (n * 76) page₀ page i j
 abbrev μ-loop : tie.MeasureT-loop
 μ-loop page₀ n i₀ j₀ page i j = j - i
 
--- src/half.rt:29:17
 mul-j : tie.Need-mul-j Inv-loop μ-loop
 mul-j c = search needs
 
--- src/half.rt:30:5
 loop-holds : tie.Need-loop-holds Inv-loop μ-loop
 loop-holds c = turned-start (c .before .args .n * 76) (c .before .args .page .now) (c .before .pre)
 
--- src/half.rt:31:24
 slice-read-mirror : tie.Need-slice-read-mirror Inv-loop μ-loop
 slice-read-mirror c = search needs
 
--- src/half.rt:31:13
 mirror-requires : tie.Need-mirror-requires Inv-loop μ-loop
 mirror-requires c κs = search needs
 
--- src/half.rt:32:29
 sub-mirror : tie.Need-sub-mirror Inv-loop μ-loop
 sub-mirror c = search needs
 
--- src/half.rt:32:24
 slice-read-mirror-2 : tie.Need-slice-read-mirror-2 Inv-loop μ-loop
 slice-read-mirror-2 c = search needs
 
--- src/half.rt:32:13
 mirror-requires-2 : tie.Need-mirror-requires-2 Inv-loop μ-loop
 mirror-requires-2 c κs = search needs
 
--- src/half.rt:33:9
 slice-write-page : tie.Need-slice-write-page Inv-loop μ-loop
 slice-write-page c = search needs
 
--- src/half.rt:34:14
 sub-page : tie.Need-sub-page Inv-loop μ-loop
 sub-page c = search needs
 
--- src/half.rt:34:9
 slice-write-page-2 : tie.Need-slice-write-page-2 Inv-loop μ-loop
 slice-write-page-2 c = simp length-set (omega arith)
 
--- src/half.rt:35:9
 add-i : tie.Need-add-i Inv-loop μ-loop
 add-i c = search needs
 
--- src/half.rt:36:9
 sub-j : tie.Need-sub-j Inv-loop μ-loop
 sub-j c = search needs
 
--- src/half.rt:30:5
 loop-less : tie.Need-loop-less Inv-loop μ-loop
 loop-less c = search needs
 
--- src/half.rt:30:5
 loop-again : tie.Need-loop-again Inv-loop μ-loop
 loop-again c = let t = c .before .before .before .before in let l = t .before in let a = l .before .before .args in
     turned-step (a .n * 76) (a .page .now) (l .loop .page) (l .loop .i) (l .loop .j) (c .before .before .mirror .result) (c .mirror2 .result)
     (l .loop .inv) (t .loop-test .taken) (c .before .before .mirror .ensures) (c .mirror2 .ensures)
 
--- src/half.rt:24:1
 same-length : tie.Need-same-length Inv-loop μ-loop
 same-length c = search needs
 
--- src/half.rt:24:1
 returns : tie.Need-returns Inv-loop μ-loop
 returns c = let s = c .before .before in let a = s .before .args in let l = c .before .loop in
     turned-done (a .n) (a .page .now) (l .page) (l .i) (l .j) (λ k. omega (arith, s .slice-known .given k)) (l .inv) (c .loop-test .left)

@@ -1,6 +1,7 @@
-use mathlib.Core.Path.{_≡_, refl, sym, ap, _∙_}
+-- `dots::whole::black_dots` meets its contract. The loop's invariant: what is counted, with what is left to count, is the whole. The measure is what is left.
+-- Assumes nothing.
+use mathlib.Core.Path.{_≡_, sym, ap, _∙_}
 use Prim.Native.Nat.{ℕ, _+_, _-_, _≤_, min}
-use mathlib.Core.List.{List}
 use native.Mathlib.Omega.{arith}
 use lib.ListN.{length, drop}
 use Rattle.dots.specs.Whole.{blackDots}
@@ -8,10 +9,6 @@ use Rattle.dots.proofs.WholePages.{count-start, count-next, count-done}
 use borrow.Author.Needs.{needs}
 use Rattle.dots.proofs.whole.black_dots.Statement.{statement}
 use Rattle.dots.proofs.whole.black_dots.Tie as tie
-use Rattle.dots.proofs.whole.black_dots.Reads as reads
-use Rattle.dots.proofs.whole.black_dots.Lts as lts
-use Rattle.dots.proofs.whole.black_in.Reads as black-in-reads
-use Rattle.dots.proofs.whole.capped_sum.Reads as capped-sum-reads
 
 abbrev Inv-loop : tie.InvT-loop
 Inv-loop page n₀ i₀ n i = (i ≤ length page) × (n ≤ 18446744073709551615)
@@ -20,31 +17,24 @@ Inv-loop page n₀ i₀ n i = (i ≤ length page) × (n ≤ 18446744073709551615
 abbrev μ-loop : tie.MeasureT-loop
 μ-loop page n₀ i₀ n i = length page - i
 
--- src/whole.rt:58:5
 loop-holds : tie.Need-loop-holds Inv-loop μ-loop
 loop-holds c = (search needs, search needs, count-start _ (c .before .args .page .now))
 
--- src/whole.rt:59:36
 shared-slice-read-black-in : tie.Need-shared-slice-read-black-in Inv-loop μ-loop
 shared-slice-read-black-in c = search needs
 
--- src/whole.rt:59:27
 black-in-requires : tie.Need-black-in-requires Inv-loop μ-loop
 black-in-requires c κs = search needs
 
--- src/whole.rt:59:9
 capped-sum-requires : tie.Need-capped-sum-requires Inv-loop μ-loop
 capped-sum-requires c κs = search needs
 
--- src/whole.rt:60:9
 add-i : tie.Need-add-i Inv-loop μ-loop
 add-i c = search needs
 
--- src/whole.rt:58:5
 loop-less : tie.Need-loop-less Inv-loop μ-loop
 loop-less c = search needs
 
--- src/whole.rt:58:5
 loop-again : tie.Need-loop-again Inv-loop μ-loop
 loop-again c = let l = c .before .before .before .before in (
   search needs,
@@ -53,9 +43,9 @@ loop-again c = let l = c .before .before .before .before in (
       (c .capped-sum .ensures ∙ ap (λ (b : ℕ). min 18446744073709551615 (l .loop .n + b)) (c .before .black-in .ensures)) ∙ l .loop .inv .2,
 )
 
--- src/whole.rt:53:1
 returns : tie.Need-returns Inv-loop μ-loop
-returns c = sym (count-done _ (c .before .loop .i) (c .before .loop .n) 18446744073709551615 (c .loop-test .left) (c .before .loop .inv .1)) ∙ c .before .loop .inv .2
+returns c =
+    let l = c .before .loop in sym (count-done _ (l .i) (l .n) 18446744073709551615 (c .loop-test .left) (l .inv .1)) ∙ l .inv .2
 
 pub black-dots-spec : {M : Type 1} → statement M
 black-dots-spec =

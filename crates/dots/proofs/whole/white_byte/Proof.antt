@@ -1,22 +1,18 @@
-use Prim.Native.Nat.{_+_, _*_, _/_, _%_}
+-- `dots::whole::white_byte` meets its contract: the dots that the byte has in common with the mask.
+-- Assumes nothing.
+use Prim.Native.Nat.{_+_, _*_, _/_, _%_, ℕ}
 use Rattle.dots.specs.Whole.{outside}
 use mathlib.Core.Path.{ap}
-use Prim.Native.Nat.{ℕ}
 use lib.Dec.{eqb}
 use native.Mathlib.Omega.{arith}
 use Rattle.dots.proofs.WholePages.{white-and}
 use borrow.Author.Needs.{needs}
 use Rattle.dots.proofs.whole.white_byte.Statement.{statement}
 use Rattle.dots.proofs.whole.white_byte.Tie as tie
-use Rattle.dots.proofs.whole.white_byte.Reads as reads
-use Rattle.dots.proofs.whole.white_byte.Lts as lts
-use Rattle.dots.proofs.whole.outside_mask.Reads as outside-mask-reads
 
--- src/whole.rt:83:9
 outside-mask-requires : tie.Need-outside-mask-requires
 outside-mask-requires c κs = search needs
 
--- src/whole.rt:80:1
 returns : tie.Need-returns
 returns c = let a = c .before .args in
     ap (λ (n : ℕ). eqb n 0)

@@ -1,15 +1,13 @@
-use mathlib.Core.Path.{_≡_, refl, sym, ap, _∙_}
-use Prim.Native.Nat.{ℕ, _+_, _-_, _≤_, _<_}
-use native.Mathlib.Omega.{arith}
+-- `dots::whole::white_outside` meets its contract. The loop's invariant: what is left to look at decides. The measure is what is left to the end.
+-- Assumes nothing.
+use mathlib.Core.Path.{_≡_, sym, _∙_}
+use Prim.Native.Nat.{_-_, _≤_}
 use borrow.Author.Tests.{not-true, not-false}
 use Rattle.dots.specs.Whole.{whiteOutside}
 use Rattle.dots.proofs.WholePages.{whiteLeft, white-start, white-step, white-stop, white-done}
 use borrow.Author.Needs.{needs}
 use Rattle.dots.proofs.whole.white_outside.Statement.{statement}
 use Rattle.dots.proofs.whole.white_outside.Tie as tie
-use Rattle.dots.proofs.whole.white_outside.Reads as reads
-use Rattle.dots.proofs.whole.white_outside.Lts as lts
-use Rattle.dots.proofs.whole.white_byte.Reads as white-byte-reads
 
 abbrev Inv-loop : tie.InvT-loop
 Inv-loop page width length end i₀ i = (i ≤ end) × (whiteLeft width length page i ≡ whiteOutside width length page)
@@ -17,37 +15,29 @@ Inv-loop page width length end i₀ i = (i ≤ end) × (whiteLeft width length p
 abbrev μ-loop : tie.MeasureT-loop
 μ-loop page width length end i₀ i = end - i
 
--- src/whole.rt:90:15
 mul-end : tie.Need-mul-end Inv-loop μ-loop
 mul-end c = search needs
 
--- src/whole.rt:92:5
 loop-holds : tie.Need-loop-holds Inv-loop μ-loop
 loop-holds c = let a = c .before .args in (search needs, white-start (a .width) (a .length) (a .page .now))
 
--- src/whole.rt:93:27
 shared-slice-read-white-byte : tie.Need-shared-slice-read-white-byte Inv-loop μ-loop
 shared-slice-read-white-byte c = search needs
 
--- src/whole.rt:93:13
 white-byte-requires : tie.Need-white-byte-requires Inv-loop μ-loop
 white-byte-requires c κs = search needs
 
--- src/whole.rt:94:13
 returns : tie.Need-returns Inv-loop μ-loop
 returns c = let w = c .before in let l = w .before .before .before in let a = l .before .before .args in
     sym (white-stop (a .width) (a .length) (a .page .now) (l .loop .i) (w .before .before .loop-test .taken)
     (sym (w .white-byte .ensures) ∙ not-true (w .white-byte .result) (c .if1 .taken))) ∙ l .loop .inv .1
 
--- src/whole.rt:96:9
 add-i : tie.Need-add-i Inv-loop μ-loop
 add-i c = search needs
 
--- src/whole.rt:92:5
 loop-less : tie.Need-loop-less Inv-loop μ-loop
 loop-less c = search needs
 
--- src/whole.rt:92:5
 loop-again : tie.Need-loop-again Inv-loop μ-loop
 loop-again c = let w = c .before in let l = w .before .before .before in let a = l .before .before .args in (
   search needs,
@@ -55,7 +45,6 @@ loop-again c = let w = c .before in let l = w .before .before .before in let a =
       (sym (w .white-byte .ensures) ∙ not-false (w .white-byte .result) (c .if1 .left)) ∙ l .loop .inv .1,
 )
 
--- src/whole.rt:87:1
 returns-2 : tie.Need-returns-2 Inv-loop μ-loop
 returns-2 c = let l = c .before in let a = l .before .before .args in
     sym (white-done (a .width) (a .length) (a .page .now) (l .loop .i) (c .loop-test .left)) ∙ l .loop .inv .1
