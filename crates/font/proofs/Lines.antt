@@ -1,18 +1,22 @@
 -- A text drawn: what its numbers are held to, and the two modes.
 -- Assumes nothing.
-use mathlib.Core.Path.{_≡_, ap, _∙_}
-use mathlib.Core.Bool.{Bool, true, false, _&&_}
-use mathlib.Core.List.{List}
-use Prim.Native.Nat.{ℕ, _≤_}
+use mathlib.Core.Path.{_≡_, refl, sym, ap, _∙_}
+use mathlib.Core.Bool.{Bool, true, false, cond, _&&_}
+use mathlib.Core.List.{List, []}
+use Prim.Native.Nat.{ℕ, _*_, _≤_}
+use native.Mathlib.Omega.{arith}
 use borrow.Author.Tests.{leb-true}
 use lib.ListN.{length}
 use lib.Dec.{leb}
+use Rattle.dots.specs.declared.Ink.{Ink}
 use Rattle.dots.specs.declared.Ink.the-variants.{Black, White}
 use Rattle.dots.specs.Dots.{drawn, box}
 use Rattle.font.specs.declared.text.Spot.{Spot}
 use Rattle.font.specs.Rules.{legal}
-use Rattle.font.specs.Text.{glyphs, onLabel, spotOf, drawable, inMode, textDrawn}
+use Rattle.font.specs.Text.{along, down, glyphs, onLabel, spotOf, drawable, inMode, textDrawn}
 use Rattle.dots.proofs.Bits.{and-true}
+use Rattle.dots.proofs.Pages.{Bytes}
+use Rattle.figures.proofs.Placed.{none-placed}
 
 pub record Drawable (h v n : ℕ) : Type 0 where
   pub wide : h ≤ 6
@@ -45,3 +49,22 @@ module _ (width height x y r h v : ℕ) (reverse : Bool) (font text p : List ℕ
       → q ≡ inMode reverse s (glyphs font h v text) p → q ≡ textDrawn width height x y r h v reverse font text p
   unfolding textDrawn
   text-drawn s q e a d = d ∙ ap (λ (z : Spot). inMode reverse z (glyphs font h v text) p) a ∙ rw e
+
+  -- "Text of no bytes draws nothing"
+  pub text-empty : Bytes p → text ≡ [] → textDrawn width height x y r h v reverse font text p ≡ p
+  unfolding textDrawn inMode
+  text-empty by e = rw e (either (drawable font h v []))
+    where
+      s : Spot
+      s = spotOf width height x y r h v font 0
+
+      none : (ink : Ink) (figure : ℕ → ℕ → Bool) → drawn ink (onLabel s figure) p ≡ p
+      none ink figure = sym (none-placed ink width height r (0 * along font h) (down font v) x y figure p by (λ u w i j. absurd (omega arith)))
+
+      modes : (b : Bool) → inMode b s (glyphs font h v []) p ≡ p
+      modes false = none Black _
+      modes true = ap (drawn White (onLabel s (glyphs font h v []))) (none Black _) ∙ none White _
+
+      either : (b : Bool) → cond b (inMode reverse s (glyphs font h v []) p) p ≡ p
+      either true = modes reverse
+      either false = refl
