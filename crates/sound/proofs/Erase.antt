@@ -22,7 +22,7 @@ use Rattle.moves.specs.Memory.{Memory, memory, entryOf, pickMemory}
 use Rattle.sound.specs.Sound.{nameOk, nameByteOk, firsts, counts, storeSound}
 use Rattle.sound.specs.Shelf.{Held, held, nothing, heldOf, shelf, shelfOf}
 use Rattle.sound.proofs.Frame.{Agree, chain-frame}
-use Rattle.sound.proofs.Linked.{Linked, Change, changed, held-below, held-once, free-out}
+use Rattle.sound.proofs.Linked.{Linked, Change, changed, others, held-below, held-once, free-out}
 use Rattle.sound.proofs.Bytes.{Filled, Fill, filled, others-bytes}
 use Rattle.sound.proofs.Facts.{SoundAt, Sound, sound-facts, facts-sound, sizesOf, lent-few, lent-store, lent-whole, many-some, many-none, chain-few, own-class}
 use Rattle.sound.proofs.Moving.{Moved, moved-twice, inside, content-at, changed-sound, moved-is}
@@ -149,7 +149,8 @@ module _ (st ls dir : List ℕ) (i : ℕ) (h : storeSound st ls dir ≡ true) (b
       (moved-is st ls dir _ _ dir′ i (zeros 16) s bi (zeroAll-long ps st) (length-setAll ls ps 65535) (length-sets dir (i * 16) (zeros 16)) gone other
       (omega (arith, zeros-kind)) (λ n. absurd (n zeros-kind)) (λ p j b ne o. absurd (no-class p o)) (λ e. absurd (omega (arith, zeros-kind))) (λ e. allZero-zeros 16)
       (changed ls _ _ _ _ _ E i _ _ (s .links) change) (filled st _ ls _ _ _ (sizesOf dir) _ _ (sizesOf dir′) E i _ _ (s .links) change (s .bytes) fill)
-      (others-bytes st _ ls _ (firsts dir) (counts dir) (sizesOf dir) _ _ _ E i _ _ (s .links) change (s .bytes) fill) nothing (zeros-held _ _))
+      (others-bytes st _ ls _ (firsts dir) (counts dir) (sizesOf dir) _ _ _ E i _ _ (s .links) change (s .bytes) fill)
+      (others ls _ _ _ _ _ E i _ _ (s .links) change) nothing (zeros-held _ _))
 
   -- "room freed is used again": the next new entry and the next new portion are no higher than what was freed
   pub erase-frees-entry : lowestEntry (erased (memory st ls dir) i .directory) ≤ i

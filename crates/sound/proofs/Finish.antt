@@ -118,5 +118,5 @@ module _ (st ls dir : List ℕ) (i : ℕ) (h : storeSound st ls dir ≡ true) (b
         taken = λ q b n. u q ∙ s .links .taken q b n;
       })
       (record { blank = s .bytes .blank; tailed = λ j b. rw (fs j b, ns j b, sz j b) (s .bytes .tailed j b) })
-      (λ j b ne. rw (fs j b, ns j b)) _
+      (λ j b ne. rw (fs j b, ns j b)) (λ j b ne. rw (fs j b, ns j b)) _
       (λ t. held (end-kind e long r t) (end-name e long r t) (end-content e long r st ls t)))

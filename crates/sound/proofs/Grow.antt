@@ -285,7 +285,8 @@ module _ (st ls dir : List ℕ) (i : ℕ) (bytes : List ℕ) (h : storeSound st 
       here other (omega (arith, kind′, s .kinds i bi)) (λ z. sized-legal e _ _ _ _ long ∙ s .names i bi stored)
       (λ p j b ne o oj q. ne (s .unique p j i b bi oj (rw kind′ at o) (sym q ∙ name′)))
       (λ z j b ne k. ne (s .single j i b bi k (sym kind′ ∙ z))) (λ z. absurd (stored (sym kind′ ∙ z))) links′ bytes′
-      (λ j b ne. ap (λ (p : ℕ). bytesOf (g .store) (chain (g .links) p (counts dir′ j))) (firsts′ j b) ∙ more .others j b ne) _
+      (λ j b ne. ap (λ (p : ℕ). bytesOf (g .store) (chain (g .links) p (counts dir′ j))) (firsts′ j b) ∙ more .others j b ne)
+      (λ j b ne. ap (λ (p : ℕ). chain (g .links) p (counts dir′ j)) (firsts′ j b) ∙ more .chains j b ne) _
       (λ t. held (kind′ t) (name′ t) (content′ t)))
 
   pub append-moved : Moved (memory st ls dir) (appended (memory st ls dir) i bytes) i (held (kind (entry dir i)) (name (entry dir i)) (contentOf st ls (entry dir i) ++ bytes))

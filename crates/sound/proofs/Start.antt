@@ -22,7 +22,7 @@ use Rattle.moves.specs.Memory.{Memory, memory, entryOf, pickMemory}
 use Rattle.sound.specs.Sound.{nameOk, nameByteOk, firsts, counts, storeSound}
 use Rattle.sound.specs.Shelf.{Held, held, nothing, heldOf, shelf, shelfOf}
 use Rattle.sound.proofs.Frame.{Agree, chain-frame}
-use Rattle.sound.proofs.Linked.{Linked, Change, changed, held-below, held-once, free-out}
+use Rattle.sound.proofs.Linked.{Linked, Change, changed, others, held-below, held-once, free-out}
 use Rattle.sound.proofs.Bytes.{Filled, Fill, filled, others-bytes}
 use Rattle.sound.proofs.Facts.{SoundAt, Sound, sound-facts, facts-sound, sizesOf, lent-few, lent-store, lent-whole, many-some, many-none, chain-few, own-class}
 use Rattle.sound.proofs.Moving.{Moved, moved-twice, inside, content-at, changed-sound, moved-is}
@@ -184,7 +184,8 @@ module _ (st ls dir : List ℕ) (k : ℕ) (n : List ℕ) (a : MayStart st ls dir
       (omega (arith, new-kind k n q, a .low)) (λ z. new-legal k n q ∙ a .legal) alone only (λ z. absurd (omega (arith, new-kind k n q, a .some)))
       (changed ls ls′ (firsts dir) (counts dir) (firsts dir′) (counts dir′) E i [] (q ∷ []) (s .links) change)
       (filled st st ls ls′ (firsts dir) (counts dir) (sizesOf dir) (firsts dir′) (counts dir′) (sizesOf dir′) E i [] (q ∷ []) (s .links) change (s .bytes) fill)
-      (others-bytes st st ls ls′ (firsts dir) (counts dir) (sizesOf dir) (firsts dir′) (counts dir′) (sizesOf dir′) E i [] (q ∷ []) (s .links) change (s .bytes) fill) _
+      (others-bytes st st ls ls′ (firsts dir) (counts dir) (sizesOf dir) (firsts dir′) (counts dir′) (sizesOf dir′) E i [] (q ∷ []) (s .links) change (s .bytes) fill)
+      (others ls ls′ (firsts dir) (counts dir) (firsts dir′) (counts dir′) E i [] (q ∷ []) (s .links) change) _
       (λ t. held (new-kind k n q t) (new-name k n q (a .long) t) (new-content k n q st ls′ t)))
 
   pub start-moved : Moved (memory st ls dir) (started (memory st ls dir) k n) (lowestEntry dir) (held k n [])
