@@ -1,21 +1,18 @@
 -- A row of bytes put behind what is stored: one byte after another.
-use mathlib.Core.Path.{_≡_, refl, sym, ap, _∙_, subst}
+use mathlib.Core.Path.{_≡_, refl, sym, ap, _∙_}
 use mathlib.Core.List.{List, [], _∷_, _++_, append-nil, append-assoc}
-use mathlib.Core.Bool.{Bool, true, false, cond}
-use mathlib.Core.Logic.{_⊎_, inl, inr, ⊎-elim}
-use Prim.Native.Nat.{ℕ, zero, suc, _+_, _-_, _*_, _/_, _%_, _≤_, _<_}
+use mathlib.Core.Bool.{cond}
+use Prim.Native.Nat.{ℕ, suc, _+_, _*_, _%_, _<_}
 use native.Mathlib.Omega.{arith}
 use native.Mathlib.Numerals.{sub-one}
-use lib.ListN.{length, getD, drop, take, set}
+use lib.ListN.{length, take}
 use lib.Dec.{eqb}
 use borrow.Author.Tests.{eq-eqb, ne-eqb}
-use Rattle.cells.specs.Count.{times, allZero}
 use Rattle.store.specs.Chain.{chain, bytesOf, needed}
-use Rattle.moves.specs.Grow.{nextLast, nextLinks, Growing, growing, put, putAll}
-use Rattle.cells.proofs.Counts.{same?}
-use Rattle.sound.proofs.Linked.{Linked, Change, changed}
-use Rattle.sound.proofs.Bytes.{Filled, Fill, filled}
-use Rattle.sound.proofs.PutSound.{Grows, Put, put-sound, stay}
+use Rattle.moves.specs.Grow.{nextLast, Growing, growing, putAll}
+use Rattle.sound.proofs.Linked.{changed}
+use Rattle.sound.proofs.Bytes.{Fill, filled}
+use Rattle.sound.proofs.PutSound.{Grows, put-sound, stay}
 use Rattle.sound.proofs.Room.{Room, room-step}
 
 -- f with v at i

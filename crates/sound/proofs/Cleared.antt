@@ -1,39 +1,28 @@
 -- Cleared memory is sound, and nothing stands on its shelf.
 use mathlib.Core.Path.{_≡_, refl, sym, ap, _∙_, subst}
-use mathlib.Core.List.{List, [], _∷_, _++_, append-nil, append-assoc}
-use mathlib.Core.Bool.{Bool, true, false, not, _&&_, _||_, cond, false≢true}
-use mathlib.Core.Logic.{_⊎_, inl, inr, ⊎-elim}
-use Prim.Native.Nat.{ℕ, zero, suc, _+_, _-_, _*_, _/_, _%_, _≤_, _<_, min}
+use mathlib.Core.List.{List, [], _∷_}
+use mathlib.Core.Bool.{Bool, true, false, false≢true}
+use Prim.Native.Nat.{ℕ, zero, suc, _+_, _*_, _/_, _≤_, _<_, min}
 use native.Mathlib.Omega.{arith}
-use native.Mathlib.Nat.{add-zero}
-use lib.ListN.{length, getD, take, drop, set, length-set, length-append}
-use lib.Seq.{sets, length-sets, getD-set-same, getD-set-other, drop-nil}
-use lib.Dec.{eqb, ltb, leb}
-use borrow.Author.Tests.{eq-eqb, ne-eqb, eqb-true, ltb-true, leb-true, le-leb, lt-ltb, not-true}
-use Rattle.cells.specs.Cell.{cell, zeros, setCell}
-use Rattle.cells.specs.Count.{one, times, sumTo, allTo, allZero, setAll}
-use Rattle.cells.specs.Scan.{lowest}
-use Rattle.cells.proofs.Counts.{same?, one-yes, one-no, and-left, and-right, and-both, length-setAll, setAll-in}
-use Rattle.cells.proofs.Cells.{length-zeros, getD-zeros, cell-fits, length-cell, cell-set-same, cell-set-other, length-setCell, setCell-other, setCell-same}
-use Rattle.store.specs.Chain.{chain, chainOk, portion, bytesOf, walk, needed, isFree, freeCount}
-use Rattle.store.specs.Entry.{entries, entry, kind, nameLength, name, first, size, many, ofKind}
+use lib.ListN.{length, getD}
+use lib.Seq.{drop-nil}
+use Rattle.cells.specs.Cell.{cell, zeros}
+use Rattle.cells.specs.Count.{times, sumTo, allZero}
+use Rattle.cells.proofs.Cells.{length-zeros, getD-zeros, cell-fits, length-cell}
+use Rattle.store.specs.Chain.{chain}
+use Rattle.store.specs.Entry.{entries, entry, kind, name, first, size, many, ofKind}
 use Rattle.store.specs.Content.{contentOf, extent, bytesFrom}
-use Rattle.moves.specs.Memory.{Memory, memory, entryOf, pickMemory}
-use Rattle.sound.specs.Sound.{nameOk, nameByteOk, firsts, counts, storeSound}
-use Rattle.sound.specs.Shelf.{Held, held, nothing, heldOf, shelf, shelfOf}
-use Rattle.sound.proofs.Frame.{Agree, chain-frame}
-use Rattle.sound.proofs.Linked.{Linked, Change, changed, held-below, held-once, free-out}
-use Rattle.sound.proofs.Bytes.{Filled, Fill, filled, others-bytes}
-use Rattle.sound.proofs.Facts.{SoundAt, Sound, sound-facts, facts-sound, sizesOf, lent-few, lent-store, lent-whole, many-some, many-none, chain-few, own-class}
-use Rattle.sound.proofs.Moving.{Moved, moved-twice, inside, content-at, changed-sound, moved-is}
-use lib.ListN.{replicate, length-replicate, getD-replicate, length-take, length-drop}
-use lib.Seq.{ext-getD, getD-take, getD-drop}
+use Rattle.moves.specs.Memory.{memory}
+use Rattle.sound.specs.Sound.{firsts, counts, storeSound}
+use Rattle.sound.specs.Shelf.{held, nothing, heldOf, shelfOf}
+use Rattle.sound.proofs.Facts.{SoundAt, facts-sound, sizesOf, lent-store}
+use lib.ListN.{replicate, length-replicate, getD-replicate}
+use lib.Seq.{ext-getD}
 use Rattle.cells.proofs.Cells.{cell-at}
-use Rattle.cells.proofs.Counts.{all-of}
 use Rattle.sound.specs.Sound.{lentOk}
 use Rattle.sound.specs.Shelf.{cleared}
 use Rattle.sound.proofs.Facts.{lent-same}
-use Rattle.sound.proofs.Erase.{allZero-zeros}
+use Rattle.sound.proofs.Erase.{allZero-zeros, zeros-kind, zeros-many, zeros-held}
 use Rattle.sound.proofs.Listing.{shelf-at}
 
 -- a cell of zeros is zeros
@@ -44,18 +33,6 @@ zero-cell w n i h =
     (λ o b.
     let bo : o < w = omega (arith, length-cell w (zeros n) i l) in
     cell-at w (zeros n) i o bo ∙ getD-zeros n (i * w + o) (omega arith) ∙ sym (getD-zeros w o bo))
-
-zeros-kind : kind (zeros 16) ≡ 0
-unfolding zeros
-zeros-kind = refl
-
-zeros-many : many (zeros 16) ≡ 0
-unfolding zeros many size
-zeros-many = refl
-
-zeros-held : (st ls : List ℕ) → heldOf st ls (zeros 16) ≡ nothing
-unfolding zeros name contentOf extent size first bytesFrom
-zeros-held st ls = ap (λ (n : ℕ). held 0 (0 ∷ 0 ∷ 0 ∷ 0 ∷ 0 ∷ 0 ∷ 0 ∷ 0 ∷ []) (bytesFrom st ls 0 0 n)) (let z : min 0 (length ls * 256) ≡ 0 = omega arith in z)
 
 no-class : (p : Bool) → ofKind p 0 ≡ true → ⊥
 no-class true o = false≢true o

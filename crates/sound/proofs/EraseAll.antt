@@ -1,34 +1,18 @@
 -- All entries of a kind are erased: the others stay as they are.
 use mathlib.Core.Path.{_≡_, refl, sym, ap, _∙_, subst}
-use mathlib.Core.List.{List, [], _∷_, _++_, append-nil, append-assoc}
-use mathlib.Core.Bool.{Bool, true, false, not, _&&_, _||_, cond, false≢true}
-use mathlib.Core.Logic.{_⊎_, inl, inr, ⊎-elim}
-use Prim.Native.Nat.{ℕ, zero, suc, _+_, _-_, _*_, _/_, _%_, _≤_, _<_, min}
+use mathlib.Core.Bool.{Bool, true, false}
+use mathlib.Core.Logic.{⊎-elim}
+use Prim.Native.Nat.{ℕ, zero, suc, _+_, _/_, _≤_, _<_}
 use native.Mathlib.Omega.{arith}
-use native.Mathlib.Nat.{add-zero}
-use lib.ListN.{length, getD, take, drop, set, length-set, length-append}
-use lib.Seq.{sets, length-sets, getD-set-same, getD-set-other, drop-nil}
-use lib.Dec.{eqb, ltb, leb}
-use borrow.Author.Tests.{eq-eqb, ne-eqb, eqb-true, ltb-true, leb-true, le-leb, lt-ltb, not-true}
-use Rattle.cells.specs.Cell.{cell, zeros, setCell}
-use Rattle.cells.specs.Count.{one, times, sumTo, allTo, allZero, setAll}
-use Rattle.cells.specs.Scan.{lowest}
-use Rattle.cells.proofs.Counts.{same?, one-yes, one-no, and-left, and-right, and-both, length-setAll, setAll-in}
-use Rattle.cells.proofs.Cells.{length-zeros, getD-zeros, cell-fits, length-cell, cell-set-same, cell-set-other, length-setCell, setCell-other, setCell-same}
-use Rattle.store.specs.Chain.{chain, chainOk, portion, bytesOf, walk, needed, isFree, freeCount}
-use Rattle.store.specs.Entry.{entries, entry, kind, nameLength, name, first, size, many, ofKind}
-use Rattle.store.specs.Content.{contentOf, extent, bytesFrom}
-use Rattle.moves.specs.Memory.{Memory, memory, entryOf, pickMemory}
-use Rattle.sound.specs.Sound.{nameOk, nameByteOk, firsts, counts, storeSound}
-use Rattle.sound.specs.Shelf.{Held, held, nothing, heldOf, shelf, shelfOf}
-use Rattle.sound.proofs.Frame.{Agree, chain-frame}
-use Rattle.sound.proofs.Linked.{Linked, Change, changed, held-below, held-once, free-out}
-use Rattle.sound.proofs.Bytes.{Filled, Fill, filled, others-bytes}
-use Rattle.sound.proofs.Facts.{SoundAt, Sound, sound-facts, facts-sound, sizesOf, lent-few, lent-store, lent-whole, many-some, many-none, chain-few, own-class}
-use Rattle.sound.proofs.Moving.{Moved, moved-twice, inside, content-at, changed-sound, moved-is}
+use lib.ListN.{length, getD}
+use Rattle.cells.proofs.Counts.{same?}
+use Rattle.store.specs.Entry.{entries, kind, ofKind}
+use Rattle.moves.specs.Memory.{Memory, entryOf, pickMemory}
+use Rattle.sound.specs.Sound.{storeSound}
+use Rattle.sound.specs.Shelf.{Held, nothing, shelfOf}
 use Rattle.moves.specs.Erase.{erased, erasedIf, erasedFrom, erasedAll}
 use Rattle.sound.specs.Shelf.{pickHeld, swept}
-use Rattle.sound.proofs.Listing.{shelf-at, length-shelf}
+use Rattle.sound.proofs.Listing.{shelf-at}
 use Rattle.sound.proofs.Moving.{moved-other, moved-here}
 use Rattle.sound.proofs.Erase.{erase-moved}
 use Rattle.cells.proofs.Scan.{either}

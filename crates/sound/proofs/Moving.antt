@@ -1,18 +1,18 @@
 -- One entry changes: what every move shares. The memory stays sound where the new entry is, and the shelf changes in one place.
 use mathlib.Core.Path.{_≡_, refl, sym, ap, _∙_, subst}
-use mathlib.Core.List.{List, [], _∷_, _++_}
-use mathlib.Core.Bool.{Bool, true, false, not, _&&_, _||_, cond, false≢true}
-use mathlib.Core.Logic.{_⊎_, inl, inr, ⊎-elim}
-use Prim.Native.Nat.{ℕ, zero, suc, _+_, _-_, _*_, _/_, _≤_, _<_}
+use mathlib.Core.List.{List, [], _∷_}
+use mathlib.Core.Bool.{Bool, true}
+use mathlib.Core.Logic.{⊎-elim}
+use Prim.Native.Nat.{ℕ, zero, suc, _+_, _*_, _/_, _≤_, _<_}
 use native.Mathlib.Omega.{arith}
 use lib.ListN.{length, getD, take, set}
 use lib.Seq.{set-set, getD-set-same, getD-set-other}
 use lib.Dec.{eqb}
-use borrow.Author.Tests.{eqb-true, ne-eqb}
+use borrow.Author.Tests.{eqb-true}
 use Rattle.cells.specs.Count.{allZero}
 use Rattle.cells.proofs.Counts.{same?, and-left, and-right}
-use Rattle.store.specs.Chain.{chain, bytesOf, needed}
-use Rattle.store.specs.Entry.{entries, entry, kind, name, first, size, ofKind}
+use Rattle.store.specs.Chain.{chain, bytesOf}
+use Rattle.store.specs.Entry.{entries, entry, kind, name, size, ofKind}
 use Rattle.store.specs.Content.{contentOf}
 use Rattle.moves.specs.Memory.{Memory, memory}
 use Rattle.sound.specs.Sound.{nameOk, firsts, counts, storeSound}
@@ -20,7 +20,7 @@ use Rattle.sound.specs.Shelf.{Held, held, nothing, heldOf, shelf, shelfO
 use Rattle.sound.proofs.Linked.{Linked, held-below}
 use Rattle.sound.proofs.Bytes.{Filled}
 use Rattle.sound.proofs.Content.{content-chain}
-use Rattle.sound.proofs.Facts.{SoundAt, Sound, sound-facts, facts-sound, sizesOf, lent-same, lent-store, many-some, many-none, chain-few}
+use Rattle.sound.proofs.Facts.{SoundAt, Sound, facts-sound, sizesOf, lent-same, lent-store, many-some, chain-few}
 use Rattle.sound.proofs.Listing.{shelf-set, length-shelf}
 
 -- a move of one entry: sound is kept, the shelf has x in place i and is else as it was, and so are the chains of all other entries

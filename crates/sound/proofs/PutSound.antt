@@ -1,20 +1,20 @@
 -- A byte put behind what is stored: the links and the bytes stay sound, the entry has one byte more, and the others are as they were.
-use mathlib.Core.Path.{_≡_, refl, sym, ap, _∙_, subst}
+use mathlib.Core.Path.{_≡_, refl, sym, ap, _∙_}
 use mathlib.Core.List.{List, [], _∷_, _++_}
-use mathlib.Core.Bool.{Bool, true, false}
-use mathlib.Core.Logic.{_⊎_, inl, inr, ⊎-elim}
-use Prim.Native.Nat.{ℕ, zero, suc, _+_, _-_, _*_, _/_, _%_, _≤_, _<_}
+use mathlib.Core.Bool.{true}
+use mathlib.Core.Logic.{inl}
+use Prim.Native.Nat.{ℕ, zero, suc, _+_, _-_, _*_, _%_, _≤_, _<_}
 use native.Mathlib.Omega.{arith}
 use lib.ListN.{length, getD, drop, take, set}
 use lib.Seq.{getD-append-seam, take-append-le}
 use Rattle.cells.specs.Count.{times, allZero}
-use Rattle.store.specs.Chain.{chain, chainOk, portion, bytesOf, walk, needed}
+use Rattle.store.specs.Chain.{chain, chainOk, bytesOf, walk, needed}
 use Rattle.moves.specs.Grow.{lowestPortion, nextLast, nextLinks}
-use Rattle.cells.proofs.Counts.{same?, one-yes, one-no, times-append}
+use Rattle.cells.proofs.Counts.{one-yes, times-append}
 use Rattle.sound.proofs.Frame.{chain-below}
 use Rattle.cells.proofs.Cells.{cell-fits, cell-set-other}
-use Rattle.sound.proofs.Linked.{Linked, Change, changed, others, held-once, held-below, free-out, at-most}
-use Rattle.sound.proofs.Changes.{hung, chain-snoc, last-in, grow, hung-chain}
+use Rattle.sound.proofs.Linked.{Linked, Change, changed, others, held-once, held-below, free-out}
+use Rattle.sound.proofs.Changes.{hung, chain-snoc, grow, hung-chain}
 use Rattle.sound.proofs.Bytes.{Filled, Fill, filled, others-bytes, put-content, put-tail, tail-new, bytes-append, bytes-length}
 use Rattle.sound.proofs.Room.{Room, Case, isFull, isIn, isFirst, case, next-full, room-some, lowest-below, lowest-free}
 use Rattle.moves.proofs.Growth.{next-in, next-first}
