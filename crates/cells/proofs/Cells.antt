@@ -1,13 +1,13 @@
 -- Cells: what stands where, and what one that is stored over leaves. One law for every width.
-use mathlib.Core.Path.{_≡_, refl, sym, ap, _∙_, subst}
-use mathlib.Core.List.{List, [], _∷_, _++_}
+use mathlib.Core.Path.{_≡_, sym, _∙_}
+use mathlib.Core.List.{List}
 use mathlib.Core.Logic.{_⊎_, inl, inr, ⊎-elim}
-use Prim.Native.Nat.{ℕ, zero, suc, _+_, _-_, _*_, _/_, _≤_, _<_}
+use Prim.Native.Nat.{ℕ, _+_, _*_, _≤_, _<_}
 use native.Mathlib.Omega.{arith}
 use native.Mathlib.Nat.{mul-le-mul-right}
 use native.Mathlib.Decide.{decLe}
-use lib.ListN.{length, getD, set, take, drop, replicate, length-append, length-take, length-drop, length-set, length-replicate, getD-replicate, List·getD-append}
-use lib.Seq.{getD-append-add, getD-take, getD-drop, length-take-le, ext-getD, drop-drop, getD-set-other, drop-set-add, take-set-lt, length-sets}
+use lib.ListN.{length, getD, set, drop, length-take, length-drop, length-set, length-replicate, getD-replicate}
+use lib.Seq.{getD-take, getD-drop, ext-getD, getD-set-other, drop-set-add, take-set-lt, length-sets}
 use Rattle.cells.specs.Cell.{cell, zeros, setCell}
 use Rattle.cells.proofs.Sets.{sets-below, sets-above, sets-in}
 

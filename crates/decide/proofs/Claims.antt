@@ -1,21 +1,21 @@
 -- The walk over all entries that marks their portions decides `linksOk`.
-use mathlib.Core.Path.{_≡_, refl, sym, ap, _∙_, subst}
-use mathlib.Core.List.{List, [], _∷_, _++_}
+use mathlib.Core.Path.{_≡_, refl, sym, ap, _∙_}
+use mathlib.Core.List.{List}
 use mathlib.Core.Bool.{Bool, true, false, _&&_, _||_, cond, false≢true}
-use mathlib.Core.Logic.{_⊎_, inl, inr, ⊎-elim}
-use Prim.Native.Nat.{ℕ, zero, suc, _+_, _-_, _*_, _/_, _≤_, _<_}
+use mathlib.Core.Logic.{⊎-elim}
+use Prim.Native.Nat.{ℕ, zero, suc, _+_, _≤_, _<_}
 use native.Mathlib.Omega.{arith}
 use native.Mathlib.Numerals.{add-one}
 use lib.ListN.{length, getD, set, length-set}
 use lib.Seq.{getD-set-same, getD-set-other}
 use lib.Dec.{eqb, ltb}
-use borrow.Author.Tests.{eq-eqb, ne-eqb, eqb-true, lt-ltb, ltb-true}
-use Rattle.cells.specs.Count.{one, times, sumTo, allTo, setAll}
+use borrow.Author.Tests.{eq-eqb, ne-eqb, eqb-true, ltb-true}
+use Rattle.cells.specs.Count.{times, sumTo, allTo, setAll}
 use Rattle.store.specs.Chain.{chain, chainOk}
-use Rattle.sound.specs.Sound.{uses, portionOk, linksOk}
+use Rattle.sound.specs.Sound.{portionOk, linksOk}
 use Rattle.decide.specs.Claim.{claimOk, markFits, claimEntry, Claimed}
-use Rattle.cells.proofs.Counts.{same?, one-yes, one-no, and-left, and-right, and-both, all-at, all-of, sum-has}
-use Rattle.sound.proofs.Linked.{Linked, linked-facts, at-most, or-yes, or-no}
+use Rattle.cells.proofs.Counts.{same?, one-yes, one-no, and-left, and-right, and-both, all-of}
+use Rattle.sound.proofs.Linked.{linked-facts, at-most, or-yes, or-no}
 
 -- ---- one chain
 

@@ -1,19 +1,18 @@
 -- What the tests of one entry, of one portion and of the whole answer.
-use mathlib.Core.Path.{_≡_, refl, sym, ap, _∙_}
+use mathlib.Core.Path.{_≡_, sym, ap, _∙_}
 use mathlib.Core.List.{List, [], _∷_}
-use mathlib.Core.Bool.{Bool, true, false, not, _&&_, _||_, cond}
-use Prim.Native.Nat.{ℕ, zero, suc, _+_, _-_, _*_, _/_, _≤_, _<_, min}
+use mathlib.Core.Bool.{Bool, true, false, not, _&&_}
+use Prim.Native.Nat.{ℕ, zero, suc, _+_, _-_, _*_, _≤_, _<_, min}
 use native.Mathlib.Omega.{arith}
-use native.Mathlib.Nat.{add-zero}
 use lib.ListN.{length, getD, take, drop, length-drop}
 use lib.Seq.{take-nil, drop-nil, drop-drop, take-all}
-use lib.Dec.{eqb, ltb, leb}
-use borrow.Author.Tests.{eq-eqb, ne-eqb, lt-ltb, le-ltb, le-leb, lt-leb, not-true, not-false, leb-true}
+use lib.Dec.{eqb, leb}
+use borrow.Author.Tests.{eq-eqb, ne-eqb, le-leb, lt-leb, not-true, not-false, leb-true}
 use Rattle.cells.specs.Cell.{cell}
 use Rattle.cells.specs.Count.{allTo, allZero}
 use Rattle.cells.proofs.Counts.{drop-step, drop-none, and-left}
 use Rattle.store.specs.declared.Found.{Found}
-use Rattle.store.specs.Chain.{needed, portion, isFree}
+use Rattle.store.specs.Chain.{needed, portion}
 use Rattle.store.specs.Entry.{entries, entry, kind, nameLength, name, size}
 use Rattle.store.specs.Find.{titledAt, recorded}
 use Rattle.moves.specs.Grow.{lastOf}

@@ -1,7 +1,7 @@
 -- A walk over all chains that marks each portion it meets: how `chainsOk` is decided in one pass.
 use mathlib.Core.Path.{_≡_}
 use mathlib.Core.List.{List}
-use mathlib.Core.Bool.{Bool, true, false, _&&_, _||_, cond}
+use mathlib.Core.Bool.{Bool, true, _&&_, _||_, cond}
 use Prim.Native.Nat.{ℕ, zero, suc, _<_}
 use lib.ListN.{length, getD, set}
 use lib.Dec.{eqb, ltb}

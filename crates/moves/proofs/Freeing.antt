@@ -1,6 +1,6 @@
 -- Freeing and erasing, as the code does it.
 use mathlib.Core.Path.{_≡_, refl, sym, ap, _∙_}
-use mathlib.Core.List.{List, [], _∷_}
+use mathlib.Core.List.{List}
 use mathlib.Core.Bool.{Bool, true, false, not}
 use Prim.Native.Nat.{ℕ, zero, suc, _+_, _-_, _*_, _≤_, _<_, min}
 use native.Mathlib.Omega.{arith}
@@ -11,9 +11,9 @@ use lib.Seq.{sets, length-sets}
 use lib.Dec.{eqb}
 use borrow.Author.Tests.{eq-eqb, ne-eqb}
 use Rattle.cells.specs.Cell.{zeros, setCell}
-use Rattle.store.specs.Entry.{entries, entry, kind, first, many, ofKind}
+use Rattle.store.specs.Entry.{kind, first, many, ofKind}
 use Rattle.moves.specs.Memory.{Memory, memory, entryOf, pickMemory}
-use Rattle.moves.specs.Erase.{freedOne, freed, emptied, erased, erasedAt, erasedIf, erasedFrom, erasedAll}
+use Rattle.moves.specs.Erase.{freedOne, freed, emptied, erased, erasedAt, erasedIf, erasedFrom}
 
 -- ---- lengths stay
 

@@ -1,11 +1,10 @@
 -- An entry is erased: "room freed is used again, zeroed". No other entry moves.
-use mathlib.Core.List.{List}
 use mathlib.Core.Bool.{Bool}
 use Prim.Native.Nat.{ℕ, zero, suc, min}
 use lib.ListN.{length, getD, set}
 use lib.Dec.{eqb}
 use Rattle.cells.specs.Cell.{zeros, setCell}
-use Rattle.store.specs.Entry.{entries, entry, kind, first, many, ofKind}
+use Rattle.store.specs.Entry.{entries, kind, first, many, ofKind}
 use Rattle.moves.specs.Memory.{Memory, memory, entryOf, pickMemory}
 
 -- portion p zeroed and marked free

@@ -7,7 +7,7 @@ use lib.Seq.{sets}
 use lib.Dec.{eqb, ltb, leb}
 use Rattle.cells.specs.Scan.{lowest}
 use Rattle.store.specs.Chain.{needed, isFree, freeCount, walk}
-use Rattle.store.specs.Entry.{entry, kind, first, size}
+use Rattle.store.specs.Entry.{kind, first, size}
 use Rattle.moves.specs.Memory.{Memory, memory, entryOf, pickMemory}
 
 -- the number of the lowest free portion; as many as there are where none is free

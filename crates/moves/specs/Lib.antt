@@ -3,3 +3,4 @@ pub mod Memory
 pub mod Grow
 pub mod Start
 pub mod Erase
+pub mod Samples

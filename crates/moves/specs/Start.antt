@@ -1,7 +1,7 @@
 -- An entry is started, kept whole, or finished. "New entries and portions are the lowest free. A starting form takes one portion."
 use mathlib.Core.List.{List, [], _∷_}
 use mathlib.Core.Bool.{Bool, _&&_}
-use Prim.Native.Nat.{ℕ, _+_, _*_, _/_, _%_}
+use Prim.Native.Nat.{ℕ, _*_, _/_, _%_}
 use lib.ListN.{length, getD, set}
 use lib.Dec.{eqb, ltb, leb}
 use Rattle.cells.specs.Cell.{setCell}
@@ -9,9 +9,9 @@ use Rattle.cells.specs.Scan.{lowest}
 use Rattle.store.specs.declared.Found.{Found}
 use Rattle.store.specs.declared.Found.the-variants.{At, Nothing}
 use Rattle.store.specs.Chain.{needed, freeCount}
-use Rattle.store.specs.Entry.{entries, entry, kind}
+use Rattle.store.specs.Entry.{entries}
 use Rattle.store.specs.Find.{isEmpty, isRecording, pickFound}
-use Rattle.moves.specs.Memory.{Memory, memory, entryOf, pickMemory}
+use Rattle.moves.specs.Memory.{Memory, memory, pickMemory}
 use Rattle.moves.specs.Grow.{lowestPortion, grown}
 
 -- the number of the lowest empty entry; as many as there are where none is empty

@@ -1,21 +1,18 @@
 -- A row of bytes put behind what is stored: one byte after another.
-use mathlib.Core.Path.{_≡_, refl, sym, ap, _∙_, subst}
+use mathlib.Core.Path.{_≡_, refl, sym, ap, _∙_}
 use mathlib.Core.List.{List, [], _∷_, _++_, append-nil, append-assoc}
-use mathlib.Core.Bool.{Bool, true, false, cond}
-use mathlib.Core.Logic.{_⊎_, inl, inr, ⊎-elim}
-use Prim.Native.Nat.{ℕ, zero, suc, _+_, _-_, _*_, _/_, _%_, _≤_, _<_}
+use mathlib.Core.Bool.{cond}
+use Prim.Native.Nat.{ℕ, suc, _+_, _*_, _%_, _<_}
 use native.Mathlib.Omega.{arith}
 use native.Mathlib.Numerals.{sub-one}
-use lib.ListN.{length, getD, drop, take, set}
+use lib.ListN.{length, take}
 use lib.Dec.{eqb}
 use borrow.Author.Tests.{eq-eqb, ne-eqb}
-use Rattle.cells.specs.Count.{times, allZero}
 use Rattle.store.specs.Chain.{chain, bytesOf, needed}
-use Rattle.moves.specs.Grow.{nextLast, nextLinks, Growing, growing, put, putAll}
-use Rattle.cells.proofs.Counts.{same?}
-use Rattle.sound.proofs.Linked.{Linked, Change, changed}
-use Rattle.sound.proofs.Bytes.{Filled, Fill, filled}
-use Rattle.sound.proofs.PutSound.{Grows, Put, put-sound, stay}
+use Rattle.moves.specs.Grow.{nextLast, Growing, growing, putAll}
+use Rattle.sound.proofs.Linked.{changed}
+use Rattle.sound.proofs.Bytes.{Fill, filled}
+use Rattle.sound.proofs.PutSound.{Grows, put-sound, stay}
 use Rattle.sound.proofs.Room.{Room, room-step}
 
 -- f with v at i
@@ -33,6 +30,7 @@ upd-other f i v j n = rw (ne-eqb j i n)
 pub record Appended (st ls : List ℕ) (g : Growing) (fs ns sz ns′ sz′ : ℕ → ℕ) (E i : ℕ) (line : List ℕ) : Type 0 where
   pub grown : Grows (g .store) (g .links) fs ns′ sz′ E i (g .last)
   pub content : take (sz′ i) (bytesOf (g .store) (chain (g .links) (fs i) (ns′ i))) ≡ take (sz i) (bytesOf st (chain ls (fs i) (ns i))) ++ line
+  pub chains : (j : ℕ) → j < E → (j ≡ i → ⊥) → chain (g .links) (fs j) (ns′ j) ≡ chain ls (fs j) (ns j)
   pub others : (j : ℕ) → j < E → (j ≡ i → ⊥) → bytesOf (g .store) (chain (g .links) (fs j) (ns′ j)) ≡ bytesOf st (chain ls (fs j) (ns j))
 
 pub append-sound : (line st ls : List ℕ) (fs ns sz ns′ sz′ : ℕ → ℕ) (E i last : ℕ) → i < E → Grows st ls fs ns sz E i last → Room st ls last (sz i) (length line)
@@ -52,6 +50,7 @@ append-sound [] st ls fs ns sz ns′ sz′ E i last bi g r e n so nn =
         final = λ k ek. g .final k (sym ni ∙ ek);
       };
       content = rw (zi, ni) (sym (append-nil _));
+      chains = λ j b ne. rw (nn j b ne);
       others = λ j b ne. rw (nn j b ne);
     }
 append-sound (b ∷ line) st ls fs ns sz ns′ sz′ E i last bi g r e n so nn =
@@ -67,5 +66,6 @@ append-sound (b ∷ line) st ls fs ns sz ns′ sz′ E i last bi g r e n so nn =
     record {
       grown = a′ .grown;
       content = a′ .content ∙ ap (λ (t : List ℕ). t ++ line) (p .content) ∙ append-assoc (take (sz i) (bytesOf st (chain ls (fs i) (ns i)))) (b ∷ []) line;
+      chains = λ j x y. a′ .chains j x y ∙ p .chains j x y;
       others = λ j x y. a′ .others j x y ∙ p .others j x y;
     }

@@ -1,21 +1,18 @@
 -- The bytes of chains: one law for every change of one chain and its portions, and what a byte put behind the last one does.
-use mathlib.Core.Path.{_≡_, refl, sym, ap, _∙_, subst}
+use mathlib.Core.Path.{_≡_, refl, sym, ap, _∙_}
 use mathlib.Core.List.{List, [], _∷_, _++_, append-nil, append-assoc}
-use mathlib.Core.Bool.{Bool, true, false, _&&_, _||_, cond}
-use mathlib.Core.Logic.{_⊎_, inl, inr, ⊎-elim}
-use Prim.Native.Nat.{ℕ, zero, suc, _+_, _-_, _*_, _/_, _≤_, _<_}
+use mathlib.Core.Bool.{true}
+use mathlib.Core.Logic.{⊎-elim}
+use Prim.Native.Nat.{ℕ, suc, _+_, _*_, _≤_, _<_}
 use native.Mathlib.Omega.{arith}
-use native.Mathlib.Numerals.{add-one}
-use lib.ListN.{length, getD, drop, take, set, length-set, length-append}
+use lib.ListN.{length, getD, drop, take, set, length-append}
 use lib.Seq.{take-append-add, drop-append-add, take-suc-set, drop-set-lt, drop-drop}
 use lib.Dec.{eqb}
-use borrow.Author.Tests.{eq-eqb}
-use Rattle.cells.specs.Count.{one, times, allZero, setAll}
-use Rattle.cells.specs.Cell.{cell, zeros}
-use Rattle.store.specs.Chain.{chain, chainOk, portion, bytesOf}
-use Rattle.cells.proofs.Counts.{same?, one-yes, one-no, times-append, and-left, and-right, and-both}
+use Rattle.cells.specs.Count.{times, allZero}
+use Rattle.store.specs.Chain.{chain, portion, bytesOf}
+use Rattle.cells.proofs.Counts.{same?, one-yes, and-right}
 use Rattle.sound.proofs.Frame.{bytes-frame}
-use Rattle.cells.proofs.Cells.{length-zeros, cell-fits, length-cell, cell-set-same, cell-set-other, length-setCell, setCell-same, setCell-other}
+use Rattle.cells.proofs.Cells.{cell-fits, length-cell, cell-set-same, cell-set-other}
 use Rattle.sound.proofs.Linked.{Linked, Change, held-below, not-old, not-new, others}
 
 pub record Filled (st ls : List ℕ) (fs ns sz : ℕ → ℕ) (E : ℕ) : Type 0 where

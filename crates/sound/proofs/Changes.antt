@@ -1,20 +1,19 @@
 -- The three changes of one chain: it is erased, started with one free portion, or grown by one. Each is a `Change`, so each keeps `Linked`.
-use mathlib.Core.Path.{_≡_, refl, sym, ap, _∙_, subst}
+use mathlib.Core.Path.{_≡_, refl, sym, ap, _∙_}
 use mathlib.Core.List.{List, [], _∷_, _++_}
-use mathlib.Core.Bool.{Bool, true, false, _&&_, _||_, cond}
-use mathlib.Core.Logic.{_⊎_, inl, inr, ⊎-elim}
-use Prim.Native.Nat.{ℕ, zero, suc, _+_, _-_, _*_, _/_, _≤_, _<_}
+use mathlib.Core.Bool.{true}
+use mathlib.Core.Logic.{inl, inr, ⊎-elim}
+use Prim.Native.Nat.{ℕ, zero, suc, _+_, _≤_, _<_}
 use native.Mathlib.Omega.{arith}
-use lib.ListN.{length, getD, drop, set, length-set}
+use lib.ListN.{length, getD, set, length-set}
 use lib.Seq.{getD-set-same, getD-set-other}
-use lib.Dec.{eqb, ltb}
-use borrow.Author.Tests.{eq-eqb, ne-eqb, eqb-true, lt-ltb, ltb-true}
-use Rattle.cells.specs.Count.{one, times, sumTo, allTo, setAll}
+use lib.Dec.{ltb}
+use borrow.Author.Tests.{lt-ltb}
+use Rattle.cells.specs.Count.{times, setAll}
 use Rattle.store.specs.Chain.{chain, chainOk, walk}
-use Rattle.sound.specs.Sound.{uses}
 use Rattle.cells.proofs.Counts.{same?, one-yes, one-no, times-append, and-left, and-right, and-both, length-setAll, setAll-in, setAll-out}
-use Rattle.sound.proofs.Frame.{Agree, chain-below, chain-frame, chainOk-frame}
-use Rattle.sound.proofs.Linked.{Linked, Change, held-below, held-once, held-in, free-out}
+use Rattle.sound.proofs.Frame.{chain-below}
+use Rattle.sound.proofs.Linked.{Linked, Change, held-once, free-out}
 
 -- the links with portion q, free so far, put behind portion l, the last of its chain
 abbrev pub hung : List ℕ → ℕ → ℕ → List ℕ

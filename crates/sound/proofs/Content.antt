@@ -1,15 +1,14 @@
 -- A chain has no more portions than there are, and an entry's content on sound memory is its chain's bytes.
-use mathlib.Core.Path.{_≡_, refl, sym, ap, _∙_, subst}
+use mathlib.Core.Path.{_≡_, refl, sym, ap, _∙_}
 use mathlib.Core.List.{List, [], _∷_, _++_}
-use mathlib.Core.Bool.{Bool, true, false, cond}
-use mathlib.Core.Logic.{_⊎_, inl, inr, ⊎-elim}
-use Prim.Native.Nat.{ℕ, zero, suc, _+_, _-_, _*_, _/_, _≤_, _<_, min}
+use mathlib.Core.Logic.{⊎-elim}
+use Prim.Native.Nat.{ℕ, zero, suc, _+_, _-_, _*_, _≤_, _<_, min}
 use native.Mathlib.Omega.{arith}
 use lib.ListN.{length, getD, take, drop, length-append, List·getD-append}
 use lib.Seq.{drop-cons, drop-at, drop-append-add}
-use lib.Dec.{eqb, ltb}
-use borrow.Author.Tests.{eq-eqb, ne-eqb, lt-ltb, le-ltb}
-use Rattle.cells.specs.Count.{one, times, sumTo, allZero}
+use lib.Dec.{eqb}
+use borrow.Author.Tests.{lt-ltb, le-ltb}
+use Rattle.cells.specs.Count.{one, times, sumTo}
 use Rattle.cells.proofs.Counts.{same?, one-yes, one-no}
 use Rattle.cells.proofs.Cells.{cell-fits, cell-at, length-cell}
 use Rattle.store.specs.Chain.{chain, portion, bytesOf, walk, needed}

@@ -1,35 +1,32 @@
 -- An entry is erased: its chain is zeroed and freed, its entry zeroed, and all else stays.
 use mathlib.Core.Path.{_≡_, refl, sym, ap, _∙_, subst}
-use mathlib.Core.List.{List, [], _∷_, _++_, append-nil, append-assoc}
-use mathlib.Core.Bool.{Bool, true, false, not, _&&_, _||_, cond, false≢true}
+use mathlib.Core.List.{List, [], _∷_}
+use mathlib.Core.Bool.{Bool, true, false, false≢true}
 use mathlib.Core.Logic.{_⊎_, inl, inr, ⊎-elim}
-use Prim.Native.Nat.{ℕ, zero, suc, _+_, _-_, _*_, _/_, _%_, _≤_, _<_, min}
+use Prim.Native.Nat.{ℕ, zero, suc, _*_, _/_, _≤_, _<_, min}
 use native.Mathlib.Omega.{arith}
-use native.Mathlib.Nat.{add-zero}
-use lib.ListN.{length, getD, take, drop, set, length-set, length-append}
-use lib.Seq.{sets, length-sets, getD-set-same, getD-set-other, drop-nil}
-use lib.Dec.{eqb, ltb, leb}
-use borrow.Author.Tests.{eq-eqb, ne-eqb, eqb-true, ltb-true, leb-true, le-leb, lt-ltb, not-true}
-use Rattle.cells.specs.Cell.{cell, zeros, setCell}
-use Rattle.cells.specs.Count.{one, times, sumTo, allTo, allZero, setAll}
-use Rattle.cells.specs.Scan.{lowest}
-use Rattle.cells.proofs.Counts.{same?, one-yes, one-no, and-left, and-right, and-both, length-setAll, setAll-in}
-use Rattle.cells.proofs.Cells.{length-zeros, getD-zeros, cell-fits, length-cell, cell-set-same, cell-set-other, length-setCell, setCell-other, setCell-same}
-use Rattle.store.specs.Chain.{chain, chainOk, portion, bytesOf, walk, needed, isFree, freeCount}
-use Rattle.store.specs.Entry.{entries, entry, kind, nameLength, name, first, size, many, ofKind}
+use lib.ListN.{length, getD, set}
+use lib.Seq.{length-sets, getD-set-other, drop-nil}
+use lib.Dec.{eqb}
+use borrow.Author.Tests.{eq-eqb, ne-eqb}
+use Rattle.cells.specs.Cell.{zeros, setCell}
+use Rattle.cells.specs.Count.{times, allZero, setAll}
+use Rattle.cells.proofs.Counts.{same?, one-yes, one-no, length-setAll, setAll-in}
+use Rattle.cells.proofs.Cells.{length-zeros, cell-fits, setCell-other, setCell-same}
+use Rattle.store.specs.Chain.{chain, portion, isFree}
+use Rattle.store.specs.Entry.{entries, entry, kind, name, first, size, many, ofKind}
 use Rattle.store.specs.Content.{contentOf, extent, bytesFrom}
-use Rattle.moves.specs.Memory.{Memory, memory, entryOf, pickMemory}
-use Rattle.sound.specs.Sound.{nameOk, nameByteOk, firsts, counts, storeSound}
-use Rattle.sound.specs.Shelf.{Held, held, nothing, heldOf, shelf, shelfOf}
+use Rattle.moves.specs.Memory.{Memory, memory}
+use Rattle.sound.specs.Sound.{firsts, counts, storeSound}
+use Rattle.sound.specs.Shelf.{held, nothing, heldOf}
 use Rattle.sound.proofs.Frame.{Agree, chain-frame}
-use Rattle.sound.proofs.Linked.{Linked, Change, changed, held-below, held-once, free-out}
-use Rattle.sound.proofs.Bytes.{Filled, Fill, filled, others-bytes}
-use Rattle.sound.proofs.Facts.{SoundAt, Sound, sound-facts, facts-sound, sizesOf, lent-few, lent-store, lent-whole, many-some, many-none, chain-few, own-class}
-use Rattle.sound.proofs.Moving.{Moved, moved-twice, inside, content-at, changed-sound, moved-is}
+use Rattle.sound.proofs.Linked.{Change, changed, others, held-below, held-once}
+use Rattle.sound.proofs.Bytes.{Fill, filled, others-bytes}
+use Rattle.sound.proofs.Facts.{Sound, sound-facts, sizesOf, lent-store, chain-few}
+use Rattle.sound.proofs.Moving.{Moved, inside, moved-is}
 use Rattle.moves.specs.Grow.{lowestPortion}
 use Rattle.moves.specs.Start.{lowestEntry}
-use Rattle.moves.specs.Erase.{freedOne, freed, emptied, erased, erasedAt}
-use Rattle.moves.proofs.Freeing.{freed-directory}
+use Rattle.moves.specs.Erase.{freed, emptied, erased, erasedAt}
 use Rattle.cells.proofs.Scan.{lowest-first}
 use Rattle.sound.proofs.Changes.{erase}
 
@@ -88,15 +85,15 @@ freed-chain (suc k) st ls dir p o =
 
 -- ---- an entry erased
 
-zeros-kind : kind (zeros 16) ≡ 0
+pub zeros-kind : kind (zeros 16) ≡ 0
 unfolding zeros
 zeros-kind = refl
 
-zeros-many : many (zeros 16) ≡ 0
+pub zeros-many : many (zeros 16) ≡ 0
 unfolding zeros many size
 zeros-many = refl
 
-zeros-held : (st ls : List ℕ) → heldOf st ls (zeros 16) ≡ nothing
+pub zeros-held : (st ls : List ℕ) → heldOf st ls (zeros 16) ≡ nothing
 unfolding zeros name contentOf extent size first bytesFrom
 zeros-held st ls = ap (λ (n : ℕ). held 0 (0 ∷ 0 ∷ 0 ∷ 0 ∷ 0 ∷ 0 ∷ 0 ∷ 0 ∷ []) (bytesFrom st ls 0 0 n)) (let z : min 0 (length ls * 256) ≡ 0 = omega arith in z)
 
@@ -149,7 +146,8 @@ module _ (st ls dir : List ℕ) (i : ℕ) (h : storeSound st ls dir ≡ true) (b
       (moved-is st ls dir _ _ dir′ i (zeros 16) s bi (zeroAll-long ps st) (length-setAll ls ps 65535) (length-sets dir (i * 16) (zeros 16)) gone other
       (omega (arith, zeros-kind)) (λ n. absurd (n zeros-kind)) (λ p j b ne o. absurd (no-class p o)) (λ e. absurd (omega (arith, zeros-kind))) (λ e. allZero-zeros 16)
       (changed ls _ _ _ _ _ E i _ _ (s .links) change) (filled st _ ls _ _ _ (sizesOf dir) _ _ (sizesOf dir′) E i _ _ (s .links) change (s .bytes) fill)
-      (others-bytes st _ ls _ (firsts dir) (counts dir) (sizesOf dir) _ _ _ E i _ _ (s .links) change (s .bytes) fill) nothing (zeros-held _ _))
+      (others-bytes st _ ls _ (firsts dir) (counts dir) (sizesOf dir) _ _ _ E i _ _ (s .links) change (s .bytes) fill)
+      (others ls _ _ _ _ _ E i _ _ (s .links) change) nothing (zeros-held _ _))
 
   -- "room freed is used again": the next new entry and the next new portion are no higher than what was freed
   pub erase-frees-entry : lowestEntry (erased (memory st ls dir) i .directory) ≤ i

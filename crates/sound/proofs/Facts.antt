@@ -1,24 +1,24 @@
 -- `storeSound`, the computed test, as facts and back.
 use mathlib.Core.Path.{_≡_, refl, sym, ap, _∙_, subst}
-use mathlib.Core.List.{List, [], _∷_, _++_}
-use mathlib.Core.Bool.{Bool, true, false, not, _&&_, _||_, cond, false≢true}
-use mathlib.Core.Logic.{_⊎_, inl, inr, ⊎-elim}
-use Prim.Native.Nat.{ℕ, zero, suc, _+_, _-_, _*_, _/_, _%_, _≤_, _<_}
+use mathlib.Core.List.{List}
+use mathlib.Core.Bool.{Bool, true, false, not, _&&_, _||_, false≢true}
+use mathlib.Core.Logic.{⊎-elim}
+use Prim.Native.Nat.{ℕ, zero, suc, _+_, _-_, _*_, _≤_, _<_}
 use native.Mathlib.Omega.{arith}
-use lib.ListN.{length, getD, drop, take, set}
+use lib.ListN.{length, getD, drop}
 use lib.Dec.{eqb, leb}
 use borrow.Author.Tests.{eq-eqb, ne-eqb, eqb-true, leb-true, le-leb}
-use Rattle.cells.specs.Count.{times, allTo, allZero}
+use Rattle.cells.specs.Count.{times, allZero}
 use Rattle.cells.specs.Scan.{lowest}
 use Rattle.cells.proofs.Counts.{same?, and-left, and-right, and-both, all-at, all-of}
 use Rattle.cells.proofs.Scan.{lowest-passes, lowest-first}
 use Rattle.store.specs.declared.Found.{Found}
 use Rattle.store.specs.declared.Found.the-variants.{At, Nothing}
-use Rattle.store.specs.Chain.{chain, portion, bytesOf, needed, isFree}
-use Rattle.store.specs.Entry.{entries, entry, kind, name, first, size, many, ofKind}
-use Rattle.store.specs.Find.{isEmpty, isRecording, recorded, sameName, titled, titledAt, found}
+use Rattle.store.specs.Chain.{chain, bytesOf, needed}
+use Rattle.store.specs.Entry.{entries, entry, kind, name, size, many, ofKind}
+use Rattle.store.specs.Find.{isRecording, sameName, titled, found}
 use Rattle.store.proofs.Finding.{at-says, found-at}
-use Rattle.sound.specs.Sound.{lentOk, kindOk, kindsOk, nameOk, namedOk, namesOk, isHere, uniqueOk, uniquesOk, singleOk, singlesOk, firsts, counts, linksOk, chainsOk, emptyOk, emptiesOk, freeOk, freesOk, tailOf, tailOk, tailsOk, storeSound}
+use Rattle.sound.specs.Sound.{lentOk, kindOk, kindsOk, nameOk, namedOk, namesOk, isHere, uniqueOk, uniquesOk, singleOk, singlesOk, firsts, counts, chainsOk, emptyOk, emptiesOk, freeOk, freesOk, tailOf, tailOk, tailsOk, storeSound}
 use Rattle.sound.proofs.Linked.{Linked, linked-facts, facts-linked, held-below, held-once}
 use Rattle.sound.proofs.Bytes.{Filled}
 use Rattle.sound.proofs.Content.{few, tail-chain}

@@ -1,32 +1,25 @@
 -- A form is finished: kind 3 to 1, and all else stays.
-use mathlib.Core.Path.{_≡_, refl, sym, ap, _∙_, subst}
-use mathlib.Core.List.{List, [], _∷_, _++_, append-nil, append-assoc}
-use mathlib.Core.Bool.{Bool, true, false, not, _&&_, _||_, cond, false≢true}
-use mathlib.Core.Logic.{_⊎_, inl, inr, ⊎-elim}
-use Prim.Native.Nat.{ℕ, zero, suc, _+_, _-_, _*_, _/_, _%_, _≤_, _<_, min}
+use mathlib.Core.Path.{_≡_, refl, sym, ap, _∙_}
+use mathlib.Core.List.{List}
+use mathlib.Core.Bool.{Bool, true, false, cond, false≢true}
+use mathlib.Core.Logic.{⊎-elim}
+use Prim.Native.Nat.{ℕ, _+_, _*_, _<_}
 use native.Mathlib.Omega.{arith}
 use native.Mathlib.Nat.{add-zero}
-use lib.ListN.{length, getD, take, drop, set, length-set, length-append}
-use lib.Seq.{sets, length-sets, getD-set-same, getD-set-other, drop-nil}
-use lib.Dec.{eqb, ltb, leb}
-use borrow.Author.Tests.{eq-eqb, ne-eqb, eqb-true, ltb-true, leb-true, le-leb, lt-ltb, not-true}
-use Rattle.cells.specs.Cell.{cell, zeros, setCell}
-use Rattle.cells.specs.Count.{one, times, sumTo, allTo, allZero, setAll}
-use Rattle.cells.specs.Scan.{lowest}
-use Rattle.cells.proofs.Counts.{same?, one-yes, one-no, and-left, and-right, and-both, length-setAll, setAll-in}
-use Rattle.cells.proofs.Cells.{length-zeros, getD-zeros, cell-fits, length-cell, cell-set-same, cell-set-other, length-setCell, setCell-other, setCell-same}
-use Rattle.store.specs.Chain.{chain, chainOk, portion, bytesOf, walk, needed, isFree, freeCount}
-use Rattle.store.specs.Entry.{entries, entry, kind, nameLength, name, first, size, many, ofKind}
-use Rattle.store.specs.Content.{contentOf, extent, bytesFrom}
-use Rattle.moves.specs.Memory.{Memory, memory, entryOf, pickMemory}
-use Rattle.sound.specs.Sound.{nameOk, nameByteOk, firsts, counts, storeSound}
-use Rattle.sound.specs.Shelf.{Held, held, nothing, heldOf, shelf, shelfOf}
-use Rattle.sound.proofs.Frame.{Agree, chain-frame}
-use Rattle.sound.proofs.Linked.{Linked, Change, changed, held-below, held-once, free-out}
-use Rattle.sound.proofs.Bytes.{Filled, Fill, filled, others-bytes}
-use Rattle.sound.proofs.Facts.{SoundAt, Sound, sound-facts, facts-sound, sizesOf, lent-few, lent-store, lent-whole, many-some, many-none, chain-few, own-class}
-use Rattle.sound.proofs.Moving.{Moved, moved-twice, inside, content-at, changed-sound, moved-is}
-use Rattle.store.specs.Find.{isRecording}
+use lib.ListN.{length, getD, set, length-set}
+use lib.Seq.{getD-set-same, getD-set-other}
+use borrow.Author.Tests.{eq-eqb, ne-eqb}
+use Rattle.cells.specs.Count.{times, sumTo}
+use Rattle.cells.proofs.Counts.{same?}
+use Rattle.cells.proofs.Cells.{length-cell, cell-set-same, cell-set-other}
+use Rattle.store.specs.Chain.{chain}
+use Rattle.store.specs.Entry.{entries, entry, kind, name, first, size, many, ofKind}
+use Rattle.store.specs.Content.{contentOf, extent}
+use Rattle.moves.specs.Memory.{memory}
+use Rattle.sound.specs.Sound.{nameOk, firsts, counts, storeSound}
+use Rattle.sound.specs.Shelf.{held}
+use Rattle.sound.proofs.Facts.{Sound, sound-facts, sizesOf}
+use Rattle.sound.proofs.Moving.{Moved, inside, moved-is}
 use Rattle.moves.specs.Start.{finished}
 
 module _ (e : List ℕ) (long : length e ≡ 16) (r : kind e ≡ 3) where
@@ -118,5 +111,5 @@ module _ (st ls dir : List ℕ) (i : ℕ) (h : storeSound st ls dir ≡ true) (b
         taken = λ q b n. u q ∙ s .links .taken q b n;
       })
       (record { blank = s .bytes .blank; tailed = λ j b. rw (fs j b, ns j b, sz j b) (s .bytes .tailed j b) })
-      (λ j b ne. rw (fs j b, ns j b)) _
+      (λ j b ne. rw (fs j b, ns j b)) (λ j b ne. rw (fs j b, ns j b)) _
       (λ t. held (end-kind e long r t) (end-name e long r t) (end-content e long r st ls t)))

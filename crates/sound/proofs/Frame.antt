@@ -1,18 +1,16 @@
 -- What lies outside a chain may change, and the chain and its bytes stay.
-use mathlib.Core.Path.{_≡_, refl, sym, ap, _∙_, subst}
-use mathlib.Core.List.{List, [], _∷_, _++_}
-use mathlib.Core.Bool.{Bool, true, false, not, _&&_, cond}
-use mathlib.Core.Logic.{_⊎_, inl, inr, ⊎-elim}
-use Prim.Native.Nat.{ℕ, zero, suc, _+_, _-_, _*_, _/_, _≤_, _<_}
+use mathlib.Core.Path.{_≡_, refl, ap}
+use mathlib.Core.List.{List, [], _∷_}
+use mathlib.Core.Bool.{Bool, true, _&&_}
+use mathlib.Core.Logic.{⊎-elim}
+use Prim.Native.Nat.{ℕ, zero, suc, _<_}
 use native.Mathlib.Omega.{arith}
-use native.Mathlib.Decide.{ℕ-discrete, decLe}
-use lib.ListN.{length, getD, set, take, drop, length-set}
-use lib.Seq.{getD-set-same, getD-set-other, drop-set-lt, drop-set-add, take-set-le, take-set-lt}
-use lib.Dec.{eqb, ltb}
-use borrow.Author.Tests.{eq-eqb, ne-eqb, eqb-true, ltb-true}
-use Rattle.cells.specs.Count.{one, times, sumTo, allTo, setAll}
+use lib.ListN.{length, getD}
+use lib.Dec.{ltb}
+use borrow.Author.Tests.{ltb-true}
+use Rattle.cells.specs.Count.{times}
 use Rattle.store.specs.Chain.{chain, chainOk, portion, bytesOf}
-use Rattle.cells.proofs.Counts.{same?, one-yes, one-no, and-left, and-right, and-both}
+use Rattle.cells.proofs.Counts.{same?, one-yes, one-no, and-left, and-right}
 
 -- ---- links
 

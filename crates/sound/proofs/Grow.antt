@@ -1,32 +1,28 @@
 -- Bytes are put behind an entry's: the memory stays sound, the content is the old one and the new bytes, and all else stays.
-use mathlib.Core.Path.{_≡_, refl, sym, ap, _∙_, subst}
-use mathlib.Core.List.{List, [], _∷_, _++_, append-nil, append-assoc}
-use mathlib.Core.Bool.{Bool, true, false, not, _&&_, _||_, cond, false≢true}
-use mathlib.Core.Logic.{_⊎_, inl, inr, ⊎-elim}
-use Prim.Native.Nat.{ℕ, zero, suc, _+_, _-_, _*_, _/_, _%_, _≤_, _<_, min}
+use mathlib.Core.Path.{_≡_, sym, ap, _∙_, subst}
+use mathlib.Core.List.{List, _++_}
+use mathlib.Core.Bool.{true, not, false≢true}
+use mathlib.Core.Logic.{⊎-elim}
+use Prim.Native.Nat.{ℕ, suc, _+_, _-_, _*_, _/_, _%_, _≤_, _<_, min}
 use native.Mathlib.Omega.{arith}
-use native.Mathlib.Nat.{add-zero}
-use lib.ListN.{length, getD, take, drop, set, length-set, length-append}
-use lib.Seq.{sets, length-sets, getD-set-same, getD-set-other, drop-nil}
-use lib.Dec.{eqb, ltb, leb}
-use borrow.Author.Tests.{eq-eqb, ne-eqb, eqb-true, ltb-true, leb-true, le-leb, lt-ltb, not-true}
-use Rattle.cells.specs.Cell.{cell, zeros, setCell}
-use Rattle.cells.specs.Count.{one, times, sumTo, allTo, allZero, setAll}
-use Rattle.cells.specs.Scan.{lowest}
-use Rattle.cells.proofs.Counts.{same?, one-yes, one-no, and-left, and-right, and-both, length-setAll, setAll-in}
-use Rattle.cells.proofs.Cells.{length-zeros, getD-zeros, cell-fits, length-cell, cell-set-same, cell-set-other, length-setCell, setCell-other, setCell-same}
-use Rattle.store.specs.Chain.{chain, chainOk, portion, bytesOf, walk, needed, isFree, freeCount}
-use Rattle.store.specs.Entry.{entries, entry, kind, nameLength, name, first, size, many, ofKind}
-use Rattle.store.specs.Content.{contentOf, extent, bytesFrom}
-use Rattle.moves.specs.Memory.{Memory, memory, entryOf, pickMemory}
-use Rattle.sound.specs.Sound.{nameOk, nameByteOk, firsts, counts, storeSound}
-use Rattle.sound.specs.Shelf.{Held, held, nothing, heldOf, shelf, shelfOf}
-use Rattle.sound.proofs.Frame.{Agree, chain-frame}
-use Rattle.sound.proofs.Linked.{Linked, Change, changed, held-below, held-once, free-out}
-use Rattle.sound.proofs.Bytes.{Filled, Fill, filled, others-bytes}
-use Rattle.sound.proofs.Facts.{SoundAt, Sound, sound-facts, facts-sound, sizesOf, lent-few, lent-store, lent-whole, many-some, many-none, chain-few, own-class}
-use Rattle.sound.proofs.Moving.{Moved, moved-twice, inside, content-at, changed-sound, moved-is}
-use Rattle.moves.specs.Grow.{lowestPortion, nextLast, nextLinks, Growing, growing, put, putAll, lastOf, withSize, grown, canGrow, appended}
+use lib.ListN.{length, getD, take, set, length-set}
+use lib.Seq.{getD-set-same, getD-set-other}
+use lib.Dec.{eqb, ltb}
+use borrow.Author.Tests.{eq-eqb, ltb-true, leb-true}
+use Rattle.cells.specs.Count.{times, sumTo}
+use Rattle.cells.proofs.Counts.{same?, and-left, and-right}
+use Rattle.cells.proofs.Cells.{length-cell, cell-set-same, cell-set-other}
+use Rattle.store.specs.Chain.{chain, bytesOf, walk, needed, freeCount}
+use Rattle.store.specs.Entry.{entries, entry, kind, name, first, size, many}
+use Rattle.store.specs.Content.{contentOf}
+use Rattle.moves.specs.Memory.{memory}
+use Rattle.sound.specs.Sound.{nameOk, firsts, counts, storeSound}
+use Rattle.sound.specs.Shelf.{held}
+use Rattle.sound.proofs.Linked.{Linked, held-below, free-out}
+use Rattle.sound.proofs.Bytes.{Filled}
+use Rattle.sound.proofs.Facts.{Sound, sound-facts, sizesOf, lent-few, lent-store, many-some, chain-few}
+use Rattle.sound.proofs.Moving.{Moved, inside, content-at, changed-sound, moved-is}
+use Rattle.moves.specs.Grow.{Growing, growing, putAll, lastOf, withSize, grown, canGrow, appended}
 use Rattle.moves.proofs.Growth.{putAll-store, putAll-links}
 use Rattle.sound.proofs.Changes.{last-in}
 use Rattle.sound.proofs.PutSound.{Grows}
@@ -285,7 +281,8 @@ module _ (st ls dir : List ℕ) (i : ℕ) (bytes : List ℕ) (h : storeSound st 
       here other (omega (arith, kind′, s .kinds i bi)) (λ z. sized-legal e _ _ _ _ long ∙ s .names i bi stored)
       (λ p j b ne o oj q. ne (s .unique p j i b bi oj (rw kind′ at o) (sym q ∙ name′)))
       (λ z j b ne k. ne (s .single j i b bi k (sym kind′ ∙ z))) (λ z. absurd (stored (sym kind′ ∙ z))) links′ bytes′
-      (λ j b ne. ap (λ (p : ℕ). bytesOf (g .store) (chain (g .links) p (counts dir′ j))) (firsts′ j b) ∙ more .others j b ne) _
+      (λ j b ne. ap (λ (p : ℕ). bytesOf (g .store) (chain (g .links) p (counts dir′ j))) (firsts′ j b) ∙ more .others j b ne)
+      (λ j b ne. ap (λ (p : ℕ). chain (g .links) p (counts dir′ j)) (firsts′ j b) ∙ more .chains j b ne) _
       (λ t. held (kind′ t) (name′ t) (content′ t)))
 
   pub append-moved : Moved (memory st ls dir) (appended (memory st ls dir) i bytes) i (held (kind (entry dir i)) (name (entry dir i)) (contentOf st ls (entry dir i) ++ bytes))

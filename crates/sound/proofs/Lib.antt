@@ -14,3 +14,5 @@ pub mod Finish
 pub mod Start
 pub mod Grow
 pub mod Keep
+pub mod EraseAll
+pub mod Cleared

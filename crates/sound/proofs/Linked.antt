@@ -1,17 +1,17 @@
 -- The links alone: what a sound table of links has, and one law for every change of one chain (erased, started, grown).
-use mathlib.Core.Path.{_≡_, refl, sym, ap, _∙_, subst}
-use mathlib.Core.List.{List, [], _∷_, _++_}
-use mathlib.Core.Bool.{Bool, true, false, _&&_, _||_, cond}
-use mathlib.Core.Logic.{_⊎_, inl, inr, ⊎-elim}
-use Prim.Native.Nat.{ℕ, zero, suc, _+_, _-_, _*_, _/_, _≤_, _<_}
+use mathlib.Core.Path.{_≡_, sym, ap, _∙_}
+use mathlib.Core.List.{List, []}
+use mathlib.Core.Bool.{Bool, true, _||_, cond}
+use mathlib.Core.Logic.{_⊎_, ⊎-elim}
+use Prim.Native.Nat.{ℕ, _+_, _≤_, _<_}
 use native.Mathlib.Omega.{arith}
-use lib.ListN.{length, getD, drop, set}
+use lib.ListN.{length, getD}
 use lib.Dec.{eqb}
 use borrow.Author.Tests.{eq-eqb, ne-eqb, eqb-true}
-use Rattle.cells.specs.Count.{times, sumTo, allTo, setAll}
+use Rattle.cells.specs.Count.{times, allTo}
 use Rattle.store.specs.Chain.{chain, chainOk}
 use Rattle.sound.specs.Sound.{uses, portionOk, linksOk}
-use Rattle.cells.proofs.Counts.{same?, and-left, and-right, and-both, all-at, all-of, sum-change, sum-has, sum-has-two, length-setAll, setAll-in, setAll-out}
+use Rattle.cells.proofs.Counts.{same?, and-left, and-right, and-both, all-at, all-of, sum-change, sum-has, sum-has-two}
 use Rattle.sound.proofs.Frame.{Agree, chain-below, chain-frame, chainOk-frame}
 
 pub record Linked (ls : List ℕ) (fs ns : ℕ → ℕ) (E : ℕ) : Type 0 where

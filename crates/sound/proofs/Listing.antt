@@ -1,14 +1,14 @@
 -- Lists by number, and the shelf as one.
 use mathlib.Core.Path.{_≡_, refl, sym, ap, _∙_}
-use mathlib.Core.List.{List, [], _∷_, _++_}
-use mathlib.Core.Logic.{_⊎_, inl, inr, ⊎-elim}
-use Prim.Native.Nat.{ℕ, zero, suc, _+_, _≤_, _<_}
+use mathlib.Core.List.{List, [], _∷_}
+use mathlib.Core.Logic.{⊎-elim}
+use Prim.Native.Nat.{ℕ, zero, suc, _<_}
 use native.Mathlib.Omega.{arith}
 use lib.ListN.{length, getD, set, length-append, length-set, List·getD-append}
 use lib.Seq.{getD-at, ext-getD, getD-set-same, getD-set-other}
 use Rattle.cells.proofs.Counts.{same?}
 use Rattle.store.specs.Entry.{entries, entry}
-use Rattle.sound.specs.Shelf.{listTo, Held, held, nothing, heldOf, shelf}
+use Rattle.sound.specs.Shelf.{listTo, Held, nothing, heldOf, shelf}
 
 module _ {A : Type 0} (f : ℕ → A) where
   pub length-listTo : (n : ℕ) → length (listTo f n) ≡ n

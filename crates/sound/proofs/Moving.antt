@@ -1,18 +1,18 @@
 -- One entry changes: what every move shares. The memory stays sound where the new entry is, and the shelf changes in one place.
 use mathlib.Core.Path.{_≡_, refl, sym, ap, _∙_, subst}
-use mathlib.Core.List.{List, [], _∷_, _++_}
-use mathlib.Core.Bool.{Bool, true, false, not, _&&_, _||_, cond, false≢true}
-use mathlib.Core.Logic.{_⊎_, inl, inr, ⊎-elim}
-use Prim.Native.Nat.{ℕ, zero, suc, _+_, _-_, _*_, _/_, _≤_, _<_}
+use mathlib.Core.List.{List, [], _∷_}
+use mathlib.Core.Bool.{Bool, true}
+use mathlib.Core.Logic.{⊎-elim}
+use Prim.Native.Nat.{ℕ, zero, suc, _+_, _*_, _/_, _≤_, _<_}
 use native.Mathlib.Omega.{arith}
 use lib.ListN.{length, getD, take, set}
-use lib.Seq.{set-set}
+use lib.Seq.{set-set, getD-set-same, getD-set-other}
 use lib.Dec.{eqb}
-use borrow.Author.Tests.{eqb-true, ne-eqb}
+use borrow.Author.Tests.{eqb-true}
 use Rattle.cells.specs.Count.{allZero}
 use Rattle.cells.proofs.Counts.{same?, and-left, and-right}
-use Rattle.store.specs.Chain.{chain, bytesOf, needed}
-use Rattle.store.specs.Entry.{entries, entry, kind, name, first, size, ofKind}
+use Rattle.store.specs.Chain.{chain, bytesOf}
+use Rattle.store.specs.Entry.{entries, entry, kind, name, size, ofKind}
 use Rattle.store.specs.Content.{contentOf}
 use Rattle.moves.specs.Memory.{Memory, memory}
 use Rattle.sound.specs.Sound.{nameOk, firsts, counts, storeSound}
@@ -20,13 +20,15 @@ use Rattle.sound.specs.Shelf.{Held, held, nothing, heldOf, shelf, shelfO
 use Rattle.sound.proofs.Linked.{Linked, held-below}
 use Rattle.sound.proofs.Bytes.{Filled}
 use Rattle.sound.proofs.Content.{content-chain}
-use Rattle.sound.proofs.Facts.{SoundAt, Sound, sound-facts, facts-sound, sizesOf, lent-same, lent-store, many-some, many-none, chain-few}
-use Rattle.sound.proofs.Listing.{shelf-set}
+use Rattle.sound.proofs.Facts.{SoundAt, Sound, facts-sound, sizesOf, lent-same, lent-store, many-some, chain-few}
+use Rattle.sound.proofs.Listing.{shelf-set, length-shelf}
 
--- a move of one entry: sound is kept, and the shelf has x in place i and is else as it was
+-- a move of one entry: sound is kept, the shelf has x in place i and is else as it was, and so are the chains of all other entries
 pub record Moved (m m′ : Memory) (i : ℕ) (x : Held) : Type 0 where
   pub sound : storeSound (m′ .store) (m′ .links) (m′ .directory) ≡ true
   pub shelf : shelfOf m′ ≡ set (shelfOf m) i x
+  pub chains : (j : ℕ) → j < entries (m .directory) → (j ≡ i → ⊥)
+      → chain (m′ .links) (firsts (m′ .directory) j) (counts (m′ .directory) j) ≡ chain (m .links) (firsts (m .directory) j) (counts (m .directory) j)
   pub long-store : length (m′ .store) ≡ length (m .store)
   pub long-links : length (m′ .links) ≡ length (m .links)
   pub long-directory : length (m′ .directory) ≡ length (m .directory)
@@ -36,6 +38,7 @@ pub moved-twice : (m m₁ m₂ : Memory) (i : ℕ) (x y : Held) → Moved m m₁
 moved-twice m m₁ m₂ i x y a b = record {
   sound = b .sound;
   shelf = b .shelf ∙ ap (λ (l : List Held). set l i y) (a .shelf) ∙ set-set (shelfOf m) i x y;
+  chains = λ j l ne. b .chains j (subst (λ (n : ℕ). j < n / 16) (sym (a .long-directory)) l) ne ∙ a .chains j l ne;
   long-store = b .long-store ∙ a .long-store;
   long-links = b .long-links ∙ a .long-links;
   long-directory = b .long-directory ∙ a .long-directory;
@@ -131,13 +134,24 @@ module _ (st ls dir st′ ls′ dir′ : List ℕ) (i : ℕ) (e : List ℕ) (s :
         ∙ ap (λ (l : List ℕ). take (size (entry dir′ j)) l) (same j b ne) ∙ ap (λ (x : List ℕ). take (size x) (bytesOf st (chain ls (firsts dir j) (counts dir j)))) (other j b ne)
         ∙ sym (content-at st ls dir s j b)
 
-    pub moved-is : (x : Held) → heldOf st′ ls′ e ≡ x → Moved (memory st ls dir) (memory st′ ls′ dir′) i x
-    moved-is x q = record {
+    pub moved-is : ((j : ℕ) → j < entries dir → (j ≡ i → ⊥) → chain ls′ (firsts dir′ j) (counts dir′ j) ≡ chain ls (firsts dir j) (counts dir j)) → (x : Held) → heldOf st′ ls′ e ≡ x → Moved (memory st ls dir) (memory st′ ls′ dir′) i x
+    moved-is c x q = record {
       sound = facts-sound st′ ls′ dir′ changed-sound;
       shelf = shelf-set st ls dir st′ ls′ dir′ i x long-dir bi
           (λ j b ne. (λ t. held (kind (other j b ne t)) (name (other j b ne t)) (others-content j b ne t)))
           (ap (heldOf st′ ls′) here ∙ q);
+      chains = c;
       long-store = long-st;
       long-links = long-ls;
       long-directory = long-dir;
     }
+
+-- what stands elsewhere on the shelf stays
+pub moved-other : (m m′ : Memory) (i : ℕ) (x : Held) → Moved m m′ i x → (j : ℕ) → (j ≡ i → ⊥) → getD (shelfOf m′) j nothing ≡ getD (shelfOf m) j nothing
+moved-other m m′ i x v j ne = ap (λ (l : List Held). getD l j nothing) (v .shelf) ∙ getD-set-other (shelfOf m) i j x nothing ne
+
+-- and in its place stands what was moved there
+pub moved-here : (m m′ : Memory) (i : ℕ) (x : Held) → Moved m m′ i x → i < entries (m .directory) → getD (shelfOf m′) i nothing ≡ x
+moved-here m m′ i x v b =
+    ap (λ (l : List Held). getD l i nothing) (v .shelf)
+    ∙ getD-set-same (shelfOf m) i x nothing (subst (λ (n : ℕ). i < n) (sym (length-shelf (m .store) (m .links) (m .directory))) b)

@@ -1,20 +1,20 @@
 -- A byte put behind what is stored: the links and the bytes stay sound, the entry has one byte more, and the others are as they were.
-use mathlib.Core.Path.{_≡_, refl, sym, ap, _∙_, subst}
+use mathlib.Core.Path.{_≡_, refl, sym, ap, _∙_}
 use mathlib.Core.List.{List, [], _∷_, _++_}
-use mathlib.Core.Bool.{Bool, true, false}
-use mathlib.Core.Logic.{_⊎_, inl, inr, ⊎-elim}
-use Prim.Native.Nat.{ℕ, zero, suc, _+_, _-_, _*_, _/_, _%_, _≤_, _<_}
+use mathlib.Core.Bool.{true}
+use mathlib.Core.Logic.{inl}
+use Prim.Native.Nat.{ℕ, zero, suc, _+_, _-_, _*_, _%_, _≤_, _<_}
 use native.Mathlib.Omega.{arith}
 use lib.ListN.{length, getD, drop, take, set}
 use lib.Seq.{getD-append-seam, take-append-le}
 use Rattle.cells.specs.Count.{times, allZero}
-use Rattle.store.specs.Chain.{chain, chainOk, portion, bytesOf, walk, needed}
+use Rattle.store.specs.Chain.{chain, chainOk, bytesOf, walk, needed}
 use Rattle.moves.specs.Grow.{lowestPortion, nextLast, nextLinks}
-use Rattle.cells.proofs.Counts.{same?, one-yes, one-no, times-append}
+use Rattle.cells.proofs.Counts.{one-yes, times-append}
 use Rattle.sound.proofs.Frame.{chain-below}
 use Rattle.cells.proofs.Cells.{cell-fits, cell-set-other}
-use Rattle.sound.proofs.Linked.{Linked, Change, changed, held-once, held-below, free-out, at-most}
-use Rattle.sound.proofs.Changes.{hung, chain-snoc, last-in, grow, hung-chain}
+use Rattle.sound.proofs.Linked.{Linked, Change, changed, others, held-once, held-below, free-out}
+use Rattle.sound.proofs.Changes.{hung, chain-snoc, grow, hung-chain}
 use Rattle.sound.proofs.Bytes.{Filled, Fill, filled, others-bytes, put-content, put-tail, tail-new, bytes-append, bytes-length}
 use Rattle.sound.proofs.Room.{Room, Case, isFull, isIn, isFirst, case, next-full, room-some, lowest-below, lowest-free}
 use Rattle.moves.proofs.Growth.{next-in, next-first}
@@ -89,6 +89,7 @@ module _ (ls : List ℕ) (fs ns ns′ : ℕ → ℕ) (E i : ℕ) (s : Linked ls 
 pub record Put (st ls st′ ls′ : List ℕ) (fs ns sz ns′ sz′ : ℕ → ℕ) (E i last′ b : ℕ) : Type 0 where
   pub grown : Grows st′ ls′ fs ns′ sz′ E i last′
   pub content : take (sz′ i) (bytesOf st′ (chain ls′ (fs i) (ns′ i))) ≡ take (sz i) (bytesOf st (chain ls (fs i) (ns i))) ++ (b ∷ [])
+  pub chains : (j : ℕ) → j < E → (j ≡ i → ⊥) → chain ls′ (fs j) (ns′ j) ≡ chain ls (fs j) (ns j)
   pub others : (j : ℕ) → j < E → (j ≡ i → ⊥) → bytesOf st′ (chain ls′ (fs j) (ns′ j)) ≡ bytesOf st (chain ls (fs j) (ns j))
 
 module _ (st ls : List ℕ) (fs ns sz ns′ sz′ : ℕ → ℕ) (E i last more b : ℕ) (bi : i < E) (g : Grows st ls fs ns sz E i last)
@@ -117,6 +118,7 @@ module _ (st ls : List ℕ) (fs ns sz ns′ sz′ : ℕ → ℕ) (E i last more 
         };
         content =
             rw e (put-more st ls ls fs ns sz ns′ sz′ E i _ (chain ls (fs i) k) (walk ls (fs i) k) (sz i % 256) b s c (g .bytes) (r .long) bo at′ one-more rest some (λ q z. z) tail);
+        chains = others ls ls fs ns fs ns′ E i _ _ s c;
         others = others-bytes st _ ls ls fs ns sz fs ns′ sz′ E i _ _ s c (g .bytes) p;
       })
 
@@ -155,6 +157,7 @@ module _ (st ls : List ℕ) (fs ns sz ns′ sz′ : ℕ → ℕ) (E i last more 
           final = λ j ej. sym end ∙ ap (λ (n : ℕ). walk (hung ls (walk ls (fs i) k) (lowestPortion ls)) (fs i) n) (let x : suc k ≡ j = omega arith in x);
         };
         content = w ∙ ap (λ (t : List ℕ). t ++ (b ∷ [])) (cut ∙ ap (λ (t : List ℕ). take (sz i) t) (sym same));
+        chains = others ls _ fs ns fs ns′ E i _ _ s c;
         others = others-bytes st _ ls _ fs ns sz fs ns′ sz′ E i _ _ s c (g .bytes) p;
       })
 

@@ -1,40 +1,34 @@
 -- An entry is started: the lowest empty entry and the lowest free portion are taken, and all else stays.
-use mathlib.Core.Path.{_≡_, refl, sym, ap, _∙_, subst}
-use mathlib.Core.List.{List, [], _∷_, _++_, append-nil, append-assoc}
-use mathlib.Core.Bool.{Bool, true, false, not, _&&_, _||_, cond, false≢true}
-use mathlib.Core.Logic.{_⊎_, inl, inr, ⊎-elim}
-use Prim.Native.Nat.{ℕ, zero, suc, _+_, _-_, _*_, _/_, _%_, _≤_, _<_, min}
+use mathlib.Core.Path.{_≡_, refl, sym, ap, _∙_}
+use mathlib.Core.List.{List, [], _∷_, append-nil}
+use mathlib.Core.Bool.{Bool, true}
+use Prim.Native.Nat.{ℕ, suc, _*_, _≤_, _<_, min}
 use native.Mathlib.Omega.{arith}
-use native.Mathlib.Nat.{add-zero}
-use lib.ListN.{length, getD, take, drop, set, length-set, length-append}
-use lib.Seq.{sets, length-sets, getD-set-same, getD-set-other, drop-nil}
-use lib.Dec.{eqb, ltb, leb}
-use borrow.Author.Tests.{eq-eqb, ne-eqb, eqb-true, ltb-true, leb-true, le-leb, lt-ltb, not-true}
-use Rattle.cells.specs.Cell.{cell, zeros, setCell}
-use Rattle.cells.specs.Count.{one, times, sumTo, allTo, allZero, setAll}
-use Rattle.cells.specs.Scan.{lowest}
-use Rattle.cells.proofs.Counts.{same?, one-yes, one-no, and-left, and-right, and-both, length-setAll, setAll-in}
-use Rattle.cells.proofs.Cells.{length-zeros, getD-zeros, cell-fits, length-cell, cell-set-same, cell-set-other, length-setCell, setCell-other, setCell-same}
-use Rattle.store.specs.Chain.{chain, chainOk, portion, bytesOf, walk, needed, isFree, freeCount}
-use Rattle.store.specs.Entry.{entries, entry, kind, nameLength, name, first, size, many, ofKind}
+use lib.ListN.{length, getD, drop, set, length-set}
+use lib.Seq.{length-sets}
+use lib.Dec.{eqb, ltb}
+use borrow.Author.Tests.{eq-eqb, ne-eqb, eqb-true, ltb-true, leb-true}
+use Rattle.cells.specs.Cell.{setCell}
+use Rattle.cells.proofs.Counts.{and-left, and-right, and-both}
+use Rattle.cells.proofs.Cells.{setCell-other, setCell-same}
+use Rattle.store.specs.Chain.{portion, needed, freeCount}
+use Rattle.store.specs.Entry.{entries, entry, kind, name, first, size, many, ofKind}
 use Rattle.store.specs.Content.{contentOf, extent, bytesFrom}
-use Rattle.moves.specs.Memory.{Memory, memory, entryOf, pickMemory}
+use Rattle.moves.specs.Memory.{memory}
 use Rattle.sound.specs.Sound.{nameOk, nameByteOk, firsts, counts, storeSound}
-use Rattle.sound.specs.Shelf.{Held, held, nothing, heldOf, shelf, shelfOf}
-use Rattle.sound.proofs.Frame.{Agree, chain-frame}
-use Rattle.sound.proofs.Linked.{Linked, Change, changed, held-below, held-once, free-out}
-use Rattle.sound.proofs.Bytes.{Filled, Fill, filled, others-bytes}
-use Rattle.sound.proofs.Facts.{SoundAt, Sound, sound-facts, facts-sound, sizesOf, lent-few, lent-store, lent-whole, many-some, many-none, chain-few, own-class}
-use Rattle.sound.proofs.Moving.{Moved, moved-twice, inside, content-at, changed-sound, moved-is}
+use Rattle.sound.specs.Shelf.{held}
+use Rattle.sound.proofs.Linked.{Change, changed, others}
+use Rattle.sound.proofs.Bytes.{Fill, filled, others-bytes}
+use Rattle.sound.proofs.Facts.{Sound, sound-facts, sizesOf, lent-few, many-none}
+use Rattle.sound.proofs.Moving.{Moved, inside, moved-is}
 use lib.Seq.{drop-cons}
 use Rattle.cells.proofs.Counts.{drop-none}
-use Rattle.cells.proofs.Scan.{lowest-passes, lowest-first, lowest-most}
-use Rattle.store.specs.declared.Found.{Found}
-use Rattle.store.specs.declared.Found.the-variants.{At, Nothing}
+use Rattle.cells.proofs.Scan.{lowest-passes, lowest-first}
+use Rattle.store.specs.declared.Found.the-variants.{Nothing}
 use Rattle.store.specs.Find.{isEmpty, isRecording, recorded, sameName, titled, titledAt}
 use Rattle.store.proofs.Finding.{nothing-says}
 use Rattle.moves.specs.Grow.{lowestPortion}
-use Rattle.moves.specs.Start.{lowestEntry, hasRoom, nameEnd, newEntry, begun, started}
+use Rattle.moves.specs.Start.{lowestEntry, hasRoom, newEntry, begun, started}
 use Rattle.sound.specs.Shelf.{titleOk}
 use Rattle.sound.proofs.Changes.{start}
 use Rattle.sound.proofs.Room.{lowest-below, lowest-free}
@@ -184,7 +178,8 @@ module _ (st ls dir : List ℕ) (k : ℕ) (n : List ℕ) (a : MayStart st ls dir
       (omega (arith, new-kind k n q, a .low)) (λ z. new-legal k n q ∙ a .legal) alone only (λ z. absurd (omega (arith, new-kind k n q, a .some)))
       (changed ls ls′ (firsts dir) (counts dir) (firsts dir′) (counts dir′) E i [] (q ∷ []) (s .links) change)
       (filled st st ls ls′ (firsts dir) (counts dir) (sizesOf dir) (firsts dir′) (counts dir′) (sizesOf dir′) E i [] (q ∷ []) (s .links) change (s .bytes) fill)
-      (others-bytes st st ls ls′ (firsts dir) (counts dir) (sizesOf dir) (firsts dir′) (counts dir′) (sizesOf dir′) E i [] (q ∷ []) (s .links) change (s .bytes) fill) _
+      (others-bytes st st ls ls′ (firsts dir) (counts dir) (sizesOf dir) (firsts dir′) (counts dir′) (sizesOf dir′) E i [] (q ∷ []) (s .links) change (s .bytes) fill)
+      (others ls ls′ (firsts dir) (counts dir) (firsts dir′) (counts dir′) E i [] (q ∷ []) (s .links) change) _
       (λ t. held (new-kind k n q t) (new-name k n q (a .long) t) (new-content k n q st ls′ t)))
 
   pub start-moved : Moved (memory st ls dir) (started (memory st ls dir) k n) (lowestEntry dir) (held k n [])

@@ -2,8 +2,8 @@
 -- kind); at most one entry of kind 3; each chain of exactly size/256 rounded up, at least one, portions; no portion in two chains; all others free;
 -- unused bytes zero". Each has a value on any memory.
 use mathlib.Core.List.{List}
-use mathlib.Core.Bool.{Bool, true, false, not, _&&_, _||_, cond}
-use Prim.Native.Nat.{ℕ, _+_, _-_, _*_}
+use mathlib.Core.Bool.{Bool, false, not, _&&_, _||_, cond}
+use Prim.Native.Nat.{ℕ, _-_, _*_}
 use lib.ListN.{length, getD, drop}
 use lib.Dec.{eqb, ltb, leb}
 use Rattle.cells.specs.Count.{times, sumTo, allTo, allZero}

@@ -3,13 +3,12 @@ use mathlib.Core.Path.{_≡_, refl, sym, ap, _∙_}
 use mathlib.Core.Bool.{Bool, true, false}
 use Prim.Native.Nat.{ℕ, _≤_, _<_}
 use native.Mathlib.Omega.{arith}
-use lib.Dec.{ltb, eqb}
+use lib.Dec.{ltb}
 use borrow.Author.Tests.{lt-ltb, le-ltb, ltb-true}
 use Rattle.cells.specs.Scan.{lowest}
 use Rattle.cells.proofs.Scan.{Seeking, seeking-here, seeking-done, lowest-most}
-use Rattle.store.specs.declared.Found.{Found}
 use Rattle.store.specs.declared.Found.the-variants.{At, Nothing}
-use Rattle.store.specs.Find.{found, pickFound}
+use Rattle.store.specs.Find.{found}
 
 module _ (test : ℕ → Bool) (n : ℕ) where
   pub found-at : lowest test n < n → found test n ≡ At (lowest test n)

@@ -1,23 +1,21 @@
 -- The next line of a content, and all its lines.
 use mathlib.Core.Path.{_≡_, refl, sym, ap, _∙_}
-use mathlib.Core.Bool.{Bool, true, false, cond}
-use mathlib.Core.List.{List, [], _∷_, _++_, append-assoc, append-nil}
-use mathlib.Core.Logic.{_⊎_, inl, inr, ⊎-elim}
+use mathlib.Core.List.{List, [], _∷_}
+use mathlib.Core.Logic.{⊎-elim}
 use Prim.Native.Nat.{ℕ, zero, suc, _+_, _-_, _*_, _≤_, _<_}
 use native.Mathlib.Omega.{arith}
 use native.Mathlib.Numerals.{add-one}
-use lib.ListN.{length, getD, set, take, drop, length-append}
+use native.Mathlib.Decide.{decLt}
+use lib.ListN.{length, getD, set, take, drop}
 use lib.Seq.{sets, take-all, length-sets}
-use lib.Dec.{eqb, ltb}
 use borrow.Author.Tests.{eq-eqb, ne-eqb, lt-ltb, le-ltb}
 use Rattle.cells.proofs.Counts.{same?}
 use Rattle.cells.proofs.Sets.{sets-front}
 use Rattle.store.specs.declared.Cursor.{Cursor}
-use Rattle.store.specs.declared.Next.{Next}
 use Rattle.store.specs.declared.Next.the-variants.{Line, End, Bad}
-use Rattle.store.specs.Content.{portionAfter, placeAfter, cursor, ahead, onward, after}
-use Rattle.store.specs.Lines.{Lines, lines, ontoWhole, onto, withByte, linesOf, lineOf, pickLine, pickNext, nextLine, lined}
-use Rattle.store.proofs.Reading.{Stands, stands-start, stands-step, stands-byte, stands-is, front-more, length-ahead, ahead-after}
+use Rattle.store.specs.Content.{portionAfter, placeAfter, cursor, ahead, after}
+use Rattle.store.specs.Lines.{lines, onto, linesOf, lineOf, nextLine, lined}
+use Rattle.store.proofs.Reading.{Stands, stands-start, stands-step, stands-byte, stands-is, front-more, length-ahead, ahead-after, after-left}
 
 -- ---- `lineOf`
 
@@ -133,3 +131,74 @@ module _ (store links : List ℕ) (c₀ : Cursor) (buf₀ : List ℕ) where
       rw (all, le-ltb 255 n (i .few), le-ltb n (c₀ .left) (omega (arith, i .rest)), ne-eqb (c₀ .left) 0 (λ z. omega (arith, i .rest))),
       buffered,
     )
+
+-- ---- the next line and all lines
+
+pub lines-first : (a : List ℕ) (n : ℕ) → length (lineOf a) ≡ n → n < length a
+    → linesOf a ≡ lines (lineOf a ∷ linesOf (drop (suc n) a) .whole) (linesOf (drop (suc n) a) .rest)
+unfolding lineOf linesOf
+lines-first [] n e h = absurd (omega arith)
+lines-first (x ∷ a) zero e h = ⊎-elim
+    (λ (y : x ≡ 10). rw (eq-eqb x 10 y))
+    (λ (y : x ≡ 10 → ⊥). absurd (let z : suc (length (lineOf a)) ≡ 0 = rw (ne-eqb x 10 y) at e in omega arith))
+    (same? x 10)
+lines-first (x ∷ a) (suc n) e h = ⊎-elim
+    (λ (y : x ≡ 10). absurd (let z : 0 ≡ suc n = rw (eq-eqb x 10 y) at e in omega arith))
+    (λ (y : x ≡ 10 → ⊥).
+    let z : suc (length (lineOf a)) ≡ suc n = rw (ne-eqb x 10 y) at e in
+    rw (ne-eqb x 10 y) (ap (onto (x ∷ [])) (lines-first a n (omega arith) (omega arith))))
+    (same? x 10)
+
+pub lines-none : (a : List ℕ) → length (lineOf a) ≡ length a → linesOf a ≡ lines [] a
+unfolding lineOf linesOf
+lines-none [] e = refl
+lines-none (x ∷ a) e = ⊎-elim
+    (λ (y : x ≡ 10). absurd (let z : 0 ≡ suc (length a) = rw (eq-eqb x 10 y) at e in omega arith))
+    (λ (y : x ≡ 10 → ⊥).
+    let z : suc (length (lineOf a)) ≡ suc (length a) = rw (ne-eqb x 10 y) at e in
+    rw (ne-eqb x 10 y) (ap (onto (x ∷ [])) (lines-none a (omega arith))))
+    (same? x 10)
+
+-- what an answer says of the lines ahead
+module _ (store links : List ℕ) (c : Cursor) where
+  -- the three answers
+  pub data Answer : Type 0 where
+    aLine : length (lineOf (ahead store links c)) ≤ 255 → length (lineOf (ahead store links c)) < c .left
+        → nextLine store links c ≡ Line (length (lineOf (ahead store links c))) (after links c (suc (length (lineOf (ahead store links c))))) → Answer
+    atEnd : c .left ≡ 0 → nextLine store links c ≡ End → Answer
+    tooLong : 255 < length (lineOf (ahead store links c)) → nextLine store links c ≡ Bad → Answer
+    unended : length (lineOf (ahead store links c)) ≡ c .left → (c .left ≡ 0 → ⊥) → nextLine store links c ≡ Bad → Answer
+
+  pub answer : Answer
+  unfolding nextLine
+  answer = elim (decLt 255 (length (lineOf (ahead store links c)))) [
+    | yes y ↦ tooLong y (rw (lt-ltb 255 _ y))
+    | no y ↦ elim (decLt (length (lineOf (ahead store links c))) (c .left)) [
+      | yes z ↦ aLine (omega arith) z (rw (le-ltb 255 (length (lineOf (ahead store links c))) (omega arith), lt-ltb _ _ z))
+      | no z ↦ ⊎-elim
+          (λ (w : c .left ≡ 0). atEnd w (rw (le-ltb 255 (length (lineOf (ahead store links c))) (omega arith), le-ltb (length (lineOf (ahead store links c))) (c .left) (omega arith), eq-eqb (c .left) 0 w)))
+          (λ (w : c .left ≡ 0 → ⊥). unended (omega (arith, line-most (ahead store links c), length-ahead store links c)) w
+          (rw (le-ltb 255 (length (lineOf (ahead store links c))) (omega arith), le-ltb (length (lineOf (ahead store links c))) (c .left) (omega arith), ne-eqb (c .left) 0 w)))
+          (same? (c .left) 0)
+    ]
+  ]
+
+  -- behind a line the rest of the lines is ahead, and fewer bytes are left
+  pub next-lines : length (lineOf (ahead store links c)) < c .left
+      → linesOf (ahead store links c)
+      ≡ lines (lineOf (ahead store links c) ∷ linesOf (ahead store links (after links c (suc (length (lineOf (ahead store links c)))))) .whole)
+      (linesOf (ahead store links (after links c (suc (length (lineOf (ahead store links c)))))) .rest)
+  next-lines h =
+      lines-first (ahead store links c) (length (lineOf (ahead store links c))) refl (omega (arith, length-ahead store links c))
+      ∙ ap (λ (a : List ℕ). lines (lineOf (ahead store links c) ∷ linesOf a .whole) (linesOf a .rest)) (sym (ahead-after store links c (suc (length (lineOf (ahead store links c)))) h))
+
+  pub next-left : length (lineOf (ahead store links c)) < c .left → after links c (suc (length (lineOf (ahead store links c)))) .left < c .left
+  next-left h = omega (arith, after-left store links c (suc (length (lineOf (ahead store links c)))))
+
+  -- the line stands at the front of a buffer that has room for it
+  pub line-lies : (buffer : List ℕ) → length (lineOf (ahead store links c)) ≤ 255 → length (lineOf (ahead store links c)) ≤ length buffer
+      → take (length (lineOf (ahead store links c))) (lined store links c buffer) ≡ lineOf (ahead store links c)
+  unfolding lined
+  line-lies buffer h b =
+      ap (λ (l : List ℕ). take (length (lineOf (ahead store links c))) (sets buffer 0 l)) (take-all 255 (lineOf (ahead store links c)) h)
+      ∙ sets-front buffer (lineOf (ahead store links c)) b

@@ -1,18 +1,15 @@
 -- A reader that goes along a chain reads the bytes ahead of it, on any memory.
 use mathlib.Core.Path.{_≡_, refl, sym, ap, _∙_}
-use mathlib.Core.Bool.{Bool, true, false, cond}
-use mathlib.Core.List.{List, [], _∷_, _++_}
-use Prim.Native.Nat.{ℕ, zero, suc, _+_, _-_, _*_, _/_, _≤_, _<_, min}
+use mathlib.Core.List.{List, _∷_}
+use Prim.Native.Nat.{ℕ, zero, suc, _+_, _-_, _*_, _≤_, _<_, min}
 use native.Mathlib.Omega.{arith}
 use native.Mathlib.Numerals.{add-one, sub-one}
-use lib.ListN.{length, getD, set, take, drop, length-take, length-set}
+use lib.ListN.{length, getD, set, take, drop}
 use lib.Seq.{sets, take-suc, take-all, length-take-le, length-sets}
-use lib.Dec.{ltb}
-use borrow.Author.Tests.{lt-ltb, le-ltb}
 use Rattle.cells.proofs.Sets.{sets-snoc, sets-take}
 use Rattle.store.specs.declared.Cursor.{Cursor}
-use Rattle.store.specs.Entry.{entry, first, size}
-use Rattle.store.specs.Content.{portionAfter, placeAfter, bytesFrom, extent, contentOf, content, cursor, ahead, cursorAt, onward, after}
+use Rattle.store.specs.Entry.{entry}
+use Rattle.store.specs.Content.{portionAfter, placeAfter, bytesFrom, extent, contentOf, content, cursor, ahead, onward, after}
 
 pub length-bytes : (store links : List ℕ) (p at n : ℕ) → length (bytesFrom store links p at n) ≡ n
 unfolding bytesFrom

@@ -4,3 +4,4 @@ pub mod Entry
 pub mod Find
 pub mod Content
 pub mod Lines
+pub mod Samples

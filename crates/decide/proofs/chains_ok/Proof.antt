@@ -1,15 +1,10 @@
-use native.Mathlib.Omega.{arith}
-use mathlib.Core.Path.{_≡_, refl, sym, ap, _∙_}
+use mathlib.Core.Path.{sym, _∙_}
 use borrow.Author.Tests.{not-true, not-false}
 use Rattle.sound.specs.Sound.{firsts, counts}
 use Rattle.decide.proofs.Claims.{claimed-all, zeros-all}
 use borrow.Author.Needs.{needs}
 use Rattle.decide.proofs.chains_ok.Statement.{statement}
 use Rattle.decide.proofs.chains_ok.Tie as tie
-use Rattle.decide.proofs.chains_ok.Reads as reads
-use Rattle.decide.proofs.chains_ok.Lts as lts
-use Rattle.decide.proofs.claim_all.Reads as claim-all-reads
-use Rattle.decide.proofs.marks_fit.Reads as marks-fit-reads
 
 slice-aggregate-claim-all : tie.Need-slice-aggregate-claim-all
 slice-aggregate-claim-all c = search needs

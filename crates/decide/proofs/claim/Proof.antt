@@ -1,8 +1,7 @@
-use mathlib.Core.Path.{_≡_, _∙_, sym, refl, ap}
-use mathlib.Core.Bool.{Bool, true, false, false≢true}
-use Prim.Native.Nat.{ℕ, _+_, _-_, _≤_}
+use mathlib.Core.Path.{_≡_, _∙_, sym, refl}
+use mathlib.Core.Bool.{false≢true}
 use native.Mathlib.Omega.{arith}
-use lib.ListN.{length, drop, length-set}
+use lib.ListN.{length, length-set}
 use Rattle.cells.specs.Count.{setAll}
 use Rattle.store.specs.Chain.{chain}
 use Rattle.decide.specs.Claim.{claimOk}
@@ -10,8 +9,6 @@ use Rattle.decide.proofs.Claiming.{claim-out, claim-met, claim-on, clai
 use borrow.Author.Needs.{needs}
 use Rattle.decide.proofs.claim.Statement.{statement}
 use Rattle.decide.proofs.claim.Tie as tie
-use Rattle.decide.proofs.claim.Reads as reads
-use Rattle.decide.proofs.claim.Lts as lts
 
 abbrev Inv-loop : tie.InvT-loop
 Inv-loop links first n marks₀ p₀ k₀ marks p k = (length marks ≡ length marks₀) × (claimOk links marks₀ first n ≡ claimOk links marks p k)

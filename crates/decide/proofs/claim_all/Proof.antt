@@ -1,8 +1,8 @@
 use borrow.Author.Tests.{not-true, not-false}
 use native.Mathlib.Omega.{arith}
-use mathlib.Core.Path.{_≡_, refl, sym, ap, _∙_}
-use mathlib.Core.Bool.{true, false, false≢true, true≢false}
-use Prim.Native.Nat.{_-_, _/_, _<_, _≤_}
+use mathlib.Core.Path.{_≡_, refl, sym, _∙_}
+use mathlib.Core.Bool.{false≢true, true≢false}
+use Prim.Native.Nat.{_-_, _/_, _≤_}
 use lib.ListN.{length}
 use Rattle.sound.specs.Sound.{firsts, counts}
 use Rattle.decide.specs.Claim.{Claimed}
@@ -10,9 +10,6 @@ use Rattle.decide.proofs.Claims.{claimed-zero, claimed-more, claimed-no
 use borrow.Author.Needs.{needs}
 use Rattle.decide.proofs.claim_all.Statement.{statement}
 use Rattle.decide.proofs.claim_all.Tie as tie
-use Rattle.decide.proofs.claim_all.Reads as reads
-use Rattle.decide.proofs.claim_all.Lts as lts
-use Rattle.decide.proofs.claim_entry.Reads as claim-entry-reads
 
 abbrev Inv-loop : tie.InvT-loop
 Inv-loop links directory marks₀ n i₀ marks i = (n ≡ length directory / 16) × (i ≤ n) × (length marks ≡ length marks₀) × Claimed links (firsts directory) (counts directory) i marks

@@ -1,12 +1,8 @@
 use Rattle.sound.specs.Sound.{firsts, counts}
-use mathlib.Core.Path.{_≡_, refl, sym, ap, _∙_}
 use Rattle.decide.proofs.Claims.{entry-none, entry-some}
 use borrow.Author.Needs.{needs}
 use Rattle.decide.proofs.claim_entry.Statement.{statement}
 use Rattle.decide.proofs.claim_entry.Tie as tie
-use Rattle.decide.proofs.claim_entry.Reads as reads
-use Rattle.decide.proofs.claim_entry.Lts as lts
-use Rattle.decide.proofs.claim.Reads as claim-reads
 
 many-at-requires : tie.Need-many-at-requires
 many-at-requires c κs = search needs

@@ -5,33 +5,23 @@ use Rattle.decide.proofs.Deciding.{cell-out, empty-other, empty-is}
 use borrow.Author.Needs.{needs}
 use Rattle.decide.proofs.empty_ok.Statement.{statement}
 use Rattle.decide.proofs.empty_ok.Tie as tie
-use Rattle.decide.proofs.empty_ok.Reads as reads
-use Rattle.decide.proofs.empty_ok.Lts as lts
-use Rattle.decide.proofs.zero_from.Reads as zero-from-reads
-use Rattle.store.proofs.kind_at.Reads as kind-at-reads
 
--- src/lib.rt:302:8
 kind-at-requires : tie.Need-kind-at-requires
 kind-at-requires c κs = search needs
 
--- src/lib.rt:303:9
 returns : tie.Need-returns
 returns c = empty-other (c .before .before .before .args .directory .now) (c .before .before .before .args .i) _ (c .before .kind-at .ensures .0) (c .if1 .taken)
 
--- src/lib.rt:306:9
 returns-2 : tie.Need-returns-2
 unfolding cell
 returns-2 c = empty-is (c .before .before .before .before .args .directory .now) (c .before .before .before .before .args .i) _ (c .before .before .kind-at .ensures .0) _ (c .before .if1 .left) (cell-out 16 (c .before .before .before .before .args .directory .now) (c .before .before .before .before .args .i * 16) (omega arith))
 
--- src/lib.rt:308:26
 mul-zero-from : tie.Need-mul-zero-from
 mul-zero-from c = search needs
 
--- src/lib.rt:308:5
 zero-from-requires : tie.Need-zero-from-requires
 zero-from-requires c κs = search needs
 
--- src/lib.rt:299:1
 returns-3 : tie.Need-returns-3
 unfolding cell
 returns-3 c = empty-is (c .before .before .before .before .before .args .directory .now) (c .before .before .before .before .before .args .i) _ (c .before .before .before .kind-at .ensures .0) _ (c .before .before .if1 .left) (c .zero-from .ensures)

@@ -5,33 +5,23 @@ use Rattle.decide.proofs.Deciding.{cell-out, free-other, free-is}
 use borrow.Author.Needs.{needs}
 use Rattle.decide.proofs.free_ok.Statement.{statement}
 use Rattle.decide.proofs.free_ok.Tie as tie
-use Rattle.decide.proofs.free_ok.Reads as reads
-use Rattle.decide.proofs.free_ok.Lts as lts
-use Rattle.decide.proofs.zero_from.Reads as zero-from-reads
-use Rattle.store.proofs.link_at.Reads as link-at-reads
 
--- src/lib.rt:328:8
 link-at-requires : tie.Need-link-at-requires
 link-at-requires c κs = search needs
 
--- src/lib.rt:329:9
 returns : tie.Need-returns
 returns c = free-other (c .before .before .before .before .args .store .now) (c .before .before .before .before .args .links .now) (c .before .before .before .before .args .q) _ (c .before .link-at .ensures .0) (c .if1 .taken)
 
--- src/lib.rt:332:9
 returns-2 : tie.Need-returns-2
 unfolding cell
 returns-2 c = free-is (c .before .before .before .before .before .args .store .now) (c .before .before .before .before .before .args .links .now) (c .before .before .before .before .before .args .q) _ (c .before .before .link-at .ensures .0) _ (c .before .if1 .left) (cell-out 256 (c .before .before .before .before .before .args .store .now) (c .before .before .before .before .before .args .q * 256) (omega arith))
 
--- src/lib.rt:334:22
 mul-zero-from : tie.Need-mul-zero-from
 mul-zero-from c = search needs
 
--- src/lib.rt:334:5
 zero-from-requires : tie.Need-zero-from-requires
 zero-from-requires c κs = search needs
 
--- src/lib.rt:325:1
 returns-3 : tie.Need-returns-3
 unfolding cell
 returns-3 c = free-is (c .before .before .before .before .before .before .args .store .now) (c .before .before .before .before .before .before .args .links .now) (c .before .before .before .before .before .before .args .q) _ (c .before .before .before .link-at .ensures .0) _ (c .before .before .if1 .left) (c .zero-from .ensures)

@@ -7,9 +7,6 @@ use lib.ListN.{length}
 use borrow.Author.Needs.{needs}
 use Rattle.decide.proofs.frees_ok.Statement.{statement}
 use Rattle.decide.proofs.frees_ok.Tie as tie
-use Rattle.decide.proofs.frees_ok.Reads as reads
-use Rattle.decide.proofs.frees_ok.Lts as lts
-use Rattle.decide.proofs.free_ok.Reads as free-ok-reads
 
 abbrev Inv-loop : tie.InvT-loop
 Inv-loop store links q₀ q = Passing (freeOk store links) (length links) q
@@ -17,32 +14,25 @@ Inv-loop store links q₀ q = Passing (freeOk store links) (length links) q
 abbrev μ-loop : tie.MeasureT-loop
 μ-loop store links q₀ q = length links - q
 
--- src/lib.rt:341:5
 loop-holds : tie.Need-loop-holds Inv-loop μ-loop
 loop-holds c = passing-start _ _
 
--- src/lib.rt:342:13
 free-ok-requires : tie.Need-free-ok-requires Inv-loop μ-loop
 free-ok-requires c κs = search needs
 
--- src/lib.rt:343:13
 returns : tie.Need-returns Inv-loop μ-loop
 unfolding freesOk
 returns c = passing-stop _ _ _ (c .before .before .loop-test .taken) (sym (c .before .free-ok .ensures) ∙ not-true _ (c .if1 .taken))
 
--- src/lib.rt:345:9
 add-q : tie.Need-add-q Inv-loop μ-loop
 add-q c = search needs
 
--- src/lib.rt:341:5
 loop-less : tie.Need-loop-less Inv-loop μ-loop
 loop-less c = search needs
 
--- src/lib.rt:341:5
 loop-again : tie.Need-loop-again Inv-loop μ-loop
 loop-again c = passing-step _ _ _ (c .before .before .loop-test .taken) (sym (c .before .free-ok .ensures) ∙ not-false _ (c .if1 .left)) (c .before .before .before .loop .inv)
 
--- src/lib.rt:337:1
 returns-2 : tie.Need-returns-2 Inv-loop μ-loop
 unfolding freesOk
 returns-2 c = passing-done _ _ _ (c .loop-test .left) (c .before .loop .inv)

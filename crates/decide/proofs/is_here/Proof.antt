@@ -3,22 +3,16 @@ use Rattle.sound.specs.Sound.{isHere}
 use borrow.Author.Needs.{needs}
 use Rattle.decide.proofs.is_here.Statement.{statement}
 use Rattle.decide.proofs.is_here.Tie as tie
-use Rattle.decide.proofs.is_here.Reads as reads
-use Rattle.decide.proofs.is_here.Lts as lts
 
--- src/lib.rt:122:19
 enum-known-found : tie.Need-enum-known-found
 enum-known-found c = search needs
 
--- src/lib.rt:123:27
 enum-told : tie.Need-enum-told
 enum-told c = search needs
 
--- src/lib.rt:118:1
 returns : tie.Need-returns
 returns c = sym (ap (isHere _) (c .before .found .given .1))
 
--- src/lib.rt:118:1
 returns-2 : tie.Need-returns-2
 returns-2 c = sym (ap (isHere _) (c .enum-told .given .1))
 

@@ -8,8 +8,6 @@ use Rattle.decide.proofs.Deciding.{zero-step, zero-stop}
 use borrow.Author.Needs.{needs}
 use Rattle.decide.proofs.is_zero.Statement.{statement}
 use Rattle.decide.proofs.is_zero.Tie as tie
-use Rattle.decide.proofs.is_zero.Reads as reads
-use Rattle.decide.proofs.is_zero.Lts as lts
 
 abbrev Inv-loop : tie.InvT-loop
 Inv-loop s i₀ i = (i ≤ length s) × (allZero (drop i s) ≡ allZero s)
@@ -17,31 +15,24 @@ Inv-loop s i₀ i = (i ≤ length s) × (allZero (drop i s) ≡ allZero s)
 abbrev μ-loop : tie.MeasureT-loop
 μ-loop s i₀ i = length s - i
 
--- src/lib.rt:279:5
 loop-holds : tie.Need-loop-holds Inv-loop μ-loop
 loop-holds c = (omega arith, refl)
 
--- src/lib.rt:280:12
 shared-slice-read-if1 : tie.Need-shared-slice-read-if1 Inv-loop μ-loop
 shared-slice-read-if1 c = search needs
 
--- src/lib.rt:281:13
 returns : tie.Need-returns Inv-loop μ-loop
 returns c = sym (sym (c .before .before .before .loop .inv .1) ∙ zero-stop _ _ (c .before .before .loop-test .taken) (c .if1 .taken))
 
--- src/lib.rt:283:9
 add-i : tie.Need-add-i Inv-loop μ-loop
 add-i c = search needs
 
--- src/lib.rt:279:5
 loop-less : tie.Need-loop-less Inv-loop μ-loop
 loop-less c = search needs
 
--- src/lib.rt:279:5
 loop-again : tie.Need-loop-again Inv-loop μ-loop
 loop-again c = (omega arith, zero-step _ _ (c .before .before .loop-test .taken) (c .if1 .left) ∙ c .before .before .before .loop .inv .1)
 
--- src/lib.rt:275:1
 returns-2 : tie.Need-returns-2 Inv-loop μ-loop
 returns-2 c = ap allZero (sym (drop-none _ _ (c .loop-test .left))) ∙ c .before .loop .inv .1
 

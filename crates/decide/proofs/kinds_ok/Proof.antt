@@ -1,6 +1,5 @@
 use Rattle.store.specs.Entry.{entry, kind}
-use mathlib.Core.Path.{sym, _∙_}
-use Prim.Native.Nat.{_-_, _<_, _≤_}
+use Prim.Native.Nat.{_-_}
 use native.Mathlib.Omega.{arith}
 use borrow.Author.Tests.{lt-leb, le-leb}
 use Rattle.sound.specs.Sound.{kindOk, kindsOk}
@@ -8,9 +7,6 @@ use Rattle.decide.proofs.Passing.{Passing, passing-start, passing-step,
 use borrow.Author.Needs.{needs}
 use Rattle.decide.proofs.kinds_ok.Statement.{statement}
 use Rattle.decide.proofs.kinds_ok.Tie as tie
-use Rattle.decide.proofs.kinds_ok.Reads as reads
-use Rattle.decide.proofs.kinds_ok.Lts as lts
-use Rattle.store.proofs.kind_at.Reads as kind-at-reads
 
 abbrev Inv-loop : tie.InvT-loop
 Inv-loop directory n i₀ i = Passing (kindOk directory) n i
@@ -18,32 +14,25 @@ Inv-loop directory n i₀ i = Passing (kindOk directory) n i
 abbrev μ-loop : tie.MeasureT-loop
 μ-loop directory n i₀ i = n - i
 
--- src/lib.rt:45:5
 loop-holds : tie.Need-loop-holds Inv-loop μ-loop
 loop-holds c = passing-start _ _
 
--- src/lib.rt:46:16
 kind-at-requires : tie.Need-kind-at-requires Inv-loop μ-loop
 kind-at-requires c κs = search needs
 
--- src/lib.rt:47:13
 returns : tie.Need-returns Inv-loop μ-loop
 unfolding kindsOk
 returns c = passing-stop _ _ _ (c .before .before .loop-test .taken) (lt-leb (kind (entry (c .before .before .before .before .before .args .directory .now) (c .before .before .before .loop .i))) 3 (omega (arith, c .before .kind-at .ensures .0, c .if1 .taken)))
 
--- src/lib.rt:49:9
 add-i : tie.Need-add-i Inv-loop μ-loop
 add-i c = search needs
 
--- src/lib.rt:45:5
 loop-less : tie.Need-loop-less Inv-loop μ-loop
 loop-less c = search needs
 
--- src/lib.rt:45:5
 loop-again : tie.Need-loop-again Inv-loop μ-loop
 loop-again c = passing-step _ _ _ (c .before .before .loop-test .taken) (le-leb (kind (entry (c .before .before .before .before .before .args .directory .now) (c .before .before .before .loop .i))) 3 (omega (arith, c .before .kind-at .ensures .0, c .if1 .left))) (c .before .before .before .loop .inv)
 
--- src/lib.rt:40:1
 returns-2 : tie.Need-returns-2 Inv-loop μ-loop
 unfolding kindsOk
 returns-2 c = passing-done _ _ _ (c .loop-test .left) (c .before .loop .inv)

@@ -2,39 +2,28 @@ use Rattle.decide.proofs.Deciding.{lent-is, lent-long}
 use borrow.Author.Needs.{needs}
 use Rattle.decide.proofs.lent_ok.Statement.{statement}
 use Rattle.decide.proofs.lent_ok.Tie as tie
-use Rattle.decide.proofs.lent_ok.Reads as reads
-use Rattle.decide.proofs.lent_ok.Lts as lts
-use Rattle.decide.proofs.both.Reads as both-reads
 
--- src/lib.rt:27:9
 returns : tie.Need-returns
 returns c = lent-long _ _ _ (c .if1 .taken)
 
--- src/lib.rt:32:28
 mul-both : tie.Need-mul-both
 mul-both c = search needs
 
--- src/lib.rt:33:37
 mul-both-2 : tie.Need-mul-both-2
 mul-both-2 c = search needs
 
--- src/lib.rt:33:45
 both-requires : tie.Need-both-requires
 both-requires c κs = search needs
 
--- src/lib.rt:33:13
 both-requires-2 : tie.Need-both-requires-2
 both-requires-2 c κs = search needs
 
--- src/lib.rt:31:9
 both-requires-3 : tie.Need-both-requires-3
 both-requires-3 c κs = search needs
 
--- src/lib.rt:29:5
 both-requires-4 : tie.Need-both-requires-4
 both-requires-4 c κs = search needs
 
--- src/lib.rt:21:1
 returns-2 : tie.Need-returns-2
 returns-2 c = lent-is _ _ _ _ _ _ _ (c .before .before .before .before .if1 .left) (c .before .before .before .both .ensures) (c .before .before .both2 .ensures) (c .before .both3 .ensures) (c .both4 .ensures)
 

@@ -3,8 +3,6 @@ use Rattle.decide.proofs.Claims.{fits-free, fits-taken}
 use borrow.Author.Needs.{needs}
 use Rattle.decide.proofs.mark_fits.Statement.{statement}
 use Rattle.decide.proofs.mark_fits.Tie as tie
-use Rattle.decide.proofs.mark_fits.Reads as reads
-use Rattle.decide.proofs.mark_fits.Lts as lts
 
 mul-if1 : tie.Need-mul-if1
 mul-if1 c = search needs

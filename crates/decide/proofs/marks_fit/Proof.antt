@@ -1,8 +1,8 @@
 use borrow.Author.Tests.{not-true, not-false}
 use native.Mathlib.Omega.{arith}
-use mathlib.Core.Path.{_≡_, refl, sym, ap, _∙_}
-use mathlib.Core.Bool.{true, false}
-use Prim.Native.Nat.{_-_, _<_, _≤_}
+use mathlib.Core.Path.{_≡_, sym, _∙_}
+use mathlib.Core.Bool.{true}
+use Prim.Native.Nat.{_-_, _≤_}
 use lib.ListN.{length}
 use Rattle.cells.specs.Count.{allTo}
 use Rattle.decide.specs.Claim.{markFits}
@@ -11,9 +11,6 @@ use Rattle.decide.proofs.Claims.{fits-more}
 use borrow.Author.Needs.{needs}
 use Rattle.decide.proofs.marks_fit.Statement.{statement}
 use Rattle.decide.proofs.marks_fit.Tie as tie
-use Rattle.decide.proofs.marks_fit.Reads as reads
-use Rattle.decide.proofs.marks_fit.Lts as lts
-use Rattle.decide.proofs.mark_fits.Reads as mark-fits-reads
 
 abbrev Inv-loop : tie.InvT-loop
 Inv-loop links marks q₀ q = (q ≤ length links) × (allTo (markFits links marks) q ≡ true)

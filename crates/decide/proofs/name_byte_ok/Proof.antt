@@ -3,28 +3,20 @@ use Rattle.sound.specs.Sound.{nameByteOk}
 use borrow.Author.Needs.{needs}
 use Rattle.decide.proofs.name_byte_ok.Statement.{statement}
 use Rattle.decide.proofs.name_byte_ok.Tie as tie
-use Rattle.decide.proofs.name_byte_ok.Reads as reads
-use Rattle.decide.proofs.name_byte_ok.Lts as lts
-use Rattle.decide.proofs.legal_byte.Reads as legal-byte-reads
 
--- src/lib.rt:70:27
 array-read-legal-byte : tie.Need-array-read-legal-byte
 array-read-legal-byte c = search needs
 
--- src/lib.rt:70:9
 legal-byte-requires : tie.Need-legal-byte-requires
 legal-byte-requires c κs = search needs
 
--- src/lib.rt:70:9
 returns : tie.Need-returns
 unfolding nameByteOk
 returns c = rw (lt-ltb _ _ (c .before .if1 .taken)) (c .legal-byte .ensures)
 
--- src/lib.rt:72:5
 array-read-result : tie.Need-array-read-result
 array-read-result c = search needs
 
--- src/lib.rt:65:1
 returns-2 : tie.Need-returns-2
 unfolding nameByteOk
 returns-2 c = rw (le-ltb _ _ (c .if1 .left))

@@ -6,9 +6,6 @@ use Rattle.decide.proofs.Passing.{Passing, passing-start, passing-step,
 use borrow.Author.Needs.{needs}
 use Rattle.decide.proofs.name_bytes_ok.Statement.{statement}
 use Rattle.decide.proofs.name_bytes_ok.Tie as tie
-use Rattle.decide.proofs.name_bytes_ok.Reads as reads
-use Rattle.decide.proofs.name_bytes_ok.Lts as lts
-use Rattle.decide.proofs.name_byte_ok.Reads as name-byte-ok-reads
 
 abbrev Inv-loop : tie.InvT-loop
 Inv-loop n title k₀ k = Passing (nameByteOk n title) 8 k
@@ -16,31 +13,24 @@ Inv-loop n title k₀ k = Passing (nameByteOk n title) 8 k
 abbrev μ-loop : tie.MeasureT-loop
 μ-loop n title k₀ k = 8 - k
 
--- src/lib.rt:79:5
 loop-holds : tie.Need-loop-holds Inv-loop μ-loop
 loop-holds c = passing-start _ _
 
--- src/lib.rt:80:13
 name-byte-ok-requires : tie.Need-name-byte-ok-requires Inv-loop μ-loop
 name-byte-ok-requires c κs = search needs
 
--- src/lib.rt:81:13
 returns : tie.Need-returns Inv-loop μ-loop
 returns c = passing-stop (nameByteOk _ _) 8 _ (c .before .before .loop-test .taken) (sym (c .before .name-byte-ok .ensures) ∙ not-true _ (c .if1 .taken))
 
--- src/lib.rt:83:9
 add-k : tie.Need-add-k Inv-loop μ-loop
 add-k c = search needs
 
--- src/lib.rt:79:5
 loop-less : tie.Need-loop-less Inv-loop μ-loop
 loop-less c = search needs
 
--- src/lib.rt:79:5
 loop-again : tie.Need-loop-again Inv-loop μ-loop
 loop-again c = passing-step _ _ _ (c .before .before .loop-test .taken) (sym (c .before .name-byte-ok .ensures) ∙ not-false _ (c .if1 .left)) (c .before .before .before .loop .inv)
 
--- src/lib.rt:75:1
 returns-2 : tie.Need-returns-2 Inv-loop μ-loop
 returns-2 c = passing-done (nameByteOk _ _) 8 _ (c .loop-test .left) (c .before .loop .inv)
 

@@ -2,42 +2,28 @@ use Rattle.decide.proofs.Deciding.{named-empty, named-none, named-long,
 use borrow.Author.Needs.{needs}
 use Rattle.decide.proofs.name_ok.Statement.{statement}
 use Rattle.decide.proofs.name_ok.Tie as tie
-use Rattle.decide.proofs.name_ok.Reads as reads
-use Rattle.decide.proofs.name_ok.Lts as lts
-use Rattle.decide.proofs.name_bytes_ok.Reads as name-bytes-ok-reads
-use Rattle.store.proofs.kind_at.Reads as kind-at-reads
-use Rattle.store.proofs.name_at.Reads as name-at-reads
-use Rattle.store.proofs.name_length_at.Reads as name-length-at-reads
 
--- src/lib.rt:89:8
 kind-at-requires : tie.Need-kind-at-requires
 kind-at-requires c κs = search needs
 
--- src/lib.rt:90:9
 returns : tie.Need-returns
 returns c = named-empty _ _ _ (c .before .kind-at .ensures .0) (c .if1 .taken)
 
--- src/lib.rt:92:9
 name-length-at-requires : tie.Need-name-length-at-requires
 name-length-at-requires c κs = search needs
 
--- src/lib.rt:94:9
 returns-2 : tie.Need-returns-2
 returns-2 c = named-none _ _ _ (c .before .before .before .kind-at .ensures .0) _ (c .before .name-length-at .ensures .0) (c .before .before .if1 .left) (c .if2 .taken)
 
--- src/lib.rt:97:9
 returns-3 : tie.Need-returns-3
 returns-3 c = named-long _ _ _ (c .before .before .before .before .kind-at .ensures .0) _ (c .before .before .name-length-at .ensures .0) (c .before .before .before .if1 .left) (c .if3 .taken)
 
--- src/lib.rt:99:22
 name-at-requires : tie.Need-name-at-requires
 name-at-requires c κs = search needs
 
--- src/lib.rt:99:5
 name-bytes-ok-requires : tie.Need-name-bytes-ok-requires
 name-bytes-ok-requires c κs = search needs
 
--- src/lib.rt:86:1
 returns-4 : tie.Need-returns-4
 returns-4 c = named-is _ _ _ (c .before .before .before .before .before .before .kind-at .ensures .0) _ (c .before .before .before .before .name-length-at .ensures .0) (c .before .before .before .before .before .if1 .left) _ _ (c .before .before .before .if2 .left) (c .before .before .if3 .left) (c .before .name-at .ensures) (c .name-bytes-ok .ensures)
 

@@ -5,45 +5,31 @@ use Rattle.decide.proofs.Deciding.{skip, stop, lent-few}
 use borrow.Author.Needs.{needs}
 use Rattle.decide.proofs.store_sound.Statement.{statement}
 use Rattle.decide.proofs.store_sound.Tie as tie
-use Rattle.decide.proofs.store_sound.Reads as reads
-use Rattle.decide.proofs.store_sound.Lts as lts
-use Rattle.decide.proofs.chains_ok.Reads as chains-ok-reads
-use Rattle.decide.proofs.lent_ok.Reads as lent-ok-reads
-use Rattle.decide.proofs.titles_ok.Reads as titles-ok-reads
-use Rattle.decide.proofs.unused_ok.Reads as unused-ok-reads
 
--- src/lib.rt:412:9
 lent-ok-requires : tie.Need-lent-ok-requires
 lent-ok-requires c κs = search needs
 
--- src/lib.rt:413:9
 returns : tie.Need-returns
 unfolding storeSound
 returns c = stop _ _ _ (c .before .lent-ok .ensures) (c .if1 .taken)
 
--- src/lib.rt:415:9
 titles-ok-requires : tie.Need-titles-ok-requires
 titles-ok-requires c κs = search needs
 
--- src/lib.rt:416:9
 returns-2 : tie.Need-returns-2
 unfolding storeSound
 returns-2 c = skip _ _ _ _ (c .before .before .before .lent-ok .ensures) (c .before .before .if1 .left) (stop _ _ _ (c .before .titles-ok .ensures) (c .if2 .taken))
 
--- src/lib.rt:418:9
 chains-ok-requires : tie.Need-chains-ok-requires
 chains-ok-requires c κs = lent-few _ _ _ (sym (c .before .before .before .lent-ok .ensures) ∙ not-false _ (c .before .before .if1 .left))
 
--- src/lib.rt:419:9
 returns-3 : tie.Need-returns-3
 unfolding storeSound
 returns-3 c = skip _ _ _ _ (c .before .before .before .before .before .lent-ok .ensures) (c .before .before .before .before .if1 .left) (skip _ _ _ _ (c .before .before .before .titles-ok .ensures) (c .before .before .if2 .left) (stop _ _ _ (c .before .chains-ok .ensures) (c .if3 .taken)))
 
--- src/lib.rt:421:5
 unused-ok-requires : tie.Need-unused-ok-requires
 unused-ok-requires c κs = search needs
 
--- src/lib.rt:409:1
 returns-4 : tie.Need-returns-4
 unfolding storeSound
 returns-4 c = skip _ _ _ _ (c .before .before .before .before .before .before .lent-ok .ensures) (c .before .before .before .before .before .if1 .left) (skip _ _ _ _ (c .before .before .before .before .titles-ok .ensures) (c .before .before .before .if2 .left) (skip _ _ _ _ (c .before .before .chains-ok .ensures) (c .before .if3 .left) (c .unused-ok .ensures)))

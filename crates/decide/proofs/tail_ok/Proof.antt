@@ -4,68 +4,47 @@ use Rattle.decide.proofs.Deciding.{cell-out, tail-empty, tail-is}
 use borrow.Author.Needs.{needs}
 use Rattle.decide.proofs.tail_ok.Statement.{statement}
 use Rattle.decide.proofs.tail_ok.Tie as tie
-use Rattle.decide.proofs.tail_ok.Reads as reads
-use Rattle.decide.proofs.tail_ok.Lts as lts
-use Rattle.decide.proofs.zero_from.Reads as zero-from-reads
-use Rattle.moves.proofs.last_at.Reads as last-at-reads
-use Rattle.store.proofs.kind_at.Reads as kind-at-reads
-use Rattle.store.proofs.needed_for.Reads as needed-for-reads
-use Rattle.store.proofs.size_at.Reads as size-at-reads
 
--- src/lib.rt:353:8
 kind-at-requires : tie.Need-kind-at-requires
 kind-at-requires c κs = search needs
 
--- src/lib.rt:354:9
 returns : tie.Need-returns
 returns c = tail-empty (c .before .before .before .before .before .args .store .now) (c .before .before .before .before .before .args .links .now) (c .before .before .before .before .before .args .directory .now) (c .before .before .before .before .before .args .i) _ (c .before .kind-at .ensures .0) (c .if1 .taken)
 
--- src/lib.rt:356:9
 size-at-requires : tie.Need-size-at-requires
 size-at-requires c κs = search needs
 
--- src/lib.rt:357:24
 needed-for-requires : tie.Need-needed-for-requires
 needed-for-requires c κs = search needs
 
--- src/lib.rt:357:24
 sub-o : tie.Need-sub-o
 sub-o c = omega (arith, c .needed-for .ensures)
 
--- src/lib.rt:357:17
 mul-o : tie.Need-mul-o
 mul-o c = omega (arith, c .needed-for .ensures, c .before .size-at .ensures .1)
 
--- src/lib.rt:357:13
 sub-o-2 : tie.Need-sub-o-2
 sub-o-2 c = omega (arith, c .needed-for .ensures)
 
--- src/lib.rt:358:9
 last-at-requires : tie.Need-last-at-requires
 last-at-requires c κs = search needs
 
--- src/lib.rt:360:9
 returns-2 : tie.Need-returns-2
 returns-2 c = tail-is (c .before .before .before .before .before .before .before .before .before .args .store .now) (c .before .before .before .before .before .before .before .before .before .args .links .now) (c .before .before .before .before .before .before .before .before .before .args .directory .now) (c .before .before .before .before .before .before .before .before .before .args .i) _ (c .before .before .before .before .before .kind-at .ensures .0) _ _ _ _ (c .before .before .before .before .if1 .left) (c .before .before .before .size-at .ensures .0) (c .before .before .needed-for .ensures) (c .before .last-at .ensures)
     (cell-out (256 - (c .before .before .before .size-at .result - 256 * (c .before .before .needed-for .result - 1))) (c .before .before .before .before .before .before .before .before .before .args .store .now) (c .before .last-at .result * 256 + (c .before .before .before .size-at .result - 256 * (c .before .before .needed-for .result - 1))) (omega arith))
 
--- src/lib.rt:362:22
 mul-zero-from : tie.Need-mul-zero-from
 mul-zero-from c = search needs
 
--- src/lib.rt:362:22
 add-zero-from : tie.Need-add-zero-from
 add-zero-from c = omega (arith, c .before .before .needed-for .ensures)
 
--- src/lib.rt:362:35
 sub-zero-from : tie.Need-sub-zero-from
 sub-zero-from c = omega (arith, c .before .before .needed-for .ensures)
 
--- src/lib.rt:362:5
 zero-from-requires : tie.Need-zero-from-requires
 zero-from-requires c κs = search needs
 
--- src/lib.rt:350:1
 returns-3 : tie.Need-returns-3
 returns-3 c = tail-is (c .before .before .before .before .before .before .before .before .before .before .args .store .now) (c .before .before .before .before .before .before .before .before .before .before .args .links .now) (c .before .before .before .before .before .before .before .before .before .before .args .directory .now) (c .before .before .before .before .before .before .before .before .before .before .args .i) _ (c .before .before .before .before .before .before .kind-at .ensures .0) _ _ _ _ (c .before .before .before .before .before .if1 .left) (c .before .before .before .before .size-at .ensures .0) (c .before .before .before .needed-for .ensures) (c .before .before .last-at .ensures) (c .zero-from .ensures)
 

@@ -2,34 +2,22 @@ use Rattle.decide.proofs.Deciding.{unique-empty, unique-is}
 use borrow.Author.Needs.{needs}
 use Rattle.decide.proofs.unique_ok.Statement.{statement}
 use Rattle.decide.proofs.unique_ok.Tie as tie
-use Rattle.decide.proofs.unique_ok.Reads as reads
-use Rattle.decide.proofs.unique_ok.Lts as lts
-use Rattle.decide.proofs.is_here.Reads as is-here-reads
-use Rattle.store.proofs.find.Reads as find-reads
-use Rattle.store.proofs.kind_at.Reads as kind-at-reads
-use Rattle.store.proofs.name_at.Reads as name-at-reads
 
--- src/lib.rt:130:9
 kind-at-requires : tie.Need-kind-at-requires
 kind-at-requires c κs = search needs
 
--- src/lib.rt:132:9
 returns : tie.Need-returns
 returns c = unique-empty _ _ _ (c .before .kind-at .ensures .0) (c .if1 .taken)
 
--- src/lib.rt:134:47
 name-at-requires : tie.Need-name-at-requires
 name-at-requires c κs = search needs
 
--- src/lib.rt:134:16
 find-requires : tie.Need-find-requires
 find-requires c κs = search needs
 
--- src/lib.rt:134:5
 is-here-requires : tie.Need-is-here-requires
 is-here-requires c κs = search needs
 
--- src/lib.rt:127:1
 returns-2 : tie.Need-returns-2
 returns-2 c = unique-is _ _ _ (c .before .before .before .before .kind-at .ensures .0) _ _ _ (c .before .before .before .if1 .left) (c .before .before .name-at .ensures) (c .before .find .ensures) (c .is-here .ensures)
 

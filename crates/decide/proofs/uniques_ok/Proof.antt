@@ -6,9 +6,6 @@ use Rattle.sound.specs.Sound.{uniqueOk, uniquesOk}
 use borrow.Author.Needs.{needs}
 use Rattle.decide.proofs.uniques_ok.Statement.{statement}
 use Rattle.decide.proofs.uniques_ok.Tie as tie
-use Rattle.decide.proofs.uniques_ok.Reads as reads
-use Rattle.decide.proofs.uniques_ok.Lts as lts
-use Rattle.decide.proofs.unique_ok.Reads as unique-ok-reads
 
 abbrev Inv-loop : tie.InvT-loop
 Inv-loop directory n i₀ i = Passing (uniqueOk directory) n i
@@ -16,32 +13,25 @@ Inv-loop directory n i₀ i = Passing (uniqueOk directory) n i
 abbrev μ-loop : tie.MeasureT-loop
 μ-loop directory n i₀ i = n - i
 
--- src/lib.rt:143:5
 loop-holds : tie.Need-loop-holds Inv-loop μ-loop
 loop-holds c = passing-start _ _
 
--- src/lib.rt:144:13
 unique-ok-requires : tie.Need-unique-ok-requires Inv-loop μ-loop
 unique-ok-requires c κs = search needs
 
--- src/lib.rt:145:13
 returns : tie.Need-returns Inv-loop μ-loop
 unfolding uniquesOk
 returns c = passing-stop _ _ _ (c .before .before .loop-test .taken) (sym (c .before .unique-ok .ensures) ∙ not-true _ (c .if1 .taken))
 
--- src/lib.rt:147:9
 add-i : tie.Need-add-i Inv-loop μ-loop
 add-i c = search needs
 
--- src/lib.rt:143:5
 loop-less : tie.Need-loop-less Inv-loop μ-loop
 loop-less c = search needs
 
--- src/lib.rt:143:5
 loop-again : tie.Need-loop-again Inv-loop μ-loop
 loop-again c = passing-step _ _ _ (c .before .before .loop-test .taken) (sym (c .before .unique-ok .ensures) ∙ not-false _ (c .if1 .left)) (c .before .before .before .loop .inv)
 
--- src/lib.rt:138:1
 returns-2 : tie.Need-returns-2 Inv-loop μ-loop
 unfolding uniquesOk
 returns-2 c = passing-done _ _ _ (c .loop-test .left) (c .before .loop .inv)

@@ -2,47 +2,31 @@ use Rattle.moves.proofs.Starting.{begin-is}
 use borrow.Author.Needs.{needs}
 use Rattle.moves.proofs.begin.Statement.{statement}
 use Rattle.moves.proofs.begin.Tie as tie
-use Rattle.moves.proofs.begin.Reads as reads
-use Rattle.moves.proofs.begin.Lts as lts
-use Rattle.moves.proofs.lowest_entry.Reads as lowest-entry-reads
-use Rattle.moves.proofs.lowest_portion.Reads as lowest-portion-reads
-use Rattle.moves.proofs.new_entry.Reads as new-entry-reads
-use Rattle.moves.proofs.put_entry.Reads as put-entry-reads
-use Rattle.moves.proofs.put_link.Reads as put-link-reads
 
--- src/lib.rt:244:9
 lowest-portion-requires : tie.Need-lowest-portion-requires
 lowest-portion-requires c κs = search needs
 
--- src/lib.rt:245:9
 lowest-entry-requires : tie.Need-lowest-entry-requires
 lowest-entry-requires c κs = search needs
 
--- src/lib.rt:246:5
 put-link-requires : tie.Need-put-link-requires
 put-link-requires c κs = search needs
 
--- src/lib.rt:247:13
 new-entry-requires : tie.Need-new-entry-requires
 new-entry-requires c κs = search needs
 
--- src/lib.rt:248:32
 slice-aggregate-put-entry : tie.Need-slice-aggregate-put-entry
 slice-aggregate-put-entry c = search needs
 
--- src/lib.rt:248:5
 put-entry-requires : tie.Need-put-entry-requires
 put-entry-requires c κs = search needs
 
--- src/lib.rt:239:1
 same-length : tie.Need-same-length
 same-length c = search needs
 
--- src/lib.rt:239:1
 same-length-2 : tie.Need-same-length-2
 same-length-2 c = search needs
 
--- src/lib.rt:239:1
 returns : tie.Need-returns
 returns c =
     let a = c .before .before .before .before .before .before .before .before .before .before .before .before .before .before .before .before .args in

@@ -6,51 +6,34 @@ use Rattle.moves.proofs.Freeing.{erased-is}
 use borrow.Author.Needs.{needs}
 use Rattle.moves.proofs.drop_entry.Statement.{statement}
 use Rattle.moves.proofs.drop_entry.Tie as tie
-use Rattle.moves.proofs.drop_entry.Reads as reads
-use Rattle.moves.proofs.drop_entry.Lts as lts
-use Rattle.moves.proofs.free_chain.Reads as free-chain-reads
-use Rattle.moves.proofs.least.Reads as least-reads
-use Rattle.moves.proofs.many_at.Reads as many-at-reads
-use Rattle.moves.proofs.put_entry.Reads as put-entry-reads
-use Rattle.store.proofs.first_at.Reads as first-at-reads
 
--- src/lib.rt:323:9
 first-at-requires : tie.Need-first-at-requires
 first-at-requires c κs = search needs
 
--- src/lib.rt:324:19
 many-at-requires : tie.Need-many-at-requires
 many-at-requires c κs = search needs
 
--- src/lib.rt:324:9
 least-requires : tie.Need-least-requires
 least-requires c κs = search needs
 
--- src/lib.rt:325:5
 free-chain-requires : tie.Need-free-chain-requires
 free-chain-requires c κs = search needs
 
--- src/lib.rt:327:32
 slice-aggregate-put-entry : tie.Need-slice-aggregate-put-entry
 slice-aggregate-put-entry c = search needs
 
--- src/lib.rt:327:5
 put-entry-requires : tie.Need-put-entry-requires
 put-entry-requires c κs = search needs
 
--- src/lib.rt:320:1
 same-length : tie.Need-same-length
 same-length c = search needs
 
--- src/lib.rt:320:1
 same-length-2 : tie.Need-same-length-2
 same-length-2 c = search needs
 
--- src/lib.rt:320:1
 same-length-3 : tie.Need-same-length-3
 same-length-3 c = search needs
 
--- src/lib.rt:320:1
 returns : tie.Need-returns
 unfolding zeros
 returns c = erased-is _ _ _ _ _ _ (c .before .before .before .before .before .before .before .before .before .before .before .before .before .before .before .before .before .before .first-at .ensures .0) (c .before .before .before .before .before .before .before .before .before .before .before .before .before .before .before .least .ensures ∙ ap (λ (x : ℕ). min x (length (c .before .before .before .before .before .before .before .before .before .before .before .before .before .before .before .before .before .before .before .before .before .before .before .args .links .now))) (c .before .before .before .before .before .before .before .before .before .before .before .before .before .before .before .before .many-at .ensures)) (c .before .before .before .before .before .before .before .before .before .before .before .free-chain .ensures) (c .before .before .put-entry .ensures)

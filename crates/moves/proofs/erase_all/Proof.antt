@@ -4,9 +4,6 @@ use Rattle.moves.proofs.Freeing.{Erasing, erasing-start, erasing-step, 
 use borrow.Author.Needs.{needs}
 use Rattle.moves.proofs.erase_all.Statement.{statement}
 use Rattle.moves.proofs.erase_all.Tie as tie
-use Rattle.moves.proofs.erase_all.Reads as reads
-use Rattle.moves.proofs.erase_all.Lts as lts
-use Rattle.moves.proofs.erase_if.Reads as erase-if-reads
 
 abbrev Inv-loop : tie.InvT-loop
 Inv-loop store₀ links₀ directory₀ picture n i₀ store links directory i = Erasing picture (memory store₀ links₀ directory₀) n (memory store links directory) i
@@ -14,39 +11,30 @@ Inv-loop store₀ links₀ directory₀ picture n i₀ store links directory i =
 abbrev μ-loop : tie.MeasureT-loop
 μ-loop store₀ links₀ directory₀ picture n i₀ store links directory i = n - i
 
--- src/lib.rt:356:5
 loop-holds : tie.Need-loop-holds Inv-loop μ-loop
 loop-holds c = erasing-start _ _ _
 
--- src/lib.rt:357:9
 erase-if-requires : tie.Need-erase-if-requires Inv-loop μ-loop
 erase-if-requires c κs = search needs
 
--- src/lib.rt:358:9
 add-i : tie.Need-add-i Inv-loop μ-loop
 add-i c = search needs
 
--- src/lib.rt:356:5
 loop-less : tie.Need-loop-less Inv-loop μ-loop
 loop-less c = search needs
 
--- src/lib.rt:356:5
 loop-again : tie.Need-loop-again Inv-loop μ-loop
 loop-again c = erasing-step _ _ _ _ _ _ (c .before .before .before .before .before .before .before .before .before .before .loop-test .taken) (c .before .before .before .before .before .before .before .before .before .before .before .loop .inv) (c .before .before .before .before .before .before .erase-if .ensures)
 
--- src/lib.rt:351:1
 same-length : tie.Need-same-length Inv-loop μ-loop
 same-length c = erasing-long _ _ _ _ _ (c .before .loop .inv) .store
 
--- src/lib.rt:351:1
 same-length-2 : tie.Need-same-length-2 Inv-loop μ-loop
 same-length-2 c = erasing-long _ _ _ _ _ (c .before .loop .inv) .links
 
--- src/lib.rt:351:1
 same-length-3 : tie.Need-same-length-3 Inv-loop μ-loop
 same-length-3 c = erasing-long _ _ _ _ _ (c .before .loop .inv) .directory
 
--- src/lib.rt:351:1
 returns : tie.Need-returns Inv-loop μ-loop
 returns c = erasing-done _ _ _ _ _ (c .loop-test .left) (c .before .loop .inv)
 

@@ -4,45 +4,31 @@ use Rattle.moves.proofs.Freeing.{erase-if}
 use borrow.Author.Needs.{needs}
 use Rattle.moves.proofs.erase_if.Statement.{statement}
 use Rattle.moves.proofs.erase_if.Tie as tie
-use Rattle.moves.proofs.erase_if.Reads as reads
-use Rattle.moves.proofs.erase_if.Lts as lts
-use Rattle.moves.proofs.drop_entry.Reads as drop-entry-reads
-use Rattle.store.proofs.is_of_kind.Reads as is-of-kind-reads
-use Rattle.store.proofs.kind_at.Reads as kind-at-reads
 
--- src/lib.rt:345:35
 kind-at-requires : tie.Need-kind-at-requires
 kind-at-requires c κs = search needs
 
--- src/lib.rt:345:8
 is-of-kind-requires : tie.Need-is-of-kind-requires
 is-of-kind-requires c κs = search needs
 
--- src/lib.rt:346:9
 drop-entry-requires : tie.Need-drop-entry-requires
 drop-entry-requires c κs = search needs
 
--- src/lib.rt:342:1
 same-length : tie.Need-same-length
 same-length c = search needs
 
--- src/lib.rt:342:1
 same-length-2 : tie.Need-same-length-2
 same-length-2 c = search needs
 
--- src/lib.rt:342:1
 same-length-3 : tie.Need-same-length-3
 same-length-3 c = search needs
 
--- src/lib.rt:342:1
 returns : tie.Need-returns
 returns c = erase-if _ _ _ (c .before .before .before .before .before .before .before .before .before .before .before .before .kind-at .ensures .0) (c .before .before .before .before .before .before .before .before .before .before .before .before .before .before .before .before .before .args .picture) _ true _ (c .before .before .before .before .before .before .before .before .before .before .before .is-of-kind .ensures) (c .before .before .before .before .before .before .before .before .before .before .if1 .taken) (c .before .before .before .before .before .before .drop-entry .ensures)
 
--- src/lib.rt:342:1
 same-length-4 : tie.Need-same-length-4
 same-length-4 c = search needs
 
--- src/lib.rt:342:1
 returns-2 : tie.Need-returns-2
 returns-2 c = erase-if _ _ _ (c .before .before .kind-at .ensures .0) (c .before .before .before .before .before .before .before .args .picture) _ false _ (c .before .is-of-kind .ensures) (c .if1 .left) refl
 

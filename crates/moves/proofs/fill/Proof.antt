@@ -5,10 +5,6 @@ use Rattle.moves.proofs.Growth.{Filling, filling-start, filling-step, f
 use borrow.Author.Needs.{needs}
 use Rattle.moves.proofs.fill.Statement.{statement}
 use Rattle.moves.proofs.fill.Tie as tie
-use Rattle.moves.proofs.fill.Reads as reads
-use Rattle.moves.proofs.fill.Lts as lts
-use Rattle.moves.proofs.place.Reads as place-reads
-use Rattle.moves.proofs.put_in.Reads as put-in-reads
 
 abbrev Inv-loop : tie.InvT-loop
 Inv-loop store₀ links₀ last size bytes at₀ n₀ i₀ store links at n i = Filling store₀ links₀ last size bytes store links at n i
@@ -16,47 +12,36 @@ Inv-loop store₀ links₀ last size bytes at₀ n₀ i₀ store links at n i = 
 abbrev μ-loop : tie.MeasureT-loop
 μ-loop store₀ links₀ last size bytes at₀ n₀ i₀ store links at n i = length bytes - i
 
--- src/lib.rt:117:5
 loop-holds : tie.Need-loop-holds Inv-loop μ-loop
 loop-holds c = filling-start _ _ _ _ _
 
--- src/lib.rt:118:9
 place-requires : tie.Need-place-requires Inv-loop μ-loop
 place-requires c κs = search needs
 
--- src/lib.rt:119:36
 shared-slice-read-put-in : tie.Need-shared-slice-read-put-in Inv-loop μ-loop
 shared-slice-read-put-in c = search needs
 
--- src/lib.rt:119:9
 put-in-requires : tie.Need-put-in-requires Inv-loop μ-loop
 put-in-requires c κs = search needs
 
--- src/lib.rt:120:9
 add-n : tie.Need-add-n Inv-loop μ-loop
 add-n c = omega (arith, c .before .before .before .before .before .before .before .before .before .before .before .before .before .before .pre, c .before .before .before .before .before .before .before .before .before .before .loop .inv .count, c .before .before .before .before .before .before .before .before .before .loop-test .taken)
 
--- src/lib.rt:121:9
 add-i : tie.Need-add-i Inv-loop μ-loop
 add-i c = search needs
 
--- src/lib.rt:117:5
 loop-less : tie.Need-loop-less Inv-loop μ-loop
 loop-less c = search needs
 
--- src/lib.rt:117:5
 loop-again : tie.Need-loop-again Inv-loop μ-loop
 loop-again c = filling-step _ _ _ _ _ _ _ _ _ _ _ _ _ (c .before .before .before .before .before .before .before .before .before .loop-test .taken) (c .before .before .before .before .before .before .before .before .before .before .loop .inv) (c .before .before .before .before .before .before .before .place .ensures .0) (c .before .before .before .before .before .before .before .place .ensures .1) (c .before .before .put-in .ensures)
 
--- src/lib.rt:110:1
 same-length : tie.Need-same-length Inv-loop μ-loop
 same-length c = filling-store _ _ _ _ _ _ _ _ _ _ (c .before .loop .inv)
 
--- src/lib.rt:110:1
 same-length-2 : tie.Need-same-length-2 Inv-loop μ-loop
 same-length-2 c = filling-links _ _ _ _ _ _ _ _ _ _ (c .before .loop .inv)
 
--- src/lib.rt:110:1
 returns : tie.Need-returns Inv-loop μ-loop
 returns c = filling-done _ _ _ _ _ _ _ _ _ _ (c .loop-test .left) (c .before .loop .inv)
 

@@ -3,11 +3,6 @@ use Rattle.moves.proofs.Freeing.{Freeing, freeing-start, freeing-step, 
 use borrow.Author.Needs.{needs}
 use Rattle.moves.proofs.free_chain.Statement.{statement}
 use Rattle.moves.proofs.free_chain.Tie as tie
-use Rattle.moves.proofs.free_chain.Reads as reads
-use Rattle.moves.proofs.free_chain.Lts as lts
-use Rattle.moves.proofs.put_link.Reads as put-link-reads
-use Rattle.moves.proofs.wipe.Reads as wipe-reads
-use Rattle.store.proofs.link_at.Reads as link-at-reads
 
 abbrev Inv-loop : tie.InvT-loop
 Inv-loop store₀ links₀ directory first n p₀ k₀ store links p k = Freeing (memory store₀ links₀ directory) first n store links p k
@@ -15,43 +10,33 @@ Inv-loop store₀ links₀ directory first n p₀ k₀ store links p k = Freeing
 abbrev μ-loop : tie.MeasureT-loop
 μ-loop store₀ links₀ directory first n p₀ k₀ store links p k = k
 
--- src/lib.rt:301:5
 loop-holds : tie.Need-loop-holds Inv-loop μ-loop
 loop-holds c = freeing-start _ _ _
 
--- src/lib.rt:302:9
 wipe-requires : tie.Need-wipe-requires Inv-loop μ-loop
 wipe-requires c κs = search needs
 
--- src/lib.rt:303:13
 link-at-requires : tie.Need-link-at-requires Inv-loop μ-loop
 link-at-requires c κs = search needs
 
--- src/lib.rt:304:9
 put-link-requires : tie.Need-put-link-requires Inv-loop μ-loop
 put-link-requires c κs = search needs
 
--- src/lib.rt:306:9
 sub-k : tie.Need-sub-k Inv-loop μ-loop
 sub-k c = search needs
 
--- src/lib.rt:301:5
 loop-less : tie.Need-loop-less Inv-loop μ-loop
 loop-less c = search needs
 
--- src/lib.rt:301:5
 loop-again : tie.Need-loop-again Inv-loop μ-loop
 loop-again c = freeing-step _ _ _ _ _ _ _ _ _ _ (c .before .before .before .before .before .before .before .before .before .before .loop-test .taken) (c .before .before .before .before .before .before .before .before .before .before .before .loop .inv) (c .before .before .before .before .before .before .before .before .wipe .ensures) (c .before .before .before .before .link-at .ensures .0) (c .before .before .put-link .ensures)
 
--- src/lib.rt:296:1
 same-length : tie.Need-same-length Inv-loop μ-loop
 same-length c = freeing-store _ _ _ _ _ _ _ (c .before .loop .inv)
 
--- src/lib.rt:296:1
 same-length-2 : tie.Need-same-length-2 Inv-loop μ-loop
 same-length-2 c = freeing-links _ _ _ _ _ _ _ (c .before .loop .inv)
 
--- src/lib.rt:296:1
 returns : tie.Need-returns Inv-loop μ-loop
 returns c = freeing-done _ _ _ _ _ _ _ (c .loop-test .left) (c .before .loop .inv)
 

@@ -2,29 +2,19 @@ use Rattle.moves.proofs.Starting.{room-none, room-free}
 use borrow.Author.Needs.{needs}
 use Rattle.moves.proofs.has_room.Statement.{statement}
 use Rattle.moves.proofs.has_room.Tie as tie
-use Rattle.moves.proofs.has_room.Reads as reads
-use Rattle.moves.proofs.has_room.Lts as lts
-use Rattle.moves.proofs.lowest_entry.Reads as lowest-entry-reads
-use Rattle.store.proofs.free_count.Reads as free-count-reads
-use Rattle.store.proofs.needed_for.Reads as needed-for-reads
 
--- src/lib.rt:207:32
 lowest-entry-requires : tie.Need-lowest-entry-requires
 lowest-entry-requires c κs = search needs
 
--- src/lib.rt:208:9
 returns : tie.Need-returns
 returns c = room-none _ _ _ _ (c .before .lowest-entry .ensures) (c .if1 .taken)
 
--- src/lib.rt:210:5
 needed-for-requires : tie.Need-needed-for-requires
 needed-for-requires c κs = search needs
 
--- src/lib.rt:210:32
 free-count-requires : tie.Need-free-count-requires
 free-count-requires c κs = search needs
 
--- src/lib.rt:204:1
 returns-2 : tie.Need-returns-2
 returns-2 c = room-free _ _ _ _ (c .before .before .before .lowest-entry .ensures) _ _ (c .before .before .if1 .left) (c .before .needed-for .ensures) (c .free-count .ensures)
 

@@ -1,5 +1,5 @@
-use mathlib.Core.Path.{sym, _∙_, ap}
-use Prim.Native.Nat.{ℕ, _-_, min}
+use mathlib.Core.Path.{_∙_, ap}
+use Prim.Native.Nat.{ℕ, min}
 use lib.ListN.{length}
 use Rattle.store.specs.Entry.{entry, first, size}
 use Rattle.store.specs.Chain.{needed}
@@ -8,13 +8,6 @@ use Rattle.moves.proofs.Growth.{Walking, walking-start, walking-step, w
 use borrow.Author.Needs.{needs}
 use Rattle.moves.proofs.last_at.Statement.{statement}
 use Rattle.moves.proofs.last_at.Tie as tie
-use Rattle.moves.proofs.last_at.Reads as reads
-use Rattle.moves.proofs.last_at.Lts as lts
-use Rattle.moves.proofs.least.Reads as least-reads
-use Rattle.store.proofs.first_at.Reads as first-at-reads
-use Rattle.store.proofs.link_at.Reads as link-at-reads
-use Rattle.store.proofs.needed_for.Reads as needed-for-reads
-use Rattle.store.proofs.size_at.Reads as size-at-reads
 
 abbrev Inv-loop : tie.InvT-loop
 Inv-loop links directory i p₀ k₀ p k = Walking links (first (entry directory i)) (min (needed (size (entry directory i))) (length links)) p k
@@ -22,44 +15,34 @@ Inv-loop links directory i p₀ k₀ p k = Walking links (first (entry directory
 abbrev μ-loop : tie.MeasureT-loop
 μ-loop links directory i p₀ k₀ p k = k
 
--- src/lib.rt:129:9
 first-at-requires : tie.Need-first-at-requires Inv-loop μ-loop
 first-at-requires c κs = search needs
 
--- src/lib.rt:130:41
 size-at-requires : tie.Need-size-at-requires Inv-loop μ-loop
 size-at-requires c κs = search needs
 
--- src/lib.rt:130:23
 needed-for-requires : tie.Need-needed-for-requires Inv-loop μ-loop
 needed-for-requires c κs = search needs
 
--- src/lib.rt:130:9
 least-requires : tie.Need-least-requires Inv-loop μ-loop
 least-requires c κs = search needs
 
--- src/lib.rt:131:5
 loop-holds : tie.Need-loop-holds Inv-loop μ-loop
 loop-holds c = walking-start _ _ _ _ _ (c .before .before .before .first-at .ensures .0)
     (c .least .ensures ∙ ap (λ (n : ℕ). min n (length (c .before .before .before .before .before .before .args .links .now))) (c .before .needed-for .ensures ∙ ap needed (c .before .before .size-at .ensures .0)))
 
--- src/lib.rt:132:9
 link-at-requires : tie.Need-link-at-requires Inv-loop μ-loop
 link-at-requires c κs = search needs
 
--- src/lib.rt:133:9
 sub-k : tie.Need-sub-k Inv-loop μ-loop
 sub-k c = search needs
 
--- src/lib.rt:131:5
 loop-less : tie.Need-loop-less Inv-loop μ-loop
 loop-less c = search needs
 
--- src/lib.rt:131:5
 loop-again : tie.Need-loop-again Inv-loop μ-loop
 loop-again c = walking-step _ _ _ _ _ _ (c .before .loop-test .taken) (c .link-at .ensures .0) (c .before .before .loop .inv)
 
--- src/lib.rt:126:1
 returns : tie.Need-returns Inv-loop μ-loop
 unfolding lastOf
 returns c = walking-done _ _ _ _ _ (c .loop-test .left) (c .before .loop .inv)

@@ -3,27 +3,19 @@ use Rattle.store.proofs.Finding.{at-says, nothing-says}
 use borrow.Author.Needs.{needs}
 use Rattle.moves.proofs.lowest_entry.Statement.{statement}
 use Rattle.moves.proofs.lowest_entry.Tie as tie
-use Rattle.moves.proofs.lowest_entry.Reads as reads
-use Rattle.moves.proofs.lowest_entry.Lts as lts
-use Rattle.store.proofs.lowest_empty.Reads as lowest-empty-reads
 
--- src/lib.rt:207:11
 lowest-empty-requires : tie.Need-lowest-empty-requires
 lowest-empty-requires c κs = search needs
 
--- src/lib.rt:208:19
 enum-known-i : tie.Need-enum-known-i
 enum-known-i c = search needs
 
--- src/lib.rt:209:27
 enum-told : tie.Need-enum-told
 enum-told c = search needs
 
--- src/lib.rt:204:1
 returns : tie.Need-returns
 returns c = sym (at-says _ _ _ (sym (c .before .before .before .lowest-empty .ensures) ∙ c .before .i .given .1) .0)
 
--- src/lib.rt:204:1
 returns-2 : tie.Need-returns-2
 returns-2 c = sym (nothing-says _ _ (sym (c .before .before .lowest-empty .ensures) ∙ c .enum-told .given .1))
 

@@ -3,27 +3,19 @@ use Rattle.store.proofs.Finding.{at-says, nothing-says}
 use borrow.Author.Needs.{needs}
 use Rattle.moves.proofs.lowest_portion.Statement.{statement}
 use Rattle.moves.proofs.lowest_portion.Tie as tie
-use Rattle.moves.proofs.lowest_portion.Reads as reads
-use Rattle.moves.proofs.lowest_portion.Lts as lts
-use Rattle.store.proofs.lowest_free.Reads as lowest-free-reads
 
--- src/lib.rt:72:11
 lowest-free-requires : tie.Need-lowest-free-requires
 lowest-free-requires c κs = search needs
 
--- src/lib.rt:73:19
 enum-known-q : tie.Need-enum-known-q
 enum-known-q c = search needs
 
--- src/lib.rt:74:27
 enum-told : tie.Need-enum-told
 enum-told c = search needs
 
--- src/lib.rt:69:1
 returns : tie.Need-returns
 returns c = sym (at-says _ _ _ (sym (c .before .before .before .lowest-free .ensures) ∙ c .before .q .given .1) .0)
 
--- src/lib.rt:69:1
 returns-2 : tie.Need-returns-2
 returns-2 c = sym (nothing-says _ _ (sym (c .before .before .lowest-free .ensures) ∙ c .enum-told .given .1))
 

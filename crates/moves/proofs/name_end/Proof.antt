@@ -8,8 +8,6 @@ use Rattle.moves.specs.Start.{nameEnd}
 use borrow.Author.Needs.{needs}
 use Rattle.moves.proofs.name_end.Statement.{statement}
 use Rattle.moves.proofs.name_end.Tie as tie
-use Rattle.moves.proofs.name_end.Reads as reads
-use Rattle.moves.proofs.name_end.Lts as lts
 
 abbrev Inv-loop : tie.InvT-loop
 Inv-loop title k₀ k = Seeking (λ (j : ℕ). eqb (getD title j 0) 0) 8 k
@@ -17,36 +15,28 @@ Inv-loop title k₀ k = Seeking (λ (j : ℕ). eqb (getD title j 0) 0) 8 k
 abbrev μ-loop : tie.MeasureT-loop
 μ-loop title k₀ k = 8 - k
 
--- src/lib.rt:217:5
 loop-holds : tie.Need-loop-holds Inv-loop μ-loop
 loop-holds c = seeking-start _ _
 
--- src/lib.rt:218:12
 array-read-if1 : tie.Need-array-read-if1 Inv-loop μ-loop
 array-read-if1 c = search needs
 
--- src/lib.rt:219:20
 cast-result : tie.Need-cast-result Inv-loop μ-loop
 cast-result c = search needs
 
--- src/lib.rt:219:13
 returns : tie.Need-returns Inv-loop μ-loop
 unfolding nameEnd
 returns c = sym (seeking-here _ _ _ (c .before .loop-test .taken) (eq-eqb _ _ (c .if1 .taken)) (c .before .before .loop .inv))
 
--- src/lib.rt:221:9
 add-k : tie.Need-add-k Inv-loop μ-loop
 add-k c = search needs
 
--- src/lib.rt:217:5
 loop-less : tie.Need-loop-less Inv-loop μ-loop
 loop-less c = search needs
 
--- src/lib.rt:217:5
 loop-again : tie.Need-loop-again Inv-loop μ-loop
 loop-again c = seeking-step _ _ _ (c .before .loop-test .taken) (ne-eqb _ _ (c .if1 .left)) (c .before .before .loop .inv)
 
--- src/lib.rt:213:1
 returns-2 : tie.Need-returns-2 Inv-loop μ-loop
 unfolding nameEnd
 returns-2 c = sym (seeking-done _ _ _ (c .loop-test .left) (c .before .loop .inv))

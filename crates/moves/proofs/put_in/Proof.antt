@@ -4,38 +4,28 @@ use lib.Seq.{set-out}
 use borrow.Author.Needs.{needs}
 use Rattle.moves.proofs.put_in.Statement.{statement}
 use Rattle.moves.proofs.put_in.Tie as tie
-use Rattle.moves.proofs.put_in.Reads as reads
-use Rattle.moves.proofs.put_in.Lts as lts
 
--- src/lib.rt:100:9
 returns : tie.Need-returns
 returns c = sym (set-out (c .before .args .store .now) _ _ (omega arith))
 
--- src/lib.rt:102:16
 mul-from : tie.Need-mul-from
 mul-from c = search needs
 
--- src/lib.rt:103:8
 sub-if2 : tie.Need-sub-if2
 sub-if2 c = search needs
 
--- src/lib.rt:104:9
 returns-2 : tie.Need-returns-2
 returns-2 c = sym (set-out (c .before .before .args .store .now) _ _ (omega arith))
 
--- src/lib.rt:106:11
 add-store : tie.Need-add-store
 add-store c = search needs
 
--- src/lib.rt:106:5
 slice-write-store : tie.Need-slice-write-store
 slice-write-store c = search needs
 
--- src/lib.rt:96:1
 same-length : tie.Need-same-length
 same-length c = search needs
 
--- src/lib.rt:96:1
 returns-3 : tie.Need-returns-3
 returns-3 c = search needs
 

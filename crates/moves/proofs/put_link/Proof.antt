@@ -3,26 +3,19 @@ use lib.Seq.{set-out}
 use borrow.Author.Needs.{needs}
 use Rattle.moves.proofs.put_link.Statement.{statement}
 use Rattle.moves.proofs.put_link.Tie as tie
-use Rattle.moves.proofs.put_link.Reads as reads
-use Rattle.moves.proofs.put_link.Lts as lts
 
--- src/lib.rt:26:9
 mul-links : tie.Need-mul-links
 mul-links c = search needs
 
--- src/lib.rt:26:9
 slice-write-links : tie.Need-slice-write-links
 slice-write-links c = search needs
 
--- src/lib.rt:22:1
 same-length : tie.Need-same-length
 same-length c = search needs
 
--- src/lib.rt:22:1
 returns : tie.Need-returns
 returns c = search needs
 
--- src/lib.rt:22:1
 returns-2 : tie.Need-returns-2
 returns-2 c = sym (set-out _ _ _ (c .if1 .left))
 

@@ -2,39 +2,28 @@ use Rattle.moves.specs.Grow.{withSize}
 use borrow.Author.Needs.{needs}
 use Rattle.moves.proofs.put_size.Statement.{statement}
 use Rattle.moves.proofs.put_size.Tie as tie
-use Rattle.moves.proofs.put_size.Reads as reads
-use Rattle.moves.proofs.put_size.Lts as lts
-use Rattle.moves.proofs.put_entry.Reads as put-entry-reads
 
--- src/lib.rt:148:9
 cast-t6 : tie.Need-cast-t6
 cast-t6 c = search needs
 
--- src/lib.rt:149:9
 cast-t9 : tie.Need-cast-t9
 cast-t9 c = search needs
 
--- src/lib.rt:150:9
 cast-t12 : tie.Need-cast-t12
 cast-t12 c = search needs
 
--- src/lib.rt:151:9
 cast-t15 : tie.Need-cast-t15
 cast-t15 c = search needs
 
--- src/lib.rt:153:33
 slice-aggregate-put-entry : tie.Need-slice-aggregate-put-entry
 slice-aggregate-put-entry c = search needs
 
--- src/lib.rt:153:5
 put-entry-requires : tie.Need-put-entry-requires
 put-entry-requires c κs = search needs
 
--- src/lib.rt:144:1
 same-length : tie.Need-same-length
 same-length c = search needs
 
--- src/lib.rt:144:1
 returns : tie.Need-returns
 unfolding withSize
 returns c = c .before .before .put-entry .ensures

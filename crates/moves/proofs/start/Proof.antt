@@ -3,40 +3,28 @@ use Rattle.moves.proofs.Starting.{begun-is, start-no, start-yes}
 use borrow.Author.Needs.{needs}
 use Rattle.moves.proofs.start.Statement.{statement}
 use Rattle.moves.proofs.start.Tie as tie
-use Rattle.moves.proofs.start.Reads as reads
-use Rattle.moves.proofs.start.Lts as lts
-use Rattle.moves.proofs.begin.Reads as begin-reads
-use Rattle.moves.proofs.has_room.Reads as has-room-reads
 
--- src/lib.rt:257:9
 has-room-requires : tie.Need-has-room-requires
 has-room-requires c κs = search needs
 
--- src/lib.rt:258:9
 same-length : tie.Need-same-length
 same-length c = search needs
 
--- src/lib.rt:258:9
 same-length-2 : tie.Need-same-length-2
 same-length-2 c = search needs
 
--- src/lib.rt:258:9
 returns : tie.Need-returns
 returns c = start-no _ _ _ _ _ _ (c .before .has-room .ensures) (not-true _ (c .if1 .taken))
 
--- src/lib.rt:260:9
 begin-requires : tie.Need-begin-requires
 begin-requires c κs = search needs
 
--- src/lib.rt:253:1
 same-length-3 : tie.Need-same-length-3
 same-length-3 c = search needs
 
--- src/lib.rt:253:1
 same-length-4 : tie.Need-same-length-4
 same-length-4 c = search needs
 
--- src/lib.rt:253:1
 returns-2 : tie.Need-returns-2
 returns-2 c = start-yes _ _ _ _ _ _ _ _ (c .before .before .before .before .before .before .before .before .has-room .ensures) (not-false _ (c .before .before .before .before .before .before .before .if1 .left)) (c .before .before .before .before .begin .ensures .0) (begun-is _ _ _ _ _ _ _ (c .before .before .before .before .begin .ensures .1 .0) (c .before .before .before .before .begin .ensures .1 .1))
 

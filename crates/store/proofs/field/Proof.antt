@@ -1,49 +1,39 @@
-use mathlib.Core.Path.{_≡_, sym, _∙_}
-use Prim.Native.Nat.{_+_, _*_, _≤_}
-use lib.ListN.{length, List·getD-eq-default}
+use mathlib.Core.Path.{sym, _∙_}
+use Prim.Native.Nat.{_+_, _*_}
+use lib.ListN.{List·getD-eq-default}
 use native.Mathlib.Omega.{arith}
 use Rattle.cells.proofs.Cells.{cell-at}
 use borrow.Author.Needs.{needs}
 use Rattle.store.proofs.field.Statement.{statement}
 use Rattle.store.proofs.field.Tie as tie
-use Rattle.store.proofs.field.Reads as reads
-use Rattle.store.proofs.field.Lts as lts
 
--- src/lib.rt:79:9
 returns : tie.Need-returns
 returns c = (
   sym (cell-at 16 _ _ _ (c .before .pre) ∙ List·getD-eq-default (c .before .args .directory .now) 0 (omega arith)),
   omega arith,
 )
 
--- src/lib.rt:81:16
 mul-from : tie.Need-mul-from
 mul-from c = search needs
 
--- src/lib.rt:82:8
 sub-if2 : tie.Need-sub-if2
 sub-if2 c = search needs
 
--- src/lib.rt:83:9
 returns-2 : tie.Need-returns-2
 returns-2 c = (
   sym (cell-at 16 _ _ _ (c .before .before .pre) ∙ List·getD-eq-default (c .before .before .args .directory .now) 0 (omega arith)),
   omega arith,
 )
 
--- src/lib.rt:85:15
 add-result : tie.Need-add-result
 add-result c = search needs
 
--- src/lib.rt:85:5
 shared-slice-read-result : tie.Need-shared-slice-read-result
 shared-slice-read-result c = search needs
 
--- src/lib.rt:85:5
 cast-result : tie.Need-cast-result
 cast-result c = omega (arith, c .shared-slice-known .given (c .before .before .before .args .i * 16 + c .before .before .before .args .o))
 
--- src/lib.rt:74:1
 returns-3 : tie.Need-returns-3
 returns-3 c = (
   sym (cell-at 16 _ _ _ (c .before .before .before .pre)),

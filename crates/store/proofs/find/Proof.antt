@@ -7,9 +7,6 @@ use Rattle.store.proofs.Finding.{seek-here, seek-none}
 use borrow.Author.Needs.{needs}
 use Rattle.store.proofs.find.Statement.{statement}
 use Rattle.store.proofs.find.Tie as tie
-use Rattle.store.proofs.find.Reads as reads
-use Rattle.store.proofs.find.Lts as lts
-use Rattle.store.proofs.is_titled.Reads as is-titled-reads
 
 abbrev Inv-loop : tie.InvT-loop
 Inv-loop directory picture title n i₀ i = Seeking (titled directory picture title) (entries directory) i
@@ -17,31 +14,24 @@ Inv-loop directory picture title n i₀ i = Seeking (titled directory picture ti
 abbrev μ-loop : tie.MeasureT-loop
 μ-loop directory picture title n i₀ i = n - i
 
--- src/lib.rt:188:5
 loop-holds : tie.Need-loop-holds Inv-loop μ-loop
 loop-holds c = seeking-start _ _
 
--- src/lib.rt:189:12
 is-titled-requires : tie.Need-is-titled-requires Inv-loop μ-loop
 is-titled-requires c κs = search needs
 
--- src/lib.rt:190:13
 returns : tie.Need-returns Inv-loop μ-loop
 returns c = seek-here _ _ _ (c .before .before .loop-test .taken) (sym (c .before .is-titled .ensures) ∙ c .if1 .taken) (c .before .before .before .loop .inv)
 
--- src/lib.rt:192:9
 add-i : tie.Need-add-i Inv-loop μ-loop
 add-i c = search needs
 
--- src/lib.rt:188:5
 loop-less : tie.Need-loop-less Inv-loop μ-loop
 loop-less c = search needs
 
--- src/lib.rt:188:5
 loop-again : tie.Need-loop-again Inv-loop μ-loop
 loop-again c = seeking-step _ _ _ (c .before .before .loop-test .taken) (sym (c .before .is-titled .ensures) ∙ c .if1 .left) (c .before .before .before .loop .inv)
 
--- src/lib.rt:183:1
 returns-2 : tie.Need-returns-2 Inv-loop μ-loop
 returns-2 c = seek-none _ _ _ (c .loop-test .left) (c .before .loop .inv)
 

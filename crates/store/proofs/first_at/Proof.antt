@@ -3,27 +3,19 @@ use Rattle.store.specs.Entry.{first}
 use borrow.Author.Needs.{needs}
 use Rattle.store.proofs.first_at.Statement.{statement}
 use Rattle.store.proofs.first_at.Tie as tie
-use Rattle.store.proofs.first_at.Reads as reads
-use Rattle.store.proofs.first_at.Lts as lts
-use Rattle.store.proofs.field.Reads as field-reads
 
--- src/lib.rt:97:9
 field-requires : tie.Need-field-requires
 field-requires c κs = search needs
 
--- src/lib.rt:98:9
 field-requires-2 : tie.Need-field-requires-2
 field-requires-2 c κs = search needs
 
--- src/lib.rt:99:10
 mul-result : tie.Need-mul-result
 mul-result c = search needs
 
--- src/lib.rt:99:5
 add-result : tie.Need-add-result
 add-result c = search needs
 
--- src/lib.rt:94:1
 returns : tie.Need-returns
 unfolding first
 returns c = omega arith

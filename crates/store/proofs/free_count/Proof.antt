@@ -1,6 +1,6 @@
 use mathlib.Core.Path.{_≡_}
 use mathlib.Core.Logic.{⊎-elim}
-use Prim.Native.Nat.{ℕ, _+_, _-_, _≤_}
+use Prim.Native.Nat.{_+_, _-_, _≤_}
 use native.Mathlib.Omega.{arith}
 use lib.ListN.{length, drop}
 use Rattle.cells.specs.Count.{times}
@@ -8,8 +8,6 @@ use Rattle.cells.proofs.Counts.{times-here, times-passed, times-none}
 use borrow.Author.Needs.{needs}
 use Rattle.store.proofs.free_count.Statement.{statement}
 use Rattle.store.proofs.free_count.Tie as tie
-use Rattle.store.proofs.free_count.Reads as reads
-use Rattle.store.proofs.free_count.Lts as lts
 
 abbrev Inv-loop : tie.InvT-loop
 Inv-loop links n₀ i₀ n i = (i ≤ length links) × (n ≤ i) × (n + times 65535 (drop i links) ≡ times 65535 links)
@@ -17,38 +15,30 @@ Inv-loop links n₀ i₀ n i = (i ≤ length links) × (n ≤ i) × (n + times 6
 abbrev μ-loop : tie.MeasureT-loop
 μ-loop links n₀ i₀ n i = length links - i
 
--- src/lib.rt:51:5
 loop-holds : tie.Need-loop-holds Inv-loop μ-loop
 loop-holds c = search needs
 
--- src/lib.rt:52:12
 mul-if1 : tie.Need-mul-if1 Inv-loop μ-loop
 mul-if1 c = search needs
 
--- src/lib.rt:52:12
 shared-slice-read-if1 : tie.Need-shared-slice-read-if1 Inv-loop μ-loop
 shared-slice-read-if1 c = search needs
 
--- src/lib.rt:53:13
 add-n : tie.Need-add-n Inv-loop μ-loop
 add-n c = search needs
 
--- src/lib.rt:55:9
 add-i : tie.Need-add-i Inv-loop μ-loop
 add-i c = search needs
 
--- src/lib.rt:51:5
 loop-less : tie.Need-loop-less Inv-loop μ-loop
 loop-less c = search needs
 
--- src/lib.rt:51:5
 loop-again : tie.Need-loop-again Inv-loop μ-loop
 loop-again c = ⊎-elim
     (λ w. omega (arith, times-here 65535 (c .before .before .before .before .args .links .now) (c .before .before .before .loop .i) (omega arith) (w .0 .taken)))
     (λ w. omega (arith, times-passed 65535 (c .before .before .before .before .args .links .now) (c .before .before .before .loop .i) (omega arith) (w .0 .left)))
     (c .if1 .came)
 
--- src/lib.rt:46:1
 returns : tie.Need-returns Inv-loop μ-loop
 returns c = omega (arith, times-none 65535 (c .before .before .args .links .now) (c .before .loop .i) (omega arith))
 

@@ -1,19 +1,13 @@
 use borrow.Author.Tests.{eq-eqb, ne-eqb}
-use borrow.Author.Needs.{needs}
 use Rattle.store.proofs.is_of_kind.Statement.{statement}
 use Rattle.store.proofs.is_of_kind.Tie as tie
-use Rattle.store.proofs.is_of_kind.Reads as reads
-use Rattle.store.proofs.is_of_kind.Lts as lts
 
--- src/lib.rt:151:9
 returns : tie.Need-returns
 returns c = rw (c .if1 .taken)
 
--- src/lib.rt:154:9
 returns-2 : tie.Need-returns-2
 returns-2 c = rw (c .before .if1 .left, eq-eqb _ _ (c .if2 .taken))
 
--- src/lib.rt:147:1
 returns-3 : tie.Need-returns-3
 returns-3 c = rw (c .before .if1 .left, ne-eqb _ _ (c .if2 .left))
 

@@ -4,26 +4,19 @@ use lib.ListN.{List·getD-eq-default}
 use borrow.Author.Needs.{needs}
 use Rattle.store.proofs.link_at.Statement.{statement}
 use Rattle.store.proofs.link_at.Tie as tie
-use Rattle.store.proofs.link_at.Reads as reads
-use Rattle.store.proofs.link_at.Lts as lts
 
--- src/lib.rt:215:26
 mul-result : tie.Need-mul-result
 mul-result c = search needs
 
--- src/lib.rt:215:26
 shared-slice-read-result : tie.Need-shared-slice-read-result
 shared-slice-read-result c = search needs
 
--- src/lib.rt:215:26
 cast-result : tie.Need-cast-result
 cast-result c = omega (arith, c .shared-slice-known .given (c .before .before .args .p))
 
--- src/lib.rt:212:1
 returns : tie.Need-returns
 returns c = (refl, omega (arith, c .shared-slice-known .given (c .before .before .args .p)))
 
--- src/lib.rt:212:1
 returns-2 : tie.Need-returns-2
 returns-2 c = (sym (List·getD-eq-default (c .before .args .links .now) 0 (c .if1 .left)), omega arith)
 

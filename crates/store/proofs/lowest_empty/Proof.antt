@@ -1,6 +1,5 @@
-use mathlib.Core.Path.{sym, _∙_, ap}
-use Prim.Native.Nat.{ℕ, _-_}
-use lib.Dec.{eqb}
+use mathlib.Core.Path.{sym, _∙_}
+use Prim.Native.Nat.{_-_}
 use borrow.Author.Tests.{eq-eqb, ne-eqb}
 use Rattle.cells.proofs.Scan.{Seeking, seeking-start, seeking-step}
 use Rattle.store.specs.Entry.{entries}
@@ -9,9 +8,6 @@ use Rattle.store.proofs.Finding.{seek-here, seek-none}
 use borrow.Author.Needs.{needs}
 use Rattle.store.proofs.lowest_empty.Statement.{statement}
 use Rattle.store.proofs.lowest_empty.Tie as tie
-use Rattle.store.proofs.lowest_empty.Reads as reads
-use Rattle.store.proofs.lowest_empty.Lts as lts
-use Rattle.store.proofs.kind_at.Reads as kind-at-reads
 
 abbrev Inv-loop : tie.InvT-loop
 Inv-loop directory n i₀ i = Seeking (isEmpty directory) (entries directory) i
@@ -19,31 +15,24 @@ Inv-loop directory n i₀ i = Seeking (isEmpty directory) (entries directory) i
 abbrev μ-loop : tie.MeasureT-loop
 μ-loop directory n i₀ i = n - i
 
--- src/lib.rt:117:5
 loop-holds : tie.Need-loop-holds Inv-loop μ-loop
 loop-holds c = seeking-start _ _
 
--- src/lib.rt:118:12
 kind-at-requires : tie.Need-kind-at-requires Inv-loop μ-loop
 kind-at-requires c κs = search needs
 
--- src/lib.rt:119:13
 returns : tie.Need-returns Inv-loop μ-loop
 returns c = seek-here _ _ _ (c .before .before .loop-test .taken) (eq-eqb _ _ (sym (c .before .kind-at .ensures .0) ∙ c .if1 .taken)) (c .before .before .before .loop .inv)
 
--- src/lib.rt:121:9
 add-i : tie.Need-add-i Inv-loop μ-loop
 add-i c = search needs
 
--- src/lib.rt:117:5
 loop-less : tie.Need-loop-less Inv-loop μ-loop
 loop-less c = search needs
 
--- src/lib.rt:117:5
 loop-again : tie.Need-loop-again Inv-loop μ-loop
 loop-again c = seeking-step _ _ _ (c .before .before .loop-test .taken) (ne-eqb _ _ (λ e. c .if1 .left (c .before .kind-at .ensures .0 ∙ e))) (c .before .before .before .loop .inv)
 
--- src/lib.rt:112:1
 returns-2 : tie.Need-returns-2 Inv-loop μ-loop
 returns-2 c = seek-none _ _ _ (c .loop-test .left) (c .before .loop .inv)
 

@@ -7,8 +7,6 @@ use Rattle.store.proofs.Finding.{seek-here, seek-none}
 use borrow.Author.Needs.{needs}
 use Rattle.store.proofs.lowest_free.Statement.{statement}
 use Rattle.store.proofs.lowest_free.Tie as tie
-use Rattle.store.proofs.lowest_free.Reads as reads
-use Rattle.store.proofs.lowest_free.Lts as lts
 
 abbrev Inv-loop : tie.InvT-loop
 Inv-loop links i₀ i = Seeking (isFree links) (length links) i
@@ -16,35 +14,27 @@ Inv-loop links i₀ i = Seeking (isFree links) (length links) i
 abbrev μ-loop : tie.MeasureT-loop
 μ-loop links i₀ i = length links - i
 
--- src/lib.rt:64:5
 loop-holds : tie.Need-loop-holds Inv-loop μ-loop
 loop-holds c = seeking-start _ _
 
--- src/lib.rt:65:12
 mul-if1 : tie.Need-mul-if1 Inv-loop μ-loop
 mul-if1 c = search needs
 
--- src/lib.rt:65:12
 shared-slice-read-if1 : tie.Need-shared-slice-read-if1 Inv-loop μ-loop
 shared-slice-read-if1 c = search needs
 
--- src/lib.rt:66:13
 returns : tie.Need-returns Inv-loop μ-loop
 returns c = seek-here _ _ _ (c .before .before .loop-test .taken) (eq-eqb _ _ (c .if1 .taken)) (c .before .before .before .loop .inv)
 
--- src/lib.rt:68:9
 add-i : tie.Need-add-i Inv-loop μ-loop
 add-i c = search needs
 
--- src/lib.rt:64:5
 loop-less : tie.Need-loop-less Inv-loop μ-loop
 loop-less c = search needs
 
--- src/lib.rt:64:5
 loop-again : tie.Need-loop-again Inv-loop μ-loop
 loop-again c = seeking-step _ _ _ (c .before .before .loop-test .taken) (ne-eqb _ _ (c .if1 .left)) (c .before .before .before .loop .inv)
 
--- src/lib.rt:60:1
 returns-2 : tie.Need-returns-2 Inv-loop μ-loop
 returns-2 c = seek-none _ _ _ (c .loop-test .left) (c .before .loop .inv)
 

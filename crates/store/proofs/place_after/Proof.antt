@@ -3,19 +3,14 @@ use Rattle.store.specs.Content.{placeAfter}
 use borrow.Author.Needs.{needs}
 use Rattle.store.proofs.place_after.Statement.{statement}
 use Rattle.store.proofs.place_after.Tie as tie
-use Rattle.store.proofs.place_after.Reads as reads
-use Rattle.store.proofs.place_after.Lts as lts
 
--- src/lib.rt:230:19
 add-result : tie.Need-add-result
 add-result c = search needs
 
--- src/lib.rt:227:1
 returns : tie.Need-returns
 unfolding placeAfter
 returns c = rw (lt-ltb _ _ (c .if1 .taken))
 
--- src/lib.rt:227:1
 returns-2 : tie.Need-returns-2
 unfolding placeAfter
 returns-2 c = rw (le-ltb _ _ (c .if1 .left))

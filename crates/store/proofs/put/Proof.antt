@@ -3,22 +3,16 @@ use lib.Seq.{set-out}
 use borrow.Author.Needs.{needs}
 use Rattle.store.proofs.put.Statement.{statement}
 use Rattle.store.proofs.put.Tie as tie
-use Rattle.store.proofs.put.Reads as reads
-use Rattle.store.proofs.put.Lts as lts
 
--- src/lib.rt:286:9
 slice-write-into : tie.Need-slice-write-into
 slice-write-into c = search needs
 
--- src/lib.rt:282:1
 same-length : tie.Need-same-length
 same-length c = search needs
 
--- src/lib.rt:282:1
 returns : tie.Need-returns
 returns c = search needs
 
--- src/lib.rt:282:1
 returns-2 : tie.Need-returns-2
 returns-2 c = sym (set-out _ _ _ (c .if1 .left))
 

@@ -12,9 +12,6 @@ use Rattle.store.specs.Find.{sameName}
 use borrow.Author.Needs.{needs}
 use Rattle.store.proofs.same_name.Statement.{statement}
 use Rattle.store.proofs.same_name.Tie as tie
-use Rattle.store.proofs.same_name.Reads as reads
-use Rattle.store.proofs.same_name.Lts as lts
-use Rattle.store.proofs.field.Reads as field-reads
 
 abbrev Inv-loop : tie.InvT-loop
 Inv-loop directory i title k₀ k = (k ≤ 8) × (allTo (λ (j : ℕ). eqb (getD (entry directory i) (2 + j) 0) (getD title j 0)) k ≡ true)
@@ -22,41 +19,32 @@ Inv-loop directory i title k₀ k = (k ≤ 8) × (allTo (λ (j : ℕ). eqb (getD
 abbrev μ-loop : tie.MeasureT-loop
 μ-loop directory i title k₀ k = 8 - k
 
--- src/lib.rt:163:5
 loop-holds : tie.Need-loop-holds Inv-loop μ-loop
 loop-holds c = (omega arith, refl)
 
--- src/lib.rt:164:32
 add-field : tie.Need-add-field Inv-loop μ-loop
 add-field c = search needs
 
--- src/lib.rt:164:12
 field-requires : tie.Need-field-requires Inv-loop μ-loop
 field-requires c κs = search needs
 
--- src/lib.rt:164:42
 array-read-if1 : tie.Need-array-read-if1 Inv-loop μ-loop
 array-read-if1 c = search needs
 
--- src/lib.rt:164:42
 cast-if1 : tie.Need-cast-if1 Inv-loop μ-loop
 cast-if1 c = search needs
 
--- src/lib.rt:165:13
 returns : tie.Need-returns Inv-loop μ-loop
 unfolding sameName
 returns c = sym (all-not (λ (j : ℕ). eqb (getD (entry (c .before .before .before .before .before .args .directory .now) (c .before .before .before .before .before .args .i)) (2 + j) 0) (getD (c .before .before .before .before .before .args .t3) j 0)) 8 (c .before .before .before .loop .k) (c .before .before .loop-test .taken)
     (ne-eqb _ _ (λ e. c .if1 .taken (c .before .field .ensures .0 ∙ e))))
 
--- src/lib.rt:167:9
 add-k : tie.Need-add-k Inv-loop μ-loop
 add-k c = search needs
 
--- src/lib.rt:163:5
 loop-less : tie.Need-loop-less Inv-loop μ-loop
 loop-less c = search needs
 
--- src/lib.rt:163:5
 loop-again : tie.Need-loop-again Inv-loop μ-loop
 loop-again c = (
   omega arith,
@@ -64,7 +52,6 @@ loop-again c = (
       (eq-eqb _ _ (sym (c .before .field .ensures .0) ∙ c .if1 .left)),
 )
 
--- src/lib.rt:159:1
 returns-2 : tie.Need-returns-2 Inv-loop μ-loop
 unfolding sameName
 returns-2 c = sym (ap (allTo (λ (j : ℕ). eqb (getD (entry (c .before .before .before .args .directory .now) (c .before .before .before .args .i)) (2 + j) 0) (getD (c .before .before .before .args .t3) j 0))) (let e : 8 ≡ c .before .loop .k = omega arith in e) ∙ c .before .loop .inv .1)

@@ -3,51 +3,37 @@ use Rattle.store.specs.Entry.{size}
 use borrow.Author.Needs.{needs}
 use Rattle.store.proofs.size_at.Statement.{statement}
 use Rattle.store.proofs.size_at.Tie as tie
-use Rattle.store.proofs.size_at.Reads as reads
-use Rattle.store.proofs.size_at.Lts as lts
-use Rattle.store.proofs.field.Reads as field-reads
 
--- src/lib.rt:105:9
 field-requires : tie.Need-field-requires
 field-requires c κs = search needs
 
--- src/lib.rt:106:9
 field-requires-2 : tie.Need-field-requires-2
 field-requires-2 c κs = search needs
 
--- src/lib.rt:107:9
 field-requires-3 : tie.Need-field-requires-3
 field-requires-3 c κs = search needs
 
--- src/lib.rt:108:9
 field-requires-4 : tie.Need-field-requires-4
 field-requires-4 c κs = search needs
 
--- src/lib.rt:109:9
 mul-result : tie.Need-mul-result
 mul-result c = search needs
 
--- src/lib.rt:109:5
 add-result : tie.Need-add-result
 add-result c = search needs
 
--- src/lib.rt:109:19
 mul-result-2 : tie.Need-mul-result-2
 mul-result-2 c = search needs
 
--- src/lib.rt:109:5
 add-result-2 : tie.Need-add-result-2
 add-result-2 c = search needs
 
--- src/lib.rt:109:31
 mul-result-3 : tie.Need-mul-result-3
 mul-result-3 c = search needs
 
--- src/lib.rt:109:5
 add-result-3 : tie.Need-add-result-3
 add-result-3 c = search needs
 
--- src/lib.rt:102:1
 returns : tie.Need-returns
 unfolding size
 returns c = omega arith
