@@ -2,7 +2,7 @@
 use mathlib.Core.Path.{_≡_, refl, sym, ap, _∙_}
 use mathlib.Core.Bool.{Bool}
 use mathlib.Core.List.{List, [], _∷_, _++_}
-use Prim.Native.Nat.{ℕ, zero, suc, _+_, _-_, _*_, _/_, _%_, _≤_, _<_}
+use Prim.Native.Nat.{ℕ, suc, _+_, _-_, _*_, _%_, _≤_, _<_}
 use native.Mathlib.Decide.{decLt}
 use native.Mathlib.Omega.{arith}
 use lib.Dec.{T}
@@ -11,7 +11,7 @@ use lib.Seq.{sets, length-sets, drop-cons}
 use Rattle.bars.specs.Tables.{rows25}
 use Rattle.bars.specs.Elements.{digits, five, woven, pairs, elements25}
 use Rattle.bars.specs.Laid.{Put, spread}
-use Rattle.bars.proofs.Lists.{length-digits, sets-append, put-digits, put-all, put-more}
+use Rattle.bars.proofs.Lists.{sets-append, put-digits, put-all, put-more}
 use Rattle.bars.proofs.Tables.{same, same-eq, below, below-at, past-rows}
 
 -- ---- two digits woven: one test over the digits and what stands past them

@@ -1,7 +1,7 @@
 -- The loops that sum the widths and draw the bars.
 -- Assumes nothing.
 use mathlib.Core.Path.{_≡_, refl, sym, ap, _∙_}
-use mathlib.Core.Bool.{Bool, true, false, not, _&&_, _||_}
+use mathlib.Core.Bool.{Bool, true, false, _&&_, _||_}
 use mathlib.Core.List.{List, [], _∷_, _++_, map}
 use Prim.Native.Nat.{ℕ, zero, suc, _+_, _*_, _≤_, _<_}
 use native.Mathlib.Decide.{decLt}
@@ -9,7 +9,6 @@ use native.Mathlib.Nat.{le-of-suc-le-suc}
 use native.Mathlib.Numerals.{add-one}
 use native.Mathlib.Omega.{arith}
 use borrow.Author.Tests.{lt-ltb, le-leb}
-use lib.Dec.{ltb, leb}
 use lib.ListN.{length, getD, take, drop, length-map, drop-of-length-le, List·getD-eq-default}
 use lib.Seq.{sets, length-sets, sets-eq, length-take-le, drop-cons, take-append-seam}
 use Rattle.dots.specs.declared.Ink.the-variants.{Black}

@@ -12,7 +12,6 @@ use lib.ListN.{length, getD, length-append, List·getD-append, List·getD-eq-def
 use lib.Seq.{getD-append-add}
 use Rattle.bars.specs.Tables.{rows128}
 use Rattle.bars.specs.Elements.{digits, each}
-use Rattle.bars.proofs.Lists.{length-each}
 
 -- ---- tests
 

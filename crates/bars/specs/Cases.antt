@@ -1,9 +1,8 @@
 -- Paper 01's proof cases 2 to 5, computed.
 -- Assumes nothing.
 use mathlib.Core.Path.{_≡_, refl}
-use mathlib.Core.Bool.{true}
-use mathlib.Core.List.{List, [], _∷_}
-use Rattle.fit.specs.declared.Kind.the-variants.{Code39, Interleaved, Ean13, Code128}
+use mathlib.Core.List.{[], _∷_}
+use Rattle.fit.specs.declared.Kind.the-variants.{Code39, Interleaved, Code128}
 use Rattle.fit.specs.Bytes.{between}
 use Rattle.fit.specs.Fit.{inClass, fitLength, fit}
 use Rattle.bars.specs.Tables.{rows128, rows39, rows25}

@@ -1,7 +1,7 @@
 // Code 128, ISO/IEC 15417, set B alone.
 ghost use mathlib.Core.Path.{_≡_};
-ghost use Prim.Native.Nat.{_+_, _-_, _*_, _≤_, _<_};
-ghost use lib.ListN.{length, getD, set, drop};
+ghost use Prim.Native.Nat.{_-_, _≤_};
+ghost use lib.ListN.{length, getD};
 ghost use lib.Seq.{sets};
 ghost use Rattle.bars.specs.Tables.{rows128};
 ghost use Rattle.bars.specs.Elements.{each, six, check128, elements128};

@@ -9,6 +9,7 @@ ghost use Rattle.dots.specs.declared.Ink;
 ghost use Rattle.dots.specs.Dots.{drawn, cut};
 ghost use Rattle.figures.specs.Figures.{placed};
 ghost use Rattle.bars.specs.Drawing.{inLimits, dotsOf, sum, bars};
+use crate::row::widened;
 use dots::Ink;
 use fit::Kind;
 
@@ -40,12 +41,6 @@ fn modules(e: u8, w: u8) -> usize
 {
     let modules = widened(w);
     modules * widened(e)
-}
-
-fn widened(b: u8) -> usize
-    ensures { λ r. ⌜ (r ≡ b) × (r ≤ 255) ⌝ }
-{
-    b as usize
 }
 
 fn narrow_or_wide(e: u8, f: u8, w: u8) -> usize

@@ -13,8 +13,8 @@ pub fn above(b: u8, k: u8) -> usize
     if b < k { 0 } else { widened(b - k) }
 }
 
-fn widened(b: u8) -> usize
-    ensures { λ r. ⌜ r ≡ b ⌝ }
+pub fn widened(b: u8) -> usize
+    ensures { λ r. ⌜ (r ≡ b) × (r ≤ 255) ⌝ }
 {
     b as usize
 }

@@ -1,5 +1,5 @@
 -- `draw` meets its contract. Assumes nothing.
-use mathlib.Core.Path.{refl, sym, _∙_}
+use mathlib.Core.Path.{sym, _∙_}
 use native.Mathlib.Omega.{arith}
 use Rattle.bars.specs.Drawing.{barsDrawn}
 use Rattle.bars.proofs.Fits.{limits}

@@ -1,6 +1,5 @@
 -- `examples` is safe. Assumes nothing.
 use Prim.Native.Nat.{_≤_, _+_, _-_}
-use native.Mathlib.Omega.{arith}
 use lib.ListN.{length}
 use borrow.Author.Needs.{needs}
 use Rattle.symbols.proofs.examples.Statement.{statement}

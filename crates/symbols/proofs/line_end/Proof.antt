@@ -1,6 +1,5 @@
 -- `line_end` meets its contract. Assumes nothing.
 use Prim.Native.Nat.{_≤_, _-_}
-use native.Mathlib.Omega.{arith}
 use lib.ListN.{length}
 use borrow.Author.Needs.{needs}
 use Rattle.symbols.proofs.line_end.Statement.{statement}

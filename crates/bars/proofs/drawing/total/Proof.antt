@@ -1,5 +1,4 @@
 -- `drawing::total` meets its contract. Assumes nothing.
-use mathlib.Core.Path.{refl}
 use mathlib.Core.List.{map}
 use Prim.Native.Nat.{_-_}
 use native.Mathlib.Omega.{arith}

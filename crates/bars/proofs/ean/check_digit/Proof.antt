@@ -1,5 +1,4 @@
 -- `ean::check_digit` meets its contract. Assumes nothing.
-use mathlib.Core.Path.{refl}
 use Prim.Native.Nat.{_-_}
 use native.Mathlib.Omega.{arith}
 use lib.ListN.{length}
