@@ -18,7 +18,7 @@ use Rattle.fields.specs.declared.Field.{Field}
 use Rattle.fields.specs.declared.Field.the-variants.{Is, Not}
 use Rattle.fields.specs.Bytes.{inClass, run, digitOf, valueFrom}
 use Rattle.fields.specs.Field.{part, runAt, numberAt, textAt, textFault, signedAt, plus, minus, letterAt, typeAt, byteAt, nought, Small}
-use Rattle.fields.proofs.Laws.{in-range, number-is, number-small, text-is, inside, and-T}
+use Rattle.fields.proofs.Laws.{in-range, above-range, number-is, number-small, text-is, inside, and-T}
 use Rattle.read.specs.Names.{capital}
 use Rattle.written.specs.Written.{digits, decimal, signed, kept, cased}
 use Rattle.written.proofs.Writes.{digits-room, digits-less, digits-last, cased-append, cased-kept}
@@ -308,3 +308,69 @@ quoted-small b h = go (decLt b 127)
     go : Dec (b < 127) → b < 127
     go (yes k) = k
     go (no k) = absurd (false≢true (sym (simp (lt-leb b 33 (omega arith), lt-leb b 126 (omega arith), and-false)) ∙ h))
+
+named-small : (b : ℕ) → inClass Named b ≡ true → b < 127
+unfolding between
+named-small b h = go (decLt b 127)
+  where
+    go : Dec (b < 127) → b < 127
+    go (yes k) = k
+    go (no k) = absurd (false≢true (sym (simp (lt-leb b 33 (omega arith), lt-leb b 41 (omega arith), lt-leb b 126 (omega arith), and-false)) ∙ h))
+
+cased-in : (k : Class) → T (holds (keeps k) 0 127) → ((b : ℕ) → inClass k b ≡ true → b < 127) → (t : Bool) (l : List ℕ) → T (allIn k l)
+    → T (allIn k (cased t l))
+unfolding cased allIn
+cased-in k h small t [] p = tt
+cased-in k h small t (b ∷ bs) p =
+    let q = and-T (inClass k b) (allIn k bs) p in
+    T-and (inClass k (cond t (capital b) b)) (allIn k (cased t bs)) (go t) (cased-in k h small t bs (q .1))
+  where
+    go : (t : Bool) → T (inClass k (cond t (capital b) b))
+    go true = true-T (inClass k (capital b)) (keeps-all k h b (small b (T-true (inClass k b) (and-T (inClass k b) (allIn k bs) p .0))) (T-true (inClass k b) (and-T (inClass k b) (allIn k bs) p .0)))
+    go false = and-T (inClass k b) (allIn k bs) p .0
+
+pub cased-quoted : (t : Bool) (l : List ℕ) → T (allIn Quoted l) → T (allIn Quoted (cased t l))
+unfolding between capital
+cased-quoted t l h = cased-in Quoted tt quoted-small t l h
+
+pub cased-named : (t : Bool) (l : List ℕ) → T (allIn Named l) → T (allIn Named (cased t l))
+unfolding between capital
+cased-named t l h = cased-in Named tt named-small t l h
+
+pub cased-length : (t : Bool) (l : List ℕ) → length (cased t l) ≡ length l
+unfolding cased
+cased-length t [] = refl
+cased-length t (b ∷ bs) = ap suc (cased-length t bs)
+
+same-twice : ℕ → Bool
+same-twice b = eqb (capital (capital b)) (capital b)
+
+capital-small : (b : ℕ) → b < 127 → capital (capital b) ≡ capital b
+unfolding same-twice capital between
+capital-small b h = eqb-true (capital (capital b)) (capital b) (T-true (same-twice b) (holds-at same-twice 127 0 b tt (omega arith) (omega arith)))
+
+capital-capital : (b : ℕ) → capital (capital b) ≡ capital b
+capital-capital b = go (decLt b 127)
+  where
+    big : (b : ℕ) → 127 ≤ b → capital b ≡ b
+    big b h = unfold capital in rw (above-range 97 122 b (omega arith))
+
+    go : Dec (b < 127) → capital (capital b) ≡ capital b
+    go (yes k) = capital-small b k
+    go (no k) = rw (big b (omega arith), big b (omega arith))
+
+pub cased-twice : (t : Bool) (l : List ℕ) → cased t (cased t l) ≡ cased t l
+unfolding cased
+cased-twice t [] = refl
+cased-twice t (b ∷ bs) = go t (cased-twice t bs)
+  where
+    go : (t : Bool) → cased t (cased t bs) ≡ cased t bs
+        → cond t (capital (cond t (capital b) b)) (cond t (capital b) b) ∷ cased t (cased t bs) ≡ cond t (capital b) b ∷ cased t bs
+    go true e = rw (capital-capital b, e)
+    go false e = ap (λ (l : List ℕ). b ∷ l) e
+
+-- a text in capitals or as it is, with its quotes
+pub cased-quotes : (t : Bool) (l : List ℕ) → cased t (34 ∷ (l ++ (34 ∷ []))) ≡ 34 ∷ (cased t l ++ (34 ∷ []))
+unfolding cased capital between
+cased-quotes true l = ap (λ (x : List ℕ). 34 ∷ x) (cased-append true l (34 ∷ []))
+cased-quotes false l = ap (λ (x : List ℕ). 34 ∷ x) (cased-append false l (34 ∷ []))

@@ -1,2 +1,3 @@
 pub mod Writes
 pub mod Back
+pub mod Data
