@@ -9,7 +9,7 @@ use native.Mathlib.Omega.{arith}
 use lib.Dec.{T, ltb, eqb}
 use lib.ListN.{length, getD, take, drop, length-append}
 use lib.Seq.{getD-append-seam, getD-append-add}
-use borrow.Author.Tests.{lt-ltb, eq-eqb, ne-eqb, eqb-true}
+use borrow.Author.Tests.{lt-ltb, ltb-true, eq-eqb, eqb-true}
 use Rattle.fit.specs.Bytes.{between}
 use Rattle.fields.specs.declared.Class.the-variants.{Digit, Quoted}
 use Rattle.fields.specs.declared.Field.{Field}
@@ -30,6 +30,7 @@ use Rattle.fields.specs.Data.{first, last, middle, middle-dot, middle-n, modifi
 use Rattle.fields.proofs.Laws.{in-range, digit-small, number-small}
 use Rattle.fields.proofs.Steps.{element-past, elements-next, elements-stop, total-next, Took, element-took}
 use Rattle.written.specs.Written.{decimal, digits, kept, partWritten, whatWritten, elementWritten, dataWritten}
+use Rattle.written.specs.Contents.{pieces}
 use Rattle.written.proofs.Writes.{digits-last}
 use Rattle.written.proofs.Back.{allIn, number-back, text-back, byte-back, number-fits, Quotes, text-fits, kept-back}
 
@@ -341,11 +342,7 @@ limits-back s i (e ∷ es) h = go (whatGood (e .what)) h (limits-back s (i + len
     go true k r = r k
     go false k r = absurd (let z : _≡_ {A = ℕ} 0 1 = cc in omega arith)
 
--- what each element is, and how it is written
-pub pieces : List ℕ → List Element → List (What × List ℕ)
-pieces s [] = []
-pieces s (e ∷ es) = (e .what, elementWritten s e) ∷ pieces s es
-
+-- what each element is, and how it is written, stays
 pub pieces-back : {s : List ℕ} {at : ℕ} {es : List Element} (pre : List ℕ) → Chain s at es
     → pieces (pre ++ dataWritten s es) (moved s (length pre) es) ≡ pieces s es
 unfolding pieces dataWritten
@@ -356,3 +353,19 @@ pieces-back {s} {at} pre (then {e = e} {es = es} f c) =
     let r = pieces-back (pre ++ w) c in
     let q : pieces (pre ++ (w ++ rest)) (moved s (length pre + length w) es) ≡ pieces s es = rw (append-assoc pre w rest, length-append pre w) at r in
     rw (element-again s at e pre rest f, q)
+
+-- data that was read starts within the line
+pub data-inside : (s : List ℕ) (at v e : ℕ) → dataAt s at ≡ Is v e → (v ≡ 0) × (at < length s)
+unfolding dataAt
+data-inside s at v e h =
+    go (ltb at (at + total (elements s at))) (eqb (at + total (elements s at)) (length s)) refl refl h
+  where
+    go : (a b : Bool) → ltb at (at + total (elements s at)) ≡ a → eqb (at + total (elements s at)) (length s) ≡ b
+        → cond (a && b) (Is 0 (at + total (elements s at))) (Not (stopped (at + total (elements s at)) (elementAt s (at + total (elements s at))))) ≡ Is v e
+        → (v ≡ 0) × (at < length s)
+    go true true p q k =
+        let l = ltb-true at (at + total (elements s at)) p in
+        let r = eqb-true (at + total (elements s at)) (length s) q in
+        (cc, omega arith)
+    go true false p q k = absurd (let z : _≡_ {A = ℕ} 0 1 = cc in omega arith)
+    go false b p q k = absurd (let z : _≡_ {A = ℕ} 0 1 = cc in omega arith)

@@ -1,3 +1,4 @@
 pub mod Writes
 pub mod Back
 pub mod Data
+pub mod Fields
