@@ -94,7 +94,7 @@ digits-value (suc f) n acc h = go (decLt n 10) (digits-value f (n / 10) ((48 + n
 digit-class : (n : ℕ) → n < 10 → inClass Digit (48 + n) ≡ true
 digit-class n h = in-range 48 57 (48 + n) (omega arith) (omega arith)
 
-digits-class : (f n : ℕ) (acc : List ℕ) → n < 10 ^ (f + 1) → T (allIn Digit acc) → T (allIn Digit (digits f n acc))
+pub digits-class : (f n : ℕ) (acc : List ℕ) → n < 10 ^ (f + 1) → T (allIn Digit acc) → T (allIn Digit (digits f n acc))
 unfolding digits allIn
 digits-class zero n acc h t = T-and (inClass Digit (48 + n)) (allIn Digit acc) (true-T (inClass Digit (48 + n)) (digit-class n h)) t
 digits-class (suc f) n acc h t = go (decLt n 10) (digits-class f (n / 10) ((48 + n % 10) ∷ acc))

@@ -2,3 +2,4 @@ pub mod Writes
 pub mod Back
 pub mod Data
 pub mod Fields
+pub mod Round
