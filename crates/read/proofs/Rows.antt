@@ -282,7 +282,7 @@ padded ws h k =
     ap (λ (l : List ℕ). getD l k 0) (sets-eq ws zeros 0 (omega arith))
     ∙ append-blank ws (drop (0 + length ws) zeros) (λ j. getD-drop (0 + length ws) zeros j 0 ∙ blank-at 18 (0 + length ws + j)) k
 
-same-drop : (vs ws : List ℕ) → Same vs ws → Same (drop 1 vs) (drop 1 ws)
+pub same-drop : (vs ws : List ℕ) → Same vs ws → Same (drop 1 vs) (drop 1 ws)
 same-drop vs ws h k = getD-drop 1 vs k 0 ∙ h (1 + k) ∙ sym (getD-drop 1 ws k 0)
 
 limits-same : (fs : List ℕ) (ls : List (ℕ × ℕ)) (s : List ℕ) (u : ℕ) (vs ws ps qs : List ℕ) → Same vs ws → Same ps qs

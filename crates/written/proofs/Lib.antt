@@ -1,0 +1,5 @@
+pub mod Writes
+pub mod Back
+pub mod Data
+pub mod Fields
+pub mod Round
