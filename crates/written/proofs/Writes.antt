@@ -1,6 +1,6 @@
 -- Laws on what is written.
 use mathlib.Core.Path.{_≡_, _∙_, refl, sym, ap}
-use mathlib.Core.Bool.{Bool, true, false, cond}
+use mathlib.Core.Bool.{Bool, true, false, cond, and-false}
 use mathlib.Core.List.{List, [], _∷_, _++_}
 use Prim.Native.Nat.{ℕ, zero, suc, _+_, _-_, _*_, _/_, _%_, _^_, _≤_, _<_, min}
 use native.Mathlib.Nat.{add-zero, pow-suc}
@@ -8,9 +8,9 @@ use native.Mathlib.Numerals.{add-one}
 use native.Mathlib.Omega.{arith}
 use native.Mathlib.Decide.{decLt}
 use lib.Dec.{ltb}
-use lib.ListN.{length, getD, set, take, drop, length-append, length-set, length-drop, drop-of-length-le}
-use lib.Seq.{sets, length-sets, take-all, drop-cons, drop-drop, getD-drop, drop-set-lt, getD-set-same, take-suc, set-out}
-use borrow.Author.Tests.{lt-ltb, le-ltb}
+use lib.ListN.{length, getD, set, take, drop, length-append, length-set, length-take, length-drop, drop-of-length-le}
+use lib.Seq.{sets, sets-eq, length-sets, take-append-seam, take-all, drop-cons, drop-drop, getD-drop, drop-set-lt, getD-set-same, take-suc, set-out}
+use borrow.Author.Tests.{lt-ltb, le-ltb, eq-eqb, ne-eqb}
 use Rattle.fields.specs.Data.{elementAt, elements, after}
 use Rattle.fields.specs.declared.Element.{Element}
 use Rattle.fields.specs.declared.Step.the-variants.{Next, Stop}
@@ -20,7 +20,7 @@ use Rattle.read.specs.Names.{capital}
 use Rattle.read.specs.declared.Fields.{Fields}
 use Rattle.read.specs.declared.Fields.the-variants.{All, Bad}
 use Rattle.read.proofs.Rows.{Same, same-drop, zeros, padded, fields-count, row-short}
-use Rattle.written.specs.Written.{Wrote, digits, cased, kept, writtenField, writtenFrom, writtenOf, elementWritten, dataWritten}
+use Rattle.written.specs.Written.{Wrote, digits, cased, kept, writtenField, writtenFrom, writtenOf, elementWritten, dataWritten, equal}
 
 -- ---- storing one list after another
 
@@ -194,3 +194,40 @@ data-next s i e h = rw (elements-next s i e h)
 pub data-stop : (s : List ℕ) (i p : ℕ) → elementAt s i ≡ Stop p → dataWritten s (elements s i) ≡ []
 unfolding dataWritten
 data-stop s i p h = rw (elements-stop s i p h)
+
+-- ---- equal lists
+
+pub equal-more : (a b : List ℕ) (i : ℕ) → i < length a → i < length b → getD a i 0 ≡ getD b i 0
+    → equal (drop i a) (drop i b) ≡ equal (drop (i + 1) a) (drop (i + 1) b)
+unfolding equal
+equal-more a b i h k e = rw (add-one, drop-cons a i 0 h, drop-cons b i 0 k, eq-eqb (getD a i 0) (getD b i 0) e)
+
+pub equal-stop : (a b : List ℕ) (i : ℕ) → i < length a → i < length b → (getD a i 0 ≡ getD b i 0 → ⊥) → equal (drop i a) (drop i b) ≡ false
+unfolding equal
+equal-stop a b i h k e = rw (drop-cons a i 0 h, drop-cons b i 0 k, ne-eqb (getD a i 0) (getD b i 0) e)
+
+pub equal-end : (a b : List ℕ) (i : ℕ) → length a ≤ i → length b ≤ i → equal (drop i a) (drop i b) ≡ true
+unfolding equal
+equal-end a b i h k = rw (drop-of-length-le a h, drop-of-length-le b k)
+
+pub equal-lengths : (a b : List ℕ) → (length a ≡ length b → ⊥) → equal a b ≡ false
+unfolding equal
+equal-lengths [] [] h = absurd (h refl)
+equal-lengths [] (y ∷ ys) h = refl
+equal-lengths (x ∷ xs) [] h = refl
+equal-lengths (x ∷ xs) (y ∷ ys) h = rw (equal-lengths xs ys (λ e. h (ap suc e))) (simp and-false)
+
+-- what was written into 256 bytes, compared with at most 255
+pub equal-written : (z xs o s : List ℕ) (n : ℕ) → length z ≡ 256 → Wrote z 0 xs n o → length s ≤ 255 → equal (take n o) s ≡ equal xs s
+equal-written z xs o s n l w k = go (decLt 256 (length xs))
+  where
+    go : Dec (256 < length xs) → equal (take n o) s ≡ equal xs s
+    go (no h) =
+        let e : n ≡ length xs = (let p = w .place in omega arith) in
+        let q : o ≡ xs ++ drop (0 + length xs) z = w .stored ∙ sets-eq xs z 0 (omega arith) in
+        ap (λ (x : List ℕ). equal x s) (rw (q, e) (take-append-seam xs (drop (0 + length xs) z)))
+    go (yes h) =
+        let e : n ≡ 256 = (let p = w .place in omega arith) in
+        let q : length o ≡ 256 = wrote-length w ∙ l in
+        let t : length (take n o) ≡ 256 = (let m = length-take n o in omega arith) in
+        equal-lengths (take n o) s (λ x. omega arith) ∙ sym (equal-lengths xs s (λ x. omega arith))

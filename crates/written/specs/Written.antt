@@ -7,7 +7,7 @@ use mathlib.Core.List.{List, [], _∷_, _++_}
 use mathlib.Core.Path.{_≡_}
 use lib.ListN.{length, getD, take, drop}
 use lib.Seq.{sets}
-use lib.Dec.{ltb, eqb}
+use lib.Dec.{leb, ltb, eqb}
 use Rattle.fields.specs.Field.{nought}
 use Rattle.fields.specs.Data.{elements}
 use Rattle.fields.specs.declared.Part.{Part}
@@ -17,6 +17,30 @@ use Rattle.fields.specs.declared.What.the-variants.{Text, Variable, Counter}
 use Rattle.fields.specs.declared.Element.{Element}
 use Rattle.read.specs.Grammar.{Form, Got, good, bad, rowOf, headOf, fieldsFrom}
 use Rattle.read.specs.Names.{capital}
+use Rattle.read.specs.Commands.{readOf}
+use Rattle.read.specs.declared.Command.{Command}
+use Rattle.read.specs.declared.Command.the-variants.{
+  Item as item,
+  Length,
+  Width,
+  Turn,
+  Start,
+  End,
+  Retrieve,
+  EraseForm,
+  ListForms,
+  PrintForm,
+  Store,
+  ListPictures,
+  ErasePicture,
+  SetVariable,
+  SetCounter,
+  Clear,
+  Print,
+  White as Whiten,
+}
+use Rattle.read.specs.declared.Read.{Read}
+use Rattle.read.specs.declared.Read.the-variants.{Taken, Refused}
 use Rattle.read.specs.declared.Head.{Head}
 use Rattle.read.specs.declared.Head.the-variants.{Row, Unknown}
 
@@ -94,3 +118,39 @@ normal s = headWritten (headOf (getD s 0 0) (getD s 1 0)) s
 pub record Wrote (out : List ℕ) (at : ℕ) (xs : List ℕ) (r : ℕ) (o : List ℕ) : Type 0 where
   pub place : r ≡ min (at + length xs) (length out)
   pub stored : o ≡ sets out at xs
+
+-- ---- lines that may stand in a form as they are
+
+abbrev pub isItem : Command → Bool
+isItem (item i) = true
+isItem (Length x) = false
+isItem (Width x) = false
+isItem (Turn x) = false
+isItem (Start x) = false
+isItem End = false
+isItem (Retrieve x) = false
+isItem (EraseForm x) = false
+isItem ListForms = false
+isItem (PrintForm x) = false
+isItem (Store x) = false
+isItem ListPictures = false
+isItem (ErasePicture x) = false
+isItem (SetVariable x) = false
+isItem (SetCounter x) = false
+isItem Clear = false
+isItem (Print x) = false
+isItem Whiten = false
+
+abbrev pub takenItem : Read → Bool
+takenItem (Taken c) = isItem c
+takenItem (Refused f) = false
+
+unfoldable pub equal : List ℕ → List ℕ → Bool
+equal [] [] = true
+equal [] (y ∷ ys) = false
+equal (x ∷ xs) [] = false
+equal (x ∷ xs) (y ∷ ys) = eqb x y && equal xs ys
+
+-- at most 255 bytes, one of the lines that may stand in a form, and its own normal form (no such line depends on the rows of the page)
+unfoldable pub isNormal : List ℕ → Bool
+isNormal s = leb (length s) 255 && (takenItem (readOf 1 s) && equal (normal s) s)

@@ -12,19 +12,23 @@ ghost use lib.ListN.{length, getD};
 ghost use lib.Dec.{eqb};
 ghost use Rattle.fields.specs.Data.{elements};
 ghost use Rattle.read.specs.Names.{capital};
+ghost use Rattle.read.specs.Commands.{readOf};
 ghost use Rattle.read.specs.Grammar.{rowOf, Form};
-ghost use Rattle.written.specs.Written.{Wrote, decimal, digits, signed, cased, kept, partWritten, whatWritten, elementWritten, dataWritten, writtenField, writtenFrom, normal};
+ghost use Rattle.written.specs.Written.{Wrote, decimal, digits, signed, cased, kept, partWritten, whatWritten, elementWritten, dataWritten, writtenField, writtenFrom, normal, isItem, takenItem, equal, isNormal};
 use fields::Part;
 use fields::Step;
 use fields::What;
 use fields::element_at;
+use read::Command;
 use read::Fields;
 use read::Head;
+use read::Read;
 use read::heads::head_of;
 use read::input::first;
 use read::input::rest;
 use read::lines::read_fields;
 use read::names::folded;
+use read::read_line;
 use read::table::shape;
 
 // Stores a byte, if there is room, and answers the place after it.
@@ -239,4 +243,69 @@ pub fn write(line: &[u8], out: &mut [u8]) -> usize
         return 0;
     }
     put_row(line, row, vs, ps, out)
+}
+
+fn same(a: &[u8], b: &[u8]) -> bool
+    ensures { λ r. ⌜ r ≡ equal (now (a .entry)) (now (b .entry)) ⌝ }
+{
+    if a.len() != b.len() {
+        return false;
+    }
+    let mut i = 0;
+    while i < a.len() {
+        if a[i] != b[i] {
+            return false;
+        }
+        i += 1;
+    }
+    true
+}
+
+fn is_item(command: Command) -> bool
+    ensures { λ r. ⌜ r ≡ isItem command ⌝ }
+{
+    match command {
+        Command::Item(_) => true,
+        Command::Length(_) => false,
+        Command::Width(_) => false,
+        Command::Turn(_) => false,
+        Command::Start(_) => false,
+        Command::End => false,
+        Command::Retrieve(_) => false,
+        Command::EraseForm(_) => false,
+        Command::ListForms => false,
+        Command::PrintForm(_) => false,
+        Command::Store(_) => false,
+        Command::ListPictures => false,
+        Command::ErasePicture(_) => false,
+        Command::SetVariable(_) => false,
+        Command::SetCounter(_) => false,
+        Command::Clear => false,
+        Command::Print(_) => false,
+        Command::White => false,
+    }
+}
+
+fn is_taken(line: &[u8]) -> bool
+    ensures { λ r. ⌜ r ≡ takenItem (readOf 1 (now (line .entry))) ⌝ }
+{
+    let Read::Taken(command) = read_line(line, 1) else {
+        return false;
+    };
+    is_item(command)
+}
+
+// Whether a line may stand in a form as it is: one of at most 255 bytes that may be recorded, and its own normal form.
+pub fn is_normal(line: &[u8]) -> bool
+    ensures { λ r. ⌜ r ≡ isNormal (now (line .entry)) ⌝ }
+{
+    if 255 < line.len() {
+        return false;
+    }
+    if is_taken(line) {
+        let mut out = [0u8; 256];
+        let n = write(line, &mut out);
+        return same(first(&out, n), line);
+    }
+    false
 }
