@@ -62,6 +62,10 @@ wrote-then {out} {o} {o′} {xs} {ys} {at} {r} {r′} w u =
         rw (e, w .stored, sets-append xs ys out at)
         (sets-past ys (sets out at xs) (length out) (omega arith) ∙ sym (sets-past ys (sets out at xs) (at + length xs) (omega arith)))
 
+-- past the end nothing is stored
+pub wrote-past : (xs out : List ℕ) (at : ℕ) → length out < at → Wrote out at xs (length out) out
+wrote-past xs out at h = record { place = omega arith; stored = sym (sets-past xs out at (omega arith)) }
+
 pub wrote-same : {out o xs ys : List ℕ} {at r : ℕ} → Wrote out at xs r o → xs ≡ ys → Wrote out at ys r o
 wrote-same w e = rw e at w
 

@@ -230,6 +230,16 @@ fn put_row(line: &[u8], row: usize, vs: [usize; 18], ps: [usize; 18], out: &mut 
     place
 }
 
+// Writes a number in decimal, as far as it fits, and answers the place after it.
+pub fn put_decimal(n: usize, out: &mut [u8], at: usize) -> usize
+    ensures { λ r. ⌜ Wrote (now (out .entry)) at (decimal n) r (now (out .exit)) ⌝ }
+{
+    if out.len() < at {
+        return out.len();
+    }
+    put_number(n, out, at)
+}
+
 // Writes the normal form of a line, without LF, as far as it fits, and answers how many bytes were written.
 pub fn write(line: &[u8], out: &mut [u8]) -> usize
     ensures { λ r. ⌜ Wrote (now (out .entry)) 0 (normal (now (line .entry))) r (now (out .exit)) ⌝ }

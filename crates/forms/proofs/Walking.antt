@@ -1,0 +1,206 @@
+-- A reader that goes along a form's lines, and the walks over a form.
+-- Assumes nothing.
+use mathlib.Core.Path.{_≡_, refl, sym, ap, _∙_}
+use mathlib.Core.Bool.{Bool, true, false, cond, _&&_}
+use mathlib.Core.List.{List, [], _∷_}
+use Prim.Native.Nat.{ℕ, zero, suc, _+_, _-_, _≤_, _<_}
+use native.Mathlib.Omega.{arith}
+use native.Mathlib.Decide.{decLe}
+use lib.ListN.{length, take, drop}
+use lib.Seq.{sets, take-all}
+use lib.Dec.{eqb, ltb}
+use borrow.Author.Tests.{eq-eqb, ne-eqb, lt-ltb, le-ltb}
+use Rattle.cells.proofs.Counts.{drop-none}
+use Rattle.cells.proofs.Sets.{sets-front}
+use Rattle.store.specs.declared.Cursor.{Cursor}
+use Rattle.store.specs.declared.Next.{Next}
+use Rattle.store.specs.declared.Next.the-variants.{Line, End, Bad}
+use Rattle.store.specs.Content.{bytesFrom, contentOf, content, ahead, onward, after}
+use Rattle.store.specs.Lines.{linesOf, lineOf, pickNext, nextLine, lined}
+use Rattle.store.proofs.Reading.{length-bytes, length-ahead, ahead-after}
+use Rattle.store.proofs.Lines.{line-most}
+use Rattle.values.specs.declared.declarations.Declared.{Declared}
+use Rattle.forms.specs.declared.running.Walk.{Walk}
+use Rattle.forms.specs.Form.{itemIn, takes, declaring, takesAll, declaredBy, hasStored, hasAll, formOk, declaredOf, picturesStored}
+use Rattle.forms.specs.Walk.{lineIn, behind, started, restOk, walkOk, walkDeclared, walkHas}
+use Rattle.forms.proofs.Bytes.{and-true, and-assoc}
+use Rattle.forms.proofs.Folding.{behind-none, behind-less, behind-tail, line-good, line-long, line-cut, rest-step, declared-step, has-step}
+
+-- ---- what the next line says
+
+module _ (store links : List ℕ) (c : Cursor) where
+  abbrev a : List ℕ
+  a = ahead store links c
+
+  abbrev n₀ : ℕ
+  n₀ = length (lineOf a)
+
+  is-long : 255 < n₀ → nextLine store links c ≡ Bad
+  unfolding nextLine
+  is-long h = rw (lt-ltb 255 n₀ h)
+
+  is-line : n₀ ≤ 255 → n₀ < c .left → nextLine store links c ≡ Line n₀ (after links c (suc n₀))
+  unfolding nextLine
+  is-line h k = rw (le-ltb 255 n₀ h, lt-ltb n₀ (c .left) k)
+
+  is-end : c .left ≡ 0 → nextLine store links c ≡ End
+  unfolding nextLine
+  is-end e =
+      rw (le-ltb 255 n₀ (omega (arith, line-most a, length-ahead store links c)), le-ltb n₀ (c .left) (omega (arith, e)), eq-eqb (c .left) 0 e)
+
+  is-cut : n₀ ≤ 255 → c .left ≤ n₀ → (c .left ≡ 0 → ⊥) → nextLine store links c ≡ Bad
+  unfolding nextLine
+  is-cut h k e = rw (le-ltb 255 n₀ h, le-ltb n₀ (c .left) k, ne-eqb (c .left) 0 e)
+
+  pub record Found (n : ℕ) (c′ : Cursor) : Type 0 where
+    pub size : n ≡ n₀
+    pub few : n₀ ≤ 255
+    pub within : n₀ < c .left
+    pub place : c′ ≡ after links c (suc n₀)
+
+  pub line-says : (n : ℕ) (c′ : Cursor) → nextLine store links c ≡ Line n c′ → Found n c′
+  line-says n c′ e = go (decLe n₀ 255) (decLe (suc n₀) (c .left)) (decLe (c .left) 0)
+    where
+      go : Dec (n₀ ≤ 255) → Dec (suc n₀ ≤ c .left) → Dec (c .left ≤ 0) → Found n c′
+      go (yes h) (yes k) z =
+          let q : Line n₀ (after links c (suc n₀)) ≡ Line n c′ = sym (is-line h (omega arith)) ∙ e in
+          record { size = let m : n ≡ n₀ = cc in m; few = h; within = omega arith; place = let m : c′ ≡ after links c (suc n₀) = cc in m }
+      go (no h) k z = let q : Bad ≡ Line n c′ = sym (is-long (omega arith)) ∙ e in absurd (let y : _≡_ {A = ℕ} 0 1 = cc in let w : ⊥ = omega arith in w)
+      go (yes h) (no k) (yes z) = let q : End ≡ Line n c′ = sym (is-end (omega arith)) ∙ e in absurd (let y : _≡_ {A = ℕ} 0 1 = cc in let w : ⊥ = omega arith in w)
+      go (yes h) (no k) (no z) =
+          let q : Bad ≡ Line n c′ = sym (is-cut h (omega arith) (λ (y : c .left ≡ 0). omega arith)) ∙ e in
+          absurd (let y : _≡_ {A = ℕ} 0 1 = cc in let w : ⊥ = omega arith in w)
+
+  pub end-says : nextLine store links c ≡ End → c .left ≡ 0
+  end-says e = go (decLe n₀ 255) (decLe (suc n₀) (c .left)) (decLe (c .left) 0)
+    where
+      go : Dec (n₀ ≤ 255) → Dec (suc n₀ ≤ c .left) → Dec (c .left ≤ 0) → c .left ≡ 0
+      go h k (yes z) = omega arith
+      go (no h) k (no z) = let q : Bad ≡ End = sym (is-long (omega arith)) ∙ e in absurd (let y : _≡_ {A = ℕ} 0 1 = cc in let w : ⊥ = omega arith in w)
+      go (yes h) (yes k) (no z) =
+          let q : Line n₀ (after links c (suc n₀)) ≡ End = sym (is-line h (omega arith)) ∙ e in
+          absurd (let y : _≡_ {A = ℕ} 0 1 = cc in let w : ⊥ = omega arith in w)
+      go (yes h) (no k) (no z) =
+          let q : Bad ≡ End = sym (is-cut h (omega arith) (λ (y : c .left ≡ 0). omega arith)) ∙ e in
+          absurd (let y : _≡_ {A = ℕ} 0 1 = cc in let w : ⊥ = omega arith in w)
+
+  -- no line that a form may have: bytes are there, and none of them is taken
+  pub bad-says : nextLine store links c ≡ Bad → (0 < n₀) × (lineIn a ≡ [])
+  bad-says e = go (decLe n₀ 255) (decLe (suc n₀) (c .left)) (decLe (c .left) 0)
+    where
+      go : Dec (n₀ ≤ 255) → Dec (suc n₀ ≤ c .left) → Dec (c .left ≤ 0) → (0 < n₀) × (lineIn a ≡ [])
+      go (no h) k z = (omega arith, line-long a (omega arith))
+      go (yes h) (yes k) z =
+          let q : Line n₀ (after links c (suc n₀)) ≡ Bad = sym (is-line h (omega arith)) ∙ e in
+          absurd (let y : _≡_ {A = ℕ} 0 1 = cc in let w : ⊥ = omega arith in w)
+      go (yes h) (no k) (yes z) = let q : End ≡ Bad = sym (is-end (omega arith)) ∙ e in absurd (let y : _≡_ {A = ℕ} 0 1 = cc in let w : ⊥ = omega arith in w)
+      go (yes h) (no k) (no z) = (omega arith, line-cut a (omega (arith, length-ahead store links c)))
+
+  -- ---- what is ahead then
+
+  pub line-behind : (n : ℕ) (c′ : Cursor) → nextLine store links c ≡ Line n c′ → ahead store links c′ ≡ behind a
+  unfolding behind
+  line-behind n c′ e =
+      let f = line-says n c′ e in
+      ap (ahead store links) (f .place) ∙ ahead-after store links c (suc n₀) (omega (arith, f .within))
+
+  pub end-behind : nextLine store links c ≡ End → a ≡ behind a
+  unfolding behind
+  end-behind e =
+      let z = end-says e in
+      drop-none a 0 (omega (arith, length-ahead store links c)) ∙ sym (drop-none a (suc n₀) (omega (arith, length-ahead store links c)))
+
+  pub bad-behind : nextLine store links c ≡ Bad → behind (ahead store links (onward links c)) ≡ behind a
+  unfolding after
+  bad-behind e =
+      let b = bad-says e in
+      ap behind (ahead-after store links c 1 (omega (arith, b .0, line-most a, length-ahead store links c))) ∙ behind-tail a (b .0)
+
+  pub bad-less : nextLine store links c ≡ Bad → suc (c .left - 1) ≤ c .left
+  bad-less e = omega (arith, bad-says e .0, line-most a, length-ahead store links c)
+
+  -- ---- the line at the front of a buffer
+
+  pub line-front : (n : ℕ) (c′ : Cursor) (buffer buffer′ : List ℕ) → length buffer ≡ 256 → nextLine store links c ≡ Line n c′
+      → buffer′ ≡ lined store links c buffer → take n buffer′ ≡ lineIn a
+  unfolding lined
+  line-front n c′ buffer buffer′ l e b =
+      let f = line-says n c′ e in
+      rw (b, f .size, take-all 255 (lineOf a) (f .few))
+      (sets-front buffer (lineOf a) (omega (arith, f .few)) ∙ sym (line-good a (omega (arith, f .within, length-ahead store links c)) (f .few)))
+
+  pub end-front : nextLine store links c ≡ End → [] ≡ lineIn a
+  end-front e = sym (line-cut a (omega (arith, end-says e, length-ahead store links c)))
+
+-- ---- a search for the end of a line
+
+pub search-goes : (g : Bool) (x y z : List ℕ) → g ≡ true → cond g x y ≡ z → x ≡ z
+search-goes true x y z h e = e
+search-goes false x y z h e = absurd (let y : _≡_ {A = ℕ} 0 1 = cc in let w : ⊥ = omega arith in w)
+
+pub search-ends : (g : Bool) (x y z : List ℕ) → g ≡ false → cond g x y ≡ z → y ≡ z
+search-ends false x y z h e = e
+search-ends true x y z h e = absurd (let y : _≡_ {A = ℕ} 0 1 = cc in let w : ⊥ = omega arith in w)
+
+pub search-less : (g : Bool) (m n : ℕ) → g ≡ true → m ≤ n → m < cond g (suc n) 0
+search-less true m n h k = omega arith
+search-less false m n h k = absurd (let y : _≡_ {A = ℕ} 0 1 = cc in let w : ⊥ = omega arith in w)
+
+-- ---- a line more of a walk
+
+module _ (store links : List ℕ) (p at left p′ at′ left′ : ℕ) (line : List ℕ) (h : 0 < left)
+    (here : line ≡ lineIn (bytesFrom store links p at left)) (there : bytesFrom store links p′ at′ left′ ≡ behind (bytesFrom store links p at left)) where
+  abbrev b : List ℕ
+  b = bytesFrom store links p at left
+
+  some : 0 < length b
+  some = omega (arith, length-bytes store links p at left)
+
+  pub walk-less : left′ < left
+  walk-less =
+      let e : length (bytesFrom store links p′ at′ left′) ≡ length (behind b) = ap length there in
+      omega (arith, e, behind-less b some, length-bytes store links p at left, length-bytes store links p′ at′ left′)
+
+  pub walk-ok : (d d′ : Declared) (g g′ s : Bool) → d′ ≡ declaring d line → s ≡ takes d line → g′ ≡ (g && s)
+      → (g′ && restOk d′ (bytesFrom store links p′ at′ left′)) ≡ (g && restOk d b)
+  walk-ok d d′ g g′ s ed es eg =
+      rw (eg, es, ed, there, here)
+      (and-assoc g (takes d (lineIn b)) (restOk (declaring d (lineIn b)) (behind b)) ∙ ap (λ (x : Bool). g && x) (rest-step d b some))
+
+  pub walk-declared : (d d′ : Declared) → d′ ≡ declaring d line → declaredBy d′ (linesOf (bytesFrom store links p′ at′ left′) .whole) ≡ declaredBy d (linesOf b .whole)
+  walk-declared d d′ ed = rw (ed, there, here) (declared-step d b)
+
+  pub walk-has : (directory : List ℕ) (g g′ s : Bool) → s ≡ hasStored directory line (itemIn line) → g′ ≡ (g && s)
+      → (g′ && hasAll directory (linesOf (bytesFrom store links p′ at′ left′) .whole)) ≡ (g && hasAll directory (linesOf b .whole))
+  walk-has directory g g′ s es eg = rw (eg, es, there, here) (has-step directory g b)
+
+-- ---- a walk from start to end
+
+module _ (store links directory : List ℕ) (i : ℕ) (w : Walk) (e : w ≡ started links directory i) where
+  pub ok-start : walkOk store links w ≡ formOk (content store links directory i)
+  unfolding formOk restOk contentOf
+  ok-start = rw e
+
+  pub declared-start : walkDeclared store links w ≡ declaredOf (content store links directory i)
+  unfolding declaredOf contentOf
+  declared-start = rw e
+
+  pub has-start : walkHas store links directory w ≡ picturesStored directory (content store links directory i)
+  unfolding picturesStored contentOf
+  has-start = rw e
+
+module _ (store links : List ℕ) (p at : ℕ) where
+  pub ok-end : (left : ℕ) (d : Declared) (g : Bool) → left ≤ 0 → g ≡ (g && restOk d (bytesFrom store links p at left))
+  unfolding bytesFrom restOk linesOf takesAll
+  ok-end zero d g h = sym (and-true g)
+  ok-end (suc left) d g h = absurd (omega arith)
+
+  pub declared-end : (left : ℕ) (d : Declared) → left ≤ 0 → d ≡ declaredBy d (linesOf (bytesFrom store links p at left) .whole)
+  unfolding bytesFrom linesOf declaredBy
+  declared-end zero d h = refl
+  declared-end (suc left) d h = absurd (omega arith)
+
+  pub has-end : (left : ℕ) (directory : List ℕ) (g : Bool) → left ≤ 0 → g ≡ (g && hasAll directory (linesOf (bytesFrom store links p at left) .whole))
+  unfolding bytesFrom linesOf hasAll
+  has-end zero directory g h = sym (and-true g)
+  has-end (suc left) directory g h = absurd (omega arith)

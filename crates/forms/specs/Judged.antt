@@ -1,0 +1,72 @@
+-- "A recorded line is checked and kept": what recording answers for an item, after the declarations of the lines before it, and what is
+-- declared after it.
+-- Assumes nothing.
+use Prim.Native.Nat.{ℕ, min}
+use mathlib.Core.Bool.{Bool, true, false, cond}
+use mathlib.Core.List.{List}
+use Rattle.fit.specs.declared.Kind.{Kind}
+use Rattle.fit.specs.declared.Kind.the-variants.{Shown}
+use Rattle.values.specs.declared.declarations.Declared.{Declared}
+use Rattle.fitness.specs.declared.answers.DataAnswer.{DataAnswer}
+use Rattle.fitness.specs.declared.answers.DataAnswer.the-variants.{Good, Undeclared as NotDeclared, Past as Reaches}
+use Rattle.values.specs.Declarations.{variableDeclared, counterDeclared, withVariable, withCounter}
+use Rattle.fields.specs.Data.{elements}
+use Rattle.fitness.specs.Answers.{dataAnswer}
+use Rattle.fitness.specs.Summary.{judged as fitAlways}
+use Rattle.read.specs.declared.Item.{Item}
+use Rattle.read.specs.declared.Item.the-variants.{Origin, Variable, Counter, Text, Bars, Box, Frame, Picture}
+use Rattle.forms.specs.declared.Verdict.{Verdict}
+use Rattle.forms.specs.declared.Verdict.the-variants.{Taken, Again, Undeclared, Past, Unfit}
+
+abbrev pub pickVerdict : Bool → Verdict → Verdict → Verdict
+pickVerdict true a b = a
+pickVerdict false a b = b
+
+-- [13] "variable or counter not declared", [14] "a modifier reaches past the declared length", [15] "unfit data", in the table's order
+abbrev pub ofData : DataAnswer → Bool → Verdict
+ofData NotDeclared fit = Undeclared
+ofData Reaches fit = Past
+ofData Good fit = pickVerdict fit Taken Unfit
+
+abbrev pub judgedData : Declared → List ℕ → ℕ → Kind → Verdict
+judgedData d line at kind = ofData (dataAnswer d (elements line at)) (fitAlways line d (elements line at) kind)
+
+-- [12] "declared before in this form": V and C numbers are separate. An item that neither declares nor shows data is taken
+unfoldable pub judged : Declared → List ℕ → Item → Verdict
+judged d line (Origin o) = Taken
+judged d line (Variable v) = pickVerdict (variableDeclared d (v .n)) Again Taken
+judged d line (Counter c) = pickVerdict (counterDeclared d (c .n)) Again Taken
+judged d line (Text t) = judgedData d line (t .at) Shown
+judged d line (Bars b) = judgedData d line (b .at) (b .kind)
+judged d line (Box r) = Taken
+judged d line (Frame f) = Taken
+judged d line (Picture p) = Taken
+
+-- what is declared after an item; "s with or without sign, -99999 to +99999": a step that goes further, which no line has, counts as 99,999
+unfoldable pub declares : Declared → Item → Declared
+declares d (Origin o) = d
+declares d (Variable v) = withVariable d (v .n) (v .m) (v .j)
+declares d (Counter c) = withCounter d (c .n) (c .w) (c .minus) (min (c .step) 99999)
+declares d (Text t) = d
+declares d (Bars b) = d
+declares d (Box r) = d
+declares d (Frame f) = d
+declares d (Picture p) = d
+
+-- "otherwise all but V, C and FE": an item that has a place in a form alone
+unfoldable pub declaration : Item → Bool
+declaration (Origin o) = false
+declaration (Variable v) = true
+declaration (Counter c) = true
+declaration (Text t) = false
+declaration (Bars b) = false
+declaration (Box r) = false
+declaration (Frame f) = false
+declaration (Picture p) = false
+
+abbrev pub isTaken : Verdict → Bool
+isTaken Taken = true
+isTaken Again = false
+isTaken Undeclared = false
+isTaken Past = false
+isTaken Unfit = false

@@ -1,0 +1,4 @@
+pub mod Judged
+pub mod Form
+pub mod Draw
+pub mod Walk

@@ -1,0 +1,136 @@
+// An item judged as recording does, what it declares, and whether its picture is stored.
+ghost use mathlib.Core.Path.{_≡_};
+ghost use mathlib.Core.Bool.{true};
+ghost use Prim.Native.Nat.{min};
+ghost use Rattle.forms.specs.Judged.{pickVerdict, judgedData, judged, declares, declaration, isTaken};
+ghost use Rattle.forms.specs.Form.{isAt, hasPicture};
+ghost use Rattle.store.specs.Find.{titledAt};
+ghost use Rattle.read.specs.Names.{packedOf};
+use crate::Verdict;
+use fit::Kind;
+use fitness::DataAnswer;
+use read::Item;
+use store::Found;
+use values::Declared;
+
+fn again(declared: bool) -> Verdict
+    ensures { λ r. ⌜ r ≡ pickVerdict declared Verdict.Again Verdict.Taken ⌝ }
+{
+    if declared {
+        Verdict::Again
+    } else {
+        Verdict::Taken
+    }
+}
+
+fn fitting(fit: bool) -> Verdict
+    ensures { λ r. ⌜ r ≡ pickVerdict fit Verdict.Taken Verdict.Unfit ⌝ }
+{
+    if fit { Verdict::Taken } else { Verdict::Unfit }
+}
+
+fn judge_data(line: &[u8], at: usize, d: Declared, kind: Kind) -> Verdict
+    ensures { λ r. ⌜ r ≡ judgedData d (now (line .entry)) at kind ⌝ }
+{
+    let answer = fitness::data_answer(line, at, d);
+    match answer {
+        DataAnswer::Good => fitting(fitness::always_fit(line, at, d, kind)),
+        DataAnswer::Undeclared => Verdict::Undeclared,
+        DataAnswer::Past => Verdict::Past,
+    }
+}
+
+// What recording answers for an item of a line, after the declarations d.
+pub fn judge(line: &[u8], item: Item, d: Declared) -> Verdict
+    ensures { λ r. ⌜ r ≡ judged d (now (line .entry)) item ⌝ }
+{
+    match item {
+        Item::Origin(_) => Verdict::Taken,
+        Item::Variable(v) => again(d.variable_declared(v.n)),
+        Item::Counter(c) => again(d.counter_declared(c.n)),
+        Item::Text(t) => judge_data(line, t.at, d, Kind::Shown),
+        Item::Bars(b) => {
+            let kind = b.kind;
+            judge_data(line, b.at, d, kind)
+        }
+        Item::Box(_) => Verdict::Taken,
+        Item::Frame(_) => Verdict::Taken,
+        Item::Picture(_) => Verdict::Taken,
+    }
+}
+
+// An item that has a place in a form alone.
+pub fn is_declaration(item: Item) -> bool
+    ensures { λ r. ⌜ r ≡ declaration item ⌝ }
+{
+    match item {
+        Item::Origin(_) => false,
+        Item::Variable(_) => true,
+        Item::Counter(_) => true,
+        Item::Text(_) => false,
+        Item::Bars(_) => false,
+        Item::Box(_) => false,
+        Item::Frame(_) => false,
+        Item::Picture(_) => false,
+    }
+}
+
+fn has_named(directory: &[u8], line: &[u8], at: usize, length: usize) -> bool
+    ensures { λ r. ⌜ r ≡ isAt (titledAt (now (directory .entry)) true (packedOf (now (line .entry)) at length)) ⌝ }
+{
+    let found = store::find(directory, true, read::names::packed(line, at, length));
+    match found {
+        Found::At(_) => true,
+        Found::Nothing => false,
+    }
+}
+
+// The picture that an item draws is stored; what draws none asks for none.
+pub fn has_picture(directory: &[u8], line: &[u8], item: Item) -> bool
+    ensures { λ r. ⌜ r ≡ hasPicture (now (directory .entry)) (now (line .entry)) item ⌝ }
+{
+    match item {
+        Item::Origin(_) => true,
+        Item::Variable(_) => true,
+        Item::Counter(_) => true,
+        Item::Text(_) => true,
+        Item::Bars(_) => true,
+        Item::Box(_) => true,
+        Item::Frame(_) => true,
+        Item::Picture(p) => has_named(directory, line, p.at, p.length),
+    }
+}
+
+pub(crate) fn is_taken(v: Verdict) -> bool
+    ensures { λ r. ⌜ r ≡ isTaken v ⌝ }
+{
+    match v {
+        Verdict::Taken => true,
+        Verdict::Again => false,
+        Verdict::Undeclared => false,
+        Verdict::Past => false,
+        Verdict::Unfit => false,
+    }
+}
+
+fn small(step: usize) -> u32
+    ensures { λ r. ⌜ r ≡ min step 99999 ⌝ }
+{
+    if step < 99999 { step as u32 } else { 99999 }
+}
+
+// What is declared after an item.
+pub(crate) fn declare(d: Declared, item: Item) -> Declared
+    ensures { λ r. ⌜ r ≡ declares d item ⌝ }
+{
+    match item {
+        Item::Origin(_) => d,
+        Item::Variable(v) => d.with_variable(v.n, v.m, v.j),
+        Item::Counter(c) => d.with_counter(c.n, c.w, c.minus, small(c.step)),
+        Item::Text(_) => d,
+        Item::Bars(_) => d,
+        Item::Box(_) => d,
+        Item::Frame(_) => d,
+        Item::Picture(_) => d,
+    }
+}

@@ -1,0 +1,152 @@
+// A form walked from its first line to its last: whether it is good, what it declares, and whether its pictures are stored.
+ghost use mathlib.Core.Path.{_≡_};
+ghost use Prim.Native.Nat.{_<_};
+ghost use Rattle.store.specs.Content.{content};
+ghost use Rattle.forms.specs.Form.{takes, declaring, hasStored, itemIn, formOk, declaredOf, picturesStored};
+ghost use Rattle.forms.specs.Walk.{started, walkOk, walkDeclared, walkHas};
+use crate::Stored;
+use crate::judged::declare;
+use crate::judged::has_picture;
+use crate::judged::is_taken;
+use crate::judged::judge;
+use crate::lines::next_line;
+use crate::lines::stored_item;
+use store::Cursor;
+use values::Declared;
+use values::bytes::both;
+use values::bytes::front;
+
+// Where a walk stands, what is declared so far, and whether all was good so far.
+pub struct Walk {
+    pub portion: usize,
+    pub at: usize,
+    pub left: usize,
+    pub declared: Declared,
+    pub good: bool,
+}
+
+// What a line adds to a walk.
+struct Seen {
+    declared: Declared,
+    good: bool,
+}
+
+fn start(links: &[u16], directory: &[u8], i: usize) -> Walk
+    ensures { λ r. ⌜ r ≡ started (now (links .entry)) (now (directory .entry)) i ⌝ }
+{
+    let c = store::reader(links, directory, i);
+    Walk {
+        portion: c.portion,
+        at: c.at,
+        left: c.left,
+        declared: Declared::none(),
+        good: true,
+    }
+}
+
+// A line that recording would take, and what is declared after it.
+fn see_line(line: &[u8], d: Declared) -> Seen
+    ensures { λ r. ⌜ (r .declared ≡ declaring d (now (line .entry))) × (r .good ≡ takes d (now (line .entry))) ⌝ }
+{
+    let stored = stored_item(line);
+    match stored {
+        Stored::Holds(item) => Seen {
+            declared: declare(d, item),
+            good: is_taken(judge(line, item, d)),
+        },
+        Stored::Nothing => Seen {
+            declared: d,
+            good: false,
+        },
+    }
+}
+
+fn judge_next(store: &[u8], links: &[u16], w: Walk) -> Walk
+    requires { ⌜ 0 < w .left ⌝ }
+    ensures { λ r. ⌜ (walkOk (now (store .entry)) (now (links .entry)) r ≡ walkOk (now (store .entry)) (now (links .entry)) w) × (walkDeclared (now (store .entry)) (now (links .entry)) r ≡ walkDeclared (now (store .entry)) (now (links .entry)) w) × (r .left < w .left) ⌝ }
+{
+    let mut buffer = [0u8; 256];
+    let d = w.declared;
+    let place = Cursor {
+        portion: w.portion,
+        at: w.at,
+        left: w.left,
+    };
+    let next = next_line(store, links, place, &mut buffer);
+    let seen = see_line(front(&buffer, next.n), d);
+    let after = next.place;
+    let declared = seen.declared;
+    Walk {
+        portion: after.portion,
+        at: after.at,
+        left: after.left,
+        declared,
+        good: both(w.good, seen.good),
+    }
+}
+
+// Whether the form of entry i is a row of normalised lines that recording would take one after another, presence of pictures aside.
+pub fn form_ok(store: &[u8], links: &[u16], directory: &[u8], i: usize) -> bool
+    ensures { λ r. ⌜ r ≡ formOk (content (now (store .entry)) (now (links .entry)) (now (directory .entry)) i) ⌝ }
+{
+    let mut w = start(links, directory, i);
+    while 0 < w.left {
+        w = judge_next(store, links, w);
+    }
+    w.good
+}
+
+// What the form of entry i declares.
+pub fn declared_at(store: &[u8], links: &[u16], directory: &[u8], i: usize) -> Declared
+    ensures { λ r. ⌜ r ≡ declaredOf (content (now (store .entry)) (now (links .entry)) (now (directory .entry)) i) ⌝ }
+{
+    let mut w = start(links, directory, i);
+    while 0 < w.left {
+        w = judge_next(store, links, w);
+    }
+    w.declared
+}
+
+fn has_line(directory: &[u8], line: &[u8]) -> bool
+    ensures { λ r. ⌜ r ≡ hasStored (now (directory .entry)) (now (line .entry)) (itemIn (now (line .entry))) ⌝ }
+{
+    let stored = stored_item(line);
+    match stored {
+        Stored::Holds(item) => has_picture(directory, line, item),
+        Stored::Nothing => true,
+    }
+}
+
+fn look_next(store: &[u8], links: &[u16], directory: &[u8], w: Walk) -> Walk
+    requires { ⌜ 0 < w .left ⌝ }
+    ensures { λ r. ⌜ (walkHas (now (store .entry)) (now (links .entry)) (now (directory .entry)) r ≡ walkHas (now (store .entry)) (now (links .entry)) (now (directory .entry)) w) × (r .left < w .left) ⌝ }
+{
+    let mut buffer = [0u8; 256];
+    let declared = w.declared;
+    let place = Cursor {
+        portion: w.portion,
+        at: w.at,
+        left: w.left,
+    };
+    let next = next_line(store, links, place, &mut buffer);
+    let has = has_line(directory, front(&buffer, next.n));
+    let after = next.place;
+    Walk {
+        portion: after.portion,
+        at: after.at,
+        left: after.left,
+        declared,
+        good: both(w.good, has),
+    }
+}
+
+// Whether all pictures are stored that the form of entry i draws.
+pub fn pictures_stored(store: &[u8], links: &[u16], directory: &[u8], i: usize) -> bool
+    ensures { λ r. ⌜ r ≡ picturesStored (now (directory .entry)) (content (now (store .entry)) (now (links .entry)) (now (directory .entry)) i) ⌝ }
+{
+    let mut w = start(links, directory, i);
+    while 0 < w.left {
+        w = look_next(store, links, directory, w);
+    }
+    w.good
+}
