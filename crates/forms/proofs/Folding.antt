@@ -19,6 +19,8 @@ use Rattle.read.specs.Commands.{readOf, headed}
 use Rattle.written.specs.Written.{isNormal}
 use Rattle.forms.specs.declared.Stored.{Stored}
 use Rattle.forms.specs.declared.Stored.the-variants.{Holds, Nothing}
+use Rattle.read.specs.declared.Item.{Item}
+use Rattle.forms.specs.Judged.{declares}
 use Rattle.forms.specs.Form.{pickStored, heldRead, itemIn, takes, declaring, takesAll, declaredBy, hasStored, hasAll}
 use Rattle.forms.specs.Draw.{Setting, Drawing, drawsLine, drawsLines}
 use Rattle.forms.specs.Walk.{lineIn, behind, restOk}
@@ -109,6 +111,10 @@ module _ (l : List ℕ) (e : itemIn l ≡ Nothing) where
 
   pub has-none : (directory : List ℕ) (b : Bool) → (b && hasStored directory l (itemIn l)) ≡ b
   has-none directory b = rw e (and-true b)
+
+pub declaring-holds : (d : Declared) (l : List ℕ) (it : Item) → itemIn l ≡ Holds it → declaring d l ≡ declares d it
+unfolding declaring
+declaring-holds d l it e = rw e
 
 -- ---- a step of a fold
 

@@ -1,3 +1,6 @@
 pub mod Bytes
 pub mod Folding
 pub mod Walking
+pub mod Showing
+pub mod Growing
+pub mod Keeping

@@ -1,7 +1,7 @@
 -- "A recorded line is checked and kept": what recording answers for an item, after the declarations of the lines before it, and what is
 -- declared after it.
 -- Assumes nothing.
-use Prim.Native.Nat.{ℕ, min}
+use Prim.Native.Nat.{ℕ}
 use mathlib.Core.Bool.{Bool, true, false, cond}
 use mathlib.Core.List.{List}
 use Rattle.fit.specs.declared.Kind.{Kind}
@@ -42,11 +42,11 @@ judged d line (Box r) = Taken
 judged d line (Frame f) = Taken
 judged d line (Picture p) = Taken
 
--- what is declared after an item; "s with or without sign, -99999 to +99999": a step that goes further, which no line has, counts as 99,999
+-- what is declared after an item
 unfoldable pub declares : Declared → Item → Declared
 declares d (Origin o) = d
 declares d (Variable v) = withVariable d (v .n) (v .m) (v .j)
-declares d (Counter c) = withCounter d (c .n) (c .w) (c .minus) (min (c .step) 99999)
+declares d (Counter c) = withCounter d (c .n) (c .w) (c .minus) (c .step)
 declares d (Text t) = d
 declares d (Bars b) = d
 declares d (Box r) = d

@@ -1,7 +1,6 @@
 // An item judged as recording does, what it declares, and whether its picture is stored.
 ghost use mathlib.Core.Path.{_≡_};
 ghost use mathlib.Core.Bool.{true};
-ghost use Prim.Native.Nat.{min};
 ghost use Rattle.forms.specs.Judged.{pickVerdict, judgedData, judged, declares, declaration, isTaken};
 ghost use Rattle.forms.specs.Form.{isAt, hasPicture};
 ghost use Rattle.store.specs.Find.{titledAt};
@@ -113,12 +112,6 @@ pub(crate) fn is_taken(v: Verdict) -> bool
     }
 }
 
-fn small(step: usize) -> u32
-    ensures { λ r. ⌜ r ≡ min step 99999 ⌝ }
-{
-    if step < 99999 { step as u32 } else { 99999 }
-}
-
 // What is declared after an item.
 pub(crate) fn declare(d: Declared, item: Item) -> Declared
     ensures { λ r. ⌜ r ≡ declares d item ⌝ }
@@ -126,7 +119,7 @@ pub(crate) fn declare(d: Declared, item: Item) -> Declared
     match item {
         Item::Origin(_) => d,
         Item::Variable(v) => d.with_variable(v.n, v.m, v.j),
-        Item::Counter(c) => d.with_counter(c.n, c.w, c.minus, small(c.step)),
+        Item::Counter(c) => d.with_counter(c.n, c.w, c.minus, c.step),
         Item::Text(_) => d,
         Item::Bars(_) => d,
         Item::Box(_) => d,

@@ -6,10 +6,14 @@
 mod judged; // judged.rt: an item judged, and what it declares
 mod lines; // lines.rt: a stored line, and a form's lines one after another
 pub mod running; // running.rt: a form walked
+mod drawing; // drawing.rt: what an item draws
+pub mod labels; // labels.rt: a form drawn on a label
 
+pub use drawing::draw_item;
 pub use judged::has_picture;
 pub use judged::is_declaration;
 pub use judged::judge;
+pub use labels::draw_form;
 use read::Item;
 pub use running::declared_at;
 pub use running::form_ok;

@@ -1,5 +1,6 @@
 // A stored line: what it holds, and how a form's lines are read one after another.
 ghost use mathlib.Core.Path.{_≡_};
+ghost use mathlib.Core.Bool.{cond};
 ghost use Prim.Native.Nat.{suc, _≤_};
 ghost use lib.ListN.{length, take};
 ghost use Rattle.read.specs.Commands.{readOf};

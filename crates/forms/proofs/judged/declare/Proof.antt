@@ -16,9 +16,6 @@ with-variable-requires c κs = search needs
 enum-known-item-2 : tie.Need-enum-known-item-2
 enum-known-item-2 c = search needs
 
-small-requires : tie.Need-small-requires
-small-requires c κs = search needs
-
 with-counter-requires : tie.Need-with-counter-requires
 with-counter-requires c κs = search needs
 
@@ -47,7 +44,7 @@ returns-2 c = rw (c .before .before .item .given .1) (c .with-variable .ensures)
 
 returns-3 : tie.Need-returns-3
 unfolding declares
-returns-3 c = rw (c .before .before .before .item2 .given .1, ← c .before .small .ensures) (c .with-counter .ensures)
+returns-3 c = rw (c .before .before .item2 .given .1) (c .with-counter .ensures)
 
 returns-4 : tie.Need-returns-4
 unfolding declares
@@ -70,4 +67,4 @@ unfolding declares
 returns-8 c = rw (c .enum-told6 .given .1)
 
 pub declare-spec : {M : Type 1} → statement M
-declare-spec = tie.close (tie.spec enum-told enum-known-item with-variable-requires enum-known-item-2 small-requires with-counter-requires enum-told-2 enum-told-3 enum-told-4 enum-told-5 enum-told-6 returns returns-2 returns-3 returns-4 returns-5 returns-6 returns-7 returns-8)
+declare-spec = tie.close (tie.spec enum-told enum-known-item with-variable-requires enum-known-item-2 with-counter-requires enum-told-2 enum-told-3 enum-told-4 enum-told-5 enum-told-6 returns returns-2 returns-3 returns-4 returns-5 returns-6 returns-7 returns-8)
