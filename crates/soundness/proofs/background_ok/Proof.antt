@@ -1,0 +1,25 @@
+use Rattle.soundness.specs.Sound.{backgroundOk}
+use borrow.Author.Needs.{needs}
+use Rattle.soundness.proofs.background_ok.Statement.{statement}
+use Rattle.soundness.proofs.background_ok.Tie as tie
+use Rattle.soundness.proofs.background_ok.Reads as reads
+use Rattle.soundness.proofs.background_ok.Lts as lts
+use Rattle.dots.proofs.white_outside.Reads as white-outside-reads
+use Rattle.soundness.proofs.wide.Reads as wide-reads
+
+wide-requires : tie.Need-wide-requires
+wide-requires c κs = search needs
+
+wide-requires-2 : tie.Need-wide-requires-2
+wide-requires-2 c κs = search needs
+
+white-outside-requires : tie.Need-white-outside-requires
+white-outside-requires c κs = search needs
+
+returns : tie.Need-returns
+unfolding backgroundOk
+returns c = cc
+
+pub background-ok-spec : {M : Type 1} → statement M
+background-ok-spec =
+    tie.close (tie.spec wide-requires wide-requires-2 white-outside-requires returns)

@@ -1,0 +1,49 @@
+use borrow.Author.Needs.{needs}
+use Rattle.soundness.proofs.numbers_ok.Statement.{statement}
+use Rattle.soundness.proofs.numbers_ok.Tie as tie
+use Rattle.soundness.proofs.numbers_ok.Reads as reads
+use Rattle.soundness.proofs.numbers_ok.Lts as lts
+use Rattle.soundness.proofs.both.Reads as both-reads
+use Rattle.soundness.proofs.is_in.Reads as is-in-reads
+use Rattle.soundness.proofs.wide.Reads as wide-reads
+
+wide-requires : tie.Need-wide-requires
+wide-requires c κs = search needs
+
+is-in-requires : tie.Need-is-in-requires
+is-in-requires c κs = search needs
+
+wide-requires-2 : tie.Need-wide-requires-2
+wide-requires-2 c κs = search needs
+
+is-in-requires-2 : tie.Need-is-in-requires-2
+is-in-requires-2 c κs = search needs
+
+both-requires : tie.Need-both-requires
+both-requires c κs = search needs
+
+both-requires-2 : tie.Need-both-requires-2
+both-requires-2 c κs = search needs
+
+both-requires-3 : tie.Need-both-requires-3
+both-requires-3 c κs = search needs
+
+both-requires-4 : tie.Need-both-requires-4
+both-requires-4 c κs = search needs
+
+returns : tie.Need-returns
+returns c = cc
+
+pub numbers-ok-spec : {M : Type 1} → statement M
+numbers-ok-spec =
+    tie.close
+    (tie.spec
+    wide-requires
+    is-in-requires
+    wide-requires-2
+    is-in-requires-2
+    both-requires
+    both-requires-2
+    both-requires-3
+    both-requires-4
+    returns)
