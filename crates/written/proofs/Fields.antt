@@ -357,7 +357,7 @@ type-moved s at v pre rest (ean k) =
 
 -- ---- a byte that stands for itself
 module _ {f : ℕ} (p : Plain f) where
-  plain-field : (s : List ℕ) (at : ℕ) → fieldAt f s at ≡ byteAt f s at
+  pub plain-field : (s : List ℕ) (at : ℕ) → fieldAt f s at ≡ byteAt f s at
   unfolding fieldAt
   plain-field s at = simp (p .no-n, p .no-w, p .no-s, p .no-t, p .no-u, p .no-a, p .no-z, p .no-m, p .no-j, p .no-k, p .no-d)
 

@@ -3,3 +3,4 @@ pub mod Back
 pub mod Data
 pub mod Fields
 pub mod Round
+pub mod Short

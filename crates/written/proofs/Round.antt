@@ -35,6 +35,7 @@ use Rattle.read.specs.Grammar.{
   fieldLimits,
   firstOf,
   limitsFrom,
+  spread,
 }
 use Rattle.read.specs.Commands.{readOf, headed as headRead, judged, decided, commandOf, itemOf, orderOf, isItem, namedAt, sideOf, inkOf, isMinus, stepOf}
 use Rattle.read.specs.declared.Item.{Item}
@@ -184,11 +185,11 @@ fields-kept (f ∷ fs) s at vs ps pre h k =
 -- ---- the letters of a written line name its row
 
 -- what holds of each form, with its number, holds of each row
-abbrev everyRow : (ℕ → List ℕ → Bool) → ℕ → List Form → Bool
+abbrev pub everyRow : (ℕ → List ℕ → Bool) → ℕ → List Form → Bool
 everyRow p i [] = true
 everyRow p i (f ∷ fs) = p i (f .fields) && everyRow p (suc i) fs
 
-every-row : (p : ℕ → List ℕ → Bool) (fs : List Form) (i : ℕ) → T (everyRow p i fs) → ((k : ℕ) → T (p k [])) → (row : ℕ)
+pub every-row : (p : ℕ → List ℕ → Bool) (fs : List Form) (i : ℕ) → T (everyRow p i fs) → ((k : ℕ) → T (p k [])) → (row : ℕ)
     → T (p (i + row) (getD fs row none .fields))
 every-row p [] i h e row = e (i + row)
 every-row p (f ∷ fs) i h e zero = let q : i + 0 ≡ i = omega arith in rw q (and-T (p i (f .fields)) (everyRow p (suc i) fs) h .0)
@@ -345,7 +346,7 @@ head-back row (a ∷ (b ∷ fs)) s vs ps h l k =
 
 module _ (s : List ℕ) (row : ℕ) (vs ps : List ℕ) (h : headOf (getD s 0 0) (getD s 1 0) ≡ Row row)
     (k : fieldsFrom (rowOf row .fields) s 0 ≡ good vs ps) where
-  normal-is : normal s ≡ writtenFrom (rowOf row .fields) s vs ps
+  pub normal-is : normal s ≡ writtenFrom (rowOf row .fields) s vs ps
   unfolding headWritten writtenOf
   normal-is = rw (h, k)
 
@@ -527,20 +528,61 @@ normal-row rows s i row vs ps h k l c =
       again = rw n a;
     }
 
-pub normal-line : (rows : ℕ) (s : List ℕ) (i : Item) → readOf rows s ≡ Taken (item i) → Normal rows s i
+-- a line that is an item: its row, its fields, within their limits
+pub record Parted (rows : ℕ) (s : List ℕ) (i : Item) : Type 0 where
+  pub row : ℕ
+  pub vs : List ℕ
+  pub ps : List ℕ
+  pub head : headOf (getD s 0 0) (getD s 1 0) ≡ Row row
+  pub read : fieldsFrom (rowOf row .fields) s 0 ≡ good vs ps
+  pub within : limitsFrom (rowOf row .fields) (boundsOf row rows) s 0 vs ps ≡ Within
+  pub command : commandOf row s vs ps ≡ item i
+
+pub item-parted : (rows : ℕ) (s : List ℕ) (i : Item) → readOf rows s ≡ Taken (item i) → Parted rows s i
 unfolding readOf headRead judged
-normal-line rows s i h = go (headOf (getD s 0 0) (getD s 1 0)) refl h
+item-parted rows s i h = go (headOf (getD s 0 0) (getD s 1 0)) refl h
   where
     within : (row : ℕ) (vs ps : List ℕ) (l : Limits) → headOf (getD s 0 0) (getD s 1 0) ≡ Row row → fieldsFrom (rowOf row .fields) s 0 ≡ good vs ps
-        → limitsFrom (rowOf row .fields) (boundsOf row rows) s 0 vs ps ≡ l → decided l (commandOf row s vs ps) ≡ Taken (item i) → Normal rows s i
-    within row vs ps Within a b c d = normal-row rows s i row vs ps a b c cc
+        → limitsFrom (rowOf row .fields) (boundsOf row rows) s 0 vs ps ≡ l → decided l (commandOf row s vs ps) ≡ Taken (item i) → Parted rows s i
+    within row vs ps Within a b c d = record { row = row; vs = vs; ps = ps; head = a; read = b; within = c; command = cc }
     within row vs ps (Outside p) a b c d = absurd (let z : _≡_ {A = ℕ} 0 1 = cc in omega arith)
 
     fields : (row : ℕ) (g : Got) → headOf (getD s 0 0) (getD s 1 0) ≡ Row row → fieldsFrom (rowOf row .fields) s 0 ≡ g
-        → judged row rows s g ≡ Taken (item i) → Normal rows s i
+        → judged row rows s g ≡ Taken (item i) → Parted rows s i
     fields row (good vs ps) a b c = within row vs ps (limitsFrom (rowOf row .fields) (boundsOf row rows) s 0 vs ps) a b refl c
     fields row (bad p) a b c = absurd (let z : _≡_ {A = ℕ} 0 1 = cc in omega arith)
 
-    go : (x : Head) → headOf (getD s 0 0) (getD s 1 0) ≡ x → headRead x rows s ≡ Taken (item i) → Normal rows s i
+    go : (x : Head) → headOf (getD s 0 0) (getD s 1 0) ≡ x → headRead x rows s ≡ Taken (item i) → Parted rows s i
     go (Row row) a c = fields row (fieldsFrom (rowOf row .fields) s 0) a refl c
     go Unknown a c = absurd (let z : _≡_ {A = ℕ} 0 1 = cc in omega arith)
+
+pub normal-line : (rows : ℕ) (s : List ℕ) (i : Item) → readOf rows s ≡ Taken (item i) → Normal rows s i
+normal-line rows s i h =
+    let p = item-parted rows s i h in
+    normal-row rows s i (p .row) (p .vs) (p .ps) (p .head) (p .read) (p .within) (p .command)
+
+-- no item asks for the rows of the page: of all forms the first alone does
+abbrev Steady : ℕ → ℕ → List Form → Type 0
+Steady r r′ [] = Unit {0}
+Steady r r′ (f ∷ fs) = (f .bounds r ≡ f .bounds r′) × Steady r r′ fs
+
+steady-at : (r r′ : ℕ) (fs : List Form) → Steady r r′ fs → (row : ℕ) → getD fs row none .bounds r ≡ getD fs row none .bounds r′
+steady-at r r′ [] h row = refl
+steady-at r r′ (f ∷ fs) h zero = h .0
+steady-at r r′ (f ∷ fs) h (suc row) = steady-at r r′ fs (h .1) row
+
+bounds-steady : (r r′ row : ℕ) → isItem row ≡ true → boundsOf row r ≡ boundsOf row r′
+bounds-steady r r′ zero h = absurd (false≢true (unfold between in h))
+bounds-steady r r′ (suc row) h =
+    ap (spread (rowOf (suc row) .fields))
+    (steady-at r r′ (drop 1 forms)
+    (refl, (refl, (refl, (refl, (refl, (refl, (refl, (refl, (refl, (refl, (refl, (refl, (refl, (refl, (refl, (refl, (refl, (refl, (refl, (refl, (refl, (refl, (refl, (refl, (refl, (refl, (refl, tt)))))))))))))))))))))))))))
+    row)
+
+pub item-rows : (r r′ : ℕ) (s : List ℕ) (i : Item) → readOf r s ≡ Taken (item i) → readOf r′ s ≡ Taken (item i)
+item-rows r r′ s i h =
+    let p = item-parted r s i h in
+    let o = item-row (p .row) s (p .vs) (p .ps) i (p .command) in
+    let l : limitsFrom (rowOf (p .row) .fields) (boundsOf (p .row) r′) s 0 (p .vs) (p .ps) ≡ Within =
+    rw (bounds-steady r′ r (p .row) (o .0)) (p .within) in
+    read-is s (p .row) (p .vs) (p .ps) (p .head) (p .read) r′ ∙ rw l (ap Taken (p .command))
