@@ -1,0 +1,62 @@
+-- Theorems about opening and the label call: a refusal keeps what was lent, two outcomes of one call are equal, and the answer is the table's.
+-- Assumes nothing.
+use mathlib.Core.Path.{_≡_, refl, sym, ap, _∙_}
+use mathlib.Core.Bool.{Bool, true, false, not, _||_, true≢false}
+use mathlib.Core.List.{List}
+use Prim.Native.Nat.{ℕ}
+use lib.ListN.{length}
+use lib.Dec.{eqb}
+use Rattle.cells.specs.Cell.{zeros}
+use Rattle.session.specs.declared.Session.{Session}
+use Rattle.session.specs.declared.answers.Answer.{Answer}
+use Rattle.session.specs.declared.answers.Answer.the-variants.{Taken, Lengths}
+use Rattle.session.specs.Answers.{answerOf, isTaken, numberOf}
+use Rattle.session.specs.Session.{none, fresh}
+use Rattle.session.specs.Lent.{World, rowsOf, wrongLent}
+use Rattle.station.specs.World.{Drawn, drawnBy, labelled, Opened, openedBy}
+use Rattle.station.specs.Table.{labelTable}
+use Rattle.station.specs.Station.{cleared, pickOpened, opened, labelPage, labelSession, settledLabel, labelledBy}
+
+-- ---- a label call that is refused keeps session and page
+
+label-keeps :
+    (t : Bool) (a : Answer) (s : Session) (page : List ℕ) (c : Drawn) → c .outcome .answer ≡ Taken →
+    isTaken (settledLabel t c (drawnBy (labelled a s) page) .outcome .answer) ≡ false →
+    settledLabel t c (drawnBy (labelled a s) page) ≡ drawnBy (labelled (settledLabel t c (drawnBy (labelled a s) page) .outcome .answer) s) page
+unfolding isTaken numberOf
+label-keeps true a s page c e h = absurd (true≢false (sym (ap isTaken e) ∙ h))
+label-keeps false a s page c e h = refl
+
+pub label-refusal-keeps :
+    (s : Session) (font : List ℕ) (w : World) (page : List ℕ) → isTaken (labelledBy s font w page .outcome .answer) ≡ false →
+    labelledBy s font w page ≡ drawnBy (labelled (labelledBy s font w page .outcome .answer) s) page
+unfolding labelledBy
+label-refusal-keeps s font w page h =
+    label-keeps (isTaken (answerOf (labelTable s font w (length page)))) (answerOf (labelTable s font w (length page))) s page
+    (drawnBy (labelled Taken (labelSession s w)) (labelPage font s w page)) refl h
+
+-- ---- an opening that is refused keeps every list, and returns zeros
+
+open-keeps :
+    (t : Bool) (page : List ℕ) (w : World) (c : Opened) → c .outcome .answer ≡ Taken →
+    isTaken (pickOpened t (openedBy (labelled Lengths none) page w) c .outcome .answer) ≡ false →
+    pickOpened t (openedBy (labelled Lengths none) page w) c ≡ openedBy (labelled Lengths none) page w
+unfolding isTaken numberOf
+open-keeps true page w c e h = refl
+open-keeps false page w c e h = absurd (true≢false (sym (ap isTaken e) ∙ h))
+
+pub open-refusal-keeps :
+    (page : List ℕ) (w : World) → isTaken (opened page w .outcome .answer) ≡ false → opened page w ≡ openedBy (labelled Lengths none) page w
+unfolding opened
+open-refusal-keeps page w h =
+    open-keeps (wrongLent w || not (eqb (length page) (length (w .background)))) page w
+    (openedBy (labelled Taken (fresh (rowsOf w))) (zeros (length page)) (cleared w)) refl h
+
+-- ---- two outcomes of one call are equal
+
+pub label-outcomes-equal :
+    (s : Session) (font : List ℕ) (w : World) (page : List ℕ) (x y : Drawn) → x ≡ labelledBy s font w page → y ≡ labelledBy s font w page → x ≡ y
+label-outcomes-equal s font w page x y e f = e ∙ sym f
+
+pub open-outcomes-equal : (page : List ℕ) (w : World) (x y : Opened) → x ≡ opened page w → y ≡ opened page w → x ≡ y
+open-outcomes-equal page w x y e f = e ∙ sym f

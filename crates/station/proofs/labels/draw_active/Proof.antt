@@ -1,0 +1,34 @@
+use Rattle.station.proofs.Below.{form-inactive, form-active}
+use borrow.Author.Needs.{needs}
+use Rattle.station.proofs.labels.draw_active.Statement.{statement}
+use Rattle.station.proofs.labels.draw_active.Tie as tie
+
+returns : tie.Need-returns
+returns c = form-inactive _ _ _ _ _ _ _ _ (c .if1 .taken)
+
+cast-width : tie.Need-cast-width
+cast-width c = search needs
+
+cast-length : tie.Need-cast-length
+cast-length c = search needs
+
+cast-x : tie.Need-cast-x
+cast-x c = search needs
+
+cast-y : tie.Need-cast-y
+cast-y c = search needs
+
+cast-i : tie.Need-cast-i
+cast-i c = search needs
+
+draw-form-requires : tie.Need-draw-form-requires
+draw-form-requires c κs = search needs
+
+same-length : tie.Need-same-length
+same-length c = search needs
+
+returns-2 : tie.Need-returns-2
+returns-2 c = form-active _ _ _ _ _ _ _ _ _ (c .before .before .before .before .before .before .before .before .before .if1 .left) (c .before .before .draw-form .ensures)
+
+pub draw-active-spec : {M : Type 1} → statement M
+draw-active-spec = tie.close (tie.spec returns cast-width cast-length cast-x cast-y cast-i draw-form-requires same-length returns-2)

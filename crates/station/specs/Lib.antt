@@ -1,0 +1,4 @@
+pub mod World
+pub mod Table
+pub mod Does
+pub mod Station

@@ -1,0 +1,69 @@
+// "Opening clears all lent memory (output aside), frees all portions, and sets width 608, length N, origin 0,0, ZT, nothing owed."
+ghost use mathlib.Core.Path.{_≡_};
+ghost use lib.ListN.{length, replicate};
+ghost use Rattle.session.specs.Lent.{world};
+ghost use Rattle.session.specs.Session.{none};
+ghost use Rattle.session.specs.declared.answers.Answer.the-variants.{Lengths};
+ghost use Rattle.station.specs.World.{openedBy, labelled};
+ghost use Rattle.station.specs.Station.{opened};
+use crate::Labelled;
+use session::Answer;
+use session::Session;
+
+// Every link free.
+fn free_all(links: &mut [u16])
+    ensures { λ _. ⌜ now (links .exit) ≡ replicate (length (now (links .entry))) 65535 ⌝ }
+{
+    let mut i = 0;
+    while i < links.len() {
+        links[i] = 65535;
+        i += 1;
+    }
+}
+
+// "a refused opening returns zeros."
+fn refused() -> Labelled
+    ensures { λ r. ⌜ r ≡ labelled Lengths none ⌝ }
+{
+    let session = Session::none();
+    Labelled {
+        answer: Answer::Lengths,
+        session: session,
+    }
+}
+
+pub fn open(
+    page: &mut [u8],
+    background: &mut [u8],
+    store: &mut [u8],
+    links: &mut [u16],
+    directory: &mut [u8],
+    values: &mut [u8],
+) -> Labelled
+    ensures { λ r. ⌜ openedBy r (now (page .exit)) (world (now (background .exit)) (now (store .exit)) (now (links .exit)) (now (directory .exit)) (now (values .exit))) ≡ opened (now (page .entry)) (world (now (background .entry)) (now (store .entry)) (now (links .entry)) (now (directory .entry)) (now (values .entry))) ⌝ }
+{
+    if session::lengths_wrong(
+        background.len(),
+        store.len(),
+        links.len(),
+        directory.len(),
+        values.len(),
+    ) {
+        return refused();
+    }
+    if page.len() != background.len() {
+        return refused();
+    }
+    let rows = (background.len() / 76) as u16;
+    dots::whiten(page);
+    dots::whiten(background);
+    dots::whiten(store);
+    free_all(links);
+    dots::whiten(directory);
+    dots::whiten(values);
+    let session = Session::fresh(rows);
+    Labelled {
+        answer: Answer::Taken,
+        session: session,
+    }
+}
