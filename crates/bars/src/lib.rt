@@ -4,6 +4,7 @@
 // 16390, 15420 and 15417. `elements` writes the widths of a symbol's elements as specs/Elements.antt makes them from the tables; `draw` sets the
 // bars black on a page, turned and cut, which is `barsDrawn` of specs/Drawing.antt. Both take any bytes and any numbers; what is unfit, or
 // out of its limits, draws nothing. Which bytes are fit stands in crate `fit`, how boxes are turned and cut in `figures`.
+// The modules are private. Where one of their functions asks for room in a list, `elements` and `draw` below meet it.
 mod code128;
 mod code39;
 mod drawing;
