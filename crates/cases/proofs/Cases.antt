@@ -1,0 +1,63 @@
+-- The ten proof cases of paper 01: what the definitions give for the table is what the table expects.
+-- Assumes nothing.
+use Prim.Native.Nat.{ℕ}
+use mathlib.Core.Path.{_≡_, refl, ap, _∙_}
+use mathlib.Core.List.{List, [], _∷_, _++_}
+use lib.ListN.{replicate}
+use Rattle.fields.specs.Text.{bytes}
+use Rattle.values.specs.Counters.{counterValue}
+use Rattle.session.specs.declared.answers.Answer.the-variants.{Taken, Unended, Long, Limits, Illegal}
+use Rattle.cases.specs.Calls.{Stand, start, calls}
+use Rattle.cases.specs.Table.{Asked, gives, sample, wrongPicture, table, given, expected}
+use Rattle.cases.proofs.Opened.{computed}
+use Rattle.cases.proofs.Laws.{answered, answer-of}
+use Rattle.cases.proofs.Sample.{w0, s0, sound-0, legal-font, opening, nine, eleven}
+
+-- ---- (8) to (10): one call after opening
+
+q80 : calls 1 (bytes "q80\n") start .answers ≡ 0 ∷ []
+unfolding computed w0
+q80 = answer-of s0 w0 (replicate 18240 0) (bytes "q80\n") _ opening (answered s0 w0 (bytes "q80\n") Taken refl legal-font sound-0 refl)
+
+q79 : calls 1 (bytes "q79\n") start .answers ≡ 7 ∷ []
+unfolding computed w0
+q79 = answer-of s0 w0 (replicate 18240 0) (bytes "q79\n") _ opening (answered s0 w0 (bytes "q79\n") Limits refl legal-font sound-0 refl)
+
+short : calls 1 (replicate 255 65) start .answers ≡ 4 ∷ []
+unfolding computed w0
+short = answer-of s0 w0 (replicate 18240 0) (replicate 255 65) _ opening (answered s0 w0 (replicate 255 65) Unended refl legal-font sound-0 refl)
+
+long : calls 1 (replicate 256 65) start .answers ≡ 5 ∷ []
+unfolding computed w0
+long = answer-of s0 w0 (replicate 18240 0) (replicate 256 65) _ opening (answered s0 w0 (replicate 256 65) Long refl legal-font sound-0 refl)
+
+illegal : calls 1 (bytes "GM\"A\",134\n" ++ wrongPicture) start .answers ≡ 16 ∷ []
+unfolding computed w0
+illegal =
+    answer-of s0 w0 (replicate 18240 0) (bytes "GM\"A\",134\n" ++ wrongPicture) _ opening
+    (answered s0 w0 (bytes "GM\"A\",134\n" ++ wrongPicture) Illegal refl legal-font sound-0 refl)
+
+-- ---- one row after another
+
+and : {x y : List ℕ} {xs ys : List (List ℕ)} → x ≡ y → xs ≡ ys → x ∷ xs ≡ y ∷ ys
+and e f = λ i. e i ∷ f i
+
+pub cases : given table ≡ expected table
+unfolding computed
+cases =
+    and (ap (λ (t : Stand). t .answers) nine)
+    (and (ap (λ (t : Stand). t .listed) nine)
+    (and (ap (λ (t : Stand). t .black) eleven)
+    (and (ap (λ (t : Stand). counterValue (t .session .counters) 0 ∷ []) eleven)
+    (and refl
+    (and refl
+    (and refl
+    (and refl
+    (and refl
+    (and refl
+    (and refl
+    (and q80
+    (and q79
+    (and short
+    (and long
+    (and illegal refl)))))))))))))))

@@ -1,0 +1,4 @@
+pub mod Opened
+pub mod Laws
+pub mod Sample
+pub mod Cases

@@ -1,0 +1,3 @@
+-- Paper 01's proof cases.
+pub mod Calls
+pub mod Table

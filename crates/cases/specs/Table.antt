@@ -1,0 +1,96 @@
+-- Paper 01, "Proof cases": "One statement over one table covers these ten". What each case asks, of which bytes, and what it expects.
+-- Assumes nothing.
+use Prim.Native.Nat.{ℕ, min}
+use mathlib.Core.Bool.{cond}
+use mathlib.Core.List.{List, [], _∷_, _++_, map}
+use lib.ListN.{replicate}
+use lib.Dec.{eqb}
+use Rattle.fields.specs.Text.{bytes}
+use Rattle.fields.specs.Field.{kindFrom}
+use Rattle.bars.specs.Elements.{checkDigit, check128}
+use Rattle.bars.specs.Drawing.{widths, sum}
+use Rattle.dots.specs.Dots.{frame}
+use Rattle.dots.specs.Cases.{countBelow}
+use Rattle.picture.specs.Cases.{header}
+use Rattle.values.specs.declared.declarations.Declared.{Declared}
+use Rattle.values.specs.Declarations.{nothing, withVariable}
+use Rattle.values.specs.Counters.{counterValue, noneSet}
+use Rattle.values.specs.Stored.{variableEntered}
+use Rattle.values.specs.Data.{dataOf, valuesIn}
+use Rattle.cases.specs.Calls.{start, calls, labels}
+
+-- ---- what is asked
+
+pub data Asked : Type 0 where
+  -- the answers, and the bytes listed, of so many calls on an input after opening
+  Answers : ℕ → List ℕ → Asked
+  Listing : ℕ → List ℕ → Asked
+  -- the black dots of so many labels after them, and the value of a counter then
+  Black : ℕ → List ℕ → ℕ → Asked
+  Counter : ℕ → List ℕ → ℕ → ℕ → Asked
+  -- the check digit or check symbol of data of a bar type, and the dots that they are wide with narrow e and wide f
+  Check : ℕ → List ℕ → Asked
+  Wide : ℕ → ℕ → ℕ → List ℕ → Asked
+  -- the dots of a frame's first row and first column
+  Framed : ℕ → ℕ → ℕ → ℕ → ℕ → Asked
+  -- what data show where V0 of length m, left justified (76), has a value
+  Shows : ℕ → List ℕ → List ℕ → Asked
+
+abbrev pub V0 : ℕ → Declared
+V0 m = withVariable nothing 0 m 76
+
+-- ---- what the definitions give
+abbrev pub gives : Asked → List ℕ
+gives (Answers n input) = calls n input start .answers
+gives (Listing n input) = calls n input start .listed
+gives (Black n input k) = labels k (calls n input start) .black
+gives (Counter n input k c) = counterValue (labels k (calls n input start) .session .counters) c ∷ []
+gives (Check t text) = cond (eqb t 30) (checkDigit text) (check128 text) ∷ []
+gives (Wide t e f text) = sum (widths (kindFrom t) e f text) ∷ []
+gives (Framed a b c d e) = countBelow 608 (λ x. frame a b c d e x (min b e)) ∷ countBelow 4000 (λ y. frame a b c d e (min a d) y) ∷ []
+gives (Shows m value line) = dataOf line 0 (V0 m) (valuesIn (variableEntered (V0 m) 0 value (replicate 340 0) .values) noneSet)
+
+-- ---- the table
+
+-- a row: the number of the case, what it asks, and what it expects
+pub record Case : Type 0 where
+  pub number : ℕ
+  pub asked : Asked
+  pub expected : List ℕ
+
+abbrev pub case : ℕ → Asked → List ℕ → Case
+case n a e = record { number = n; asked = a; expected = e }
+
+-- "Sample session": its input
+abbrev pub sample : List ℕ
+sample = bytes "FS\"Test\"\nC0,02,+1,\"NO\"\nLO0,0,8,2\nFE\nFI\nFR\"TEST\"\nP2\n?C0,99\nP2\n"
+
+-- a picture that is legal but for its byte 128
+abbrev pub wrongPicture : List ℕ
+wrongPicture = header ++ (192 ∷ 195 ∷ 0 ∷ 15 ∷ 194 ∷ 255 ∷ [])
+
+abbrev pub table : List Case
+table =
+    case 1 (Answers 9 sample) (0 ∷ 0 ∷ 0 ∷ 0 ∷ 0 ∷ 0 ∷ 18 ∷ 0 ∷ 0 ∷ [])
+    ∷ case 1 (Listing 9 sample) (bytes "23,\"TEST\"\n")
+    ∷ case 1 (Black 9 sample 2) (16 ∷ 16 ∷ [])
+    ∷ case 1 (Counter 9 sample 2 0) (1 ∷ [])
+    ∷ case 2 (Check 30 (bytes "123456789012")) (8 ∷ [])
+    ∷ case 3 (Check 1 (bytes "A")) (34 ∷ [])
+    ∷ case 3 (Wide 1 1 2 (bytes "A")) (46 ∷ [])
+    ∷ case 4 (Wide 3 2 5 (bytes "1")) (85 ∷ [])
+    ∷ case 5 (Wide 2 2 5 (bytes "12")) (49 ∷ [])
+    ∷ case 6 (Framed 10 10 3 360 250) (350 ∷ 240 ∷ [])
+    ∷ case 7 (Shows 5 (bytes "ABCDE") (bytes "V0L1V0M3.2V0R1")) (bytes "ACDE")
+    ∷ case 8 (Answers 1 (bytes "q80\n")) (0 ∷ [])
+    ∷ case 8 (Answers 1 (bytes "q79\n")) (7 ∷ [])
+    ∷ case 9 (Answers 1 (replicate 255 65)) (4 ∷ [])
+    ∷ case 9 (Answers 1 (replicate 256 65)) (5 ∷ [])
+    ∷ case 10 (Answers 1 (bytes "GM\"A\",134\n" ++ wrongPicture)) (16 ∷ [])
+    ∷ []
+
+abbrev pub given : List Case → List (List ℕ)
+given cs = map (λ (c : Case). gives (c .asked)) cs
+
+abbrev pub expected : List Case → List (List ℕ)
+expected cs = map (λ (c : Case). c .expected) cs
