@@ -1,17 +1,17 @@
 -- The ten proof cases of paper 01: what the definitions give for the table is what the table expects.
 -- Assumes nothing.
 use Prim.Native.Nat.{ℕ}
-use mathlib.Core.Path.{_≡_, refl, ap, _∙_}
+use mathlib.Core.Path.{_≡_, refl, ap}
 use mathlib.Core.List.{List, [], _∷_, _++_}
 use lib.ListN.{replicate}
 use Rattle.fields.specs.Text.{bytes}
 use Rattle.values.specs.Counters.{counterValue}
 use Rattle.session.specs.declared.answers.Answer.the-variants.{Taken, Unended, Long, Limits, Illegal}
 use Rattle.cases.specs.Calls.{Stand, start, calls}
-use Rattle.cases.specs.Table.{Asked, gives, sample, wrongPicture, table, given, expected}
-use Rattle.cases.proofs.Opened.{computed}
+use Rattle.cases.specs.Table.{wrongPicture, table, given, expected}
+use Rattle.cases.proofs.Opened.{computed, bars}
 use Rattle.cases.proofs.Laws.{answered, answer-of}
-use Rattle.cases.proofs.Sample.{w0, s0, sound-0, legal-font, opening, nine, eleven}
+use Rattle.cases.proofs.Sample.{w0, s0, sound-0, legal-font, opening, eleven}
 
 -- ---- (8) to (10): one call after opening
 
@@ -43,10 +43,10 @@ and : {x y : List ℕ} {xs ys : List (List ℕ)} → x ≡ y → xs ≡ ys → x
 and e f = λ i. e i ∷ f i
 
 pub cases : given table ≡ expected table
-unfolding computed
+unfolding computed bars
 cases =
-    and (ap (λ (t : Stand). t .answers) nine)
-    (and (ap (λ (t : Stand). t .listed) nine)
+    and (ap (λ (t : Stand). t .answers) eleven)
+    (and (ap (λ (t : Stand). t .listed) eleven)
     (and (ap (λ (t : Stand). t .black) eleven)
     (and (ap (λ (t : Stand). counterValue (t .session .counters) 0 ∷ []) eleven)
     (and refl

@@ -2,7 +2,7 @@
 -- Assumes nothing.
 use native.Mathlib.Omega.{arith}
 use Prim.Native.Nat.{ℕ, zero, suc, _+_, _*_, _/_, _%_, _≤_}
-use mathlib.Core.Path.{_≡_, refl, sym, ap, _∙_}
+use mathlib.Core.Path.{_≡_, refl, ap, _∙_}
 use mathlib.Core.Bool.{Bool, true, false, _&&_, _||_, not, cond}
 use mathlib.Core.List.{List, [], _∷_, _++_}
 use lib.ListN.{length, take, drop, replicate}
@@ -38,7 +38,6 @@ use Rattle.station.specs.Station.{
   commanded,
   labelPage,
   labelSession,
-  settledLabel,
   labelledBy,
 }
 use Rattle.cases.specs.Calls.{Stand, stand, start, font, output, calls, afterCall, labels, afterLabel}

@@ -1,58 +1,83 @@
--- x
-use Rattle.bars.specs.Drawing as BarsDrawing
-use Rattle.bars.specs.Elements as BarsElements
-use Rattle.bars.specs.Laid as BarsLaid
-use Rattle.bars.specs.Tables as BarsTables
-use Rattle.cells.specs.Cell as CellsCell
-use Rattle.cells.specs.Scan as CellsScan
-use Rattle.dots.specs.Dots as DotsDots
-use Rattle.dots.specs.Whole as DotsWhole
-use Rattle.fields.specs.Bytes as FieldsBytes
-use Rattle.fields.specs.Data as FieldsData
-use Rattle.fields.specs.Field as FieldsField
-use Rattle.fit.specs.Bytes as FitBytes
-use Rattle.fit.specs.Fit as FitFit
-use Rattle.fitness.specs.Answers as FitnessAnswers
-use Rattle.fitness.specs.Summary as FitnessSummary
-use Rattle.font.specs.Rules as FontRules
-use Rattle.font.specs.Text as FontText
-use Rattle.font.specs.Written as FontWritten
-use Rattle.forms.specs.Draw as FormsDraw
-use Rattle.forms.specs.Form as FormsForm
-use Rattle.forms.specs.Judged as FormsJudged
-use Rattle.listing.specs.Listing as ListingListing
-use Rattle.moves.specs.Erase as MovesErase
-use Rattle.moves.specs.Grow as MovesGrow
-use Rattle.moves.specs.Start as MovesStart
-use Rattle.picture.specs.Rules as PictureRules
-use Rattle.picture.specs.Shape as PictureShape
-use Rattle.picture.specs.Steps as PictureSteps
-use Rattle.read.specs.Codes as ReadCodes
-use Rattle.read.specs.Commands as ReadCommands
-use Rattle.read.specs.Front as ReadFront
-use Rattle.read.specs.Grammar as ReadGrammar
-use Rattle.read.specs.Names as ReadNames
-use Rattle.session.specs.Answers as SessionAnswers
-use Rattle.session.specs.Lent as SessionLent
-use Rattle.sound.specs.Shelf as SoundShelf
-use Rattle.sound.specs.Sound as SoundSound
-use Rattle.soundness.specs.Sound as SoundnessSound
-use Rattle.station.specs.Station as StationStation
-use Rattle.station.specs.Table as StationTable
-use Rattle.store.specs.Content as StoreContent
-use Rattle.store.specs.Entry as StoreEntry
-use Rattle.store.specs.Find as StoreFind
-use Rattle.store.specs.Lines as StoreLines
-use Rattle.values.specs.Counters as ValuesCounters
-use Rattle.values.specs.Data as ValuesData
-use Rattle.values.specs.Declarations as ValuesDeclarations
-use Rattle.values.specs.Stored as ValuesStored
-use Rattle.written.specs.Contents as WrittenContents
-use Rattle.written.specs.Written as WrittenWritten
+-- The definitions that are computed with, crate by crate: whoever unfolds `computed` unfolds all of them.
+-- Drawing, soundness as a whole and the free portions are left shut: the laws say what is needed of them.
+-- Assumes nothing.
 use mathlib.Core.Bool.{Bool, true}
-use Rattle.picture.specs.Cases as PictureCases
-use Rattle.cases.specs.Calls.{start, lent}
+use Rattle.fit.specs.Bytes as FitBytes
+use Rattle.fit.specs.Fit as Fit
+use Rattle.fields.specs.Bytes as FieldBytes
+use Rattle.fields.specs.Field as Field
+use Rattle.fields.specs.Data as Elements
+use Rattle.read.specs.Grammar as Grammar
+use Rattle.read.specs.Commands as Commands
+use Rattle.read.specs.Front as Front
+use Rattle.read.specs.Names as Names
+use Rattle.written.specs.Written as Written
+use Rattle.listing.specs.Listing as Listing
+use Rattle.cells.specs.Cell as Cell
+use Rattle.cells.specs.Scan as Scan
+use Rattle.store.specs.Entry as Entry
+use Rattle.store.specs.Find as Find
+use Rattle.store.specs.Content as Content
+use Rattle.store.specs.Lines as Lines
+use Rattle.moves.specs.Grow as Grow
+use Rattle.moves.specs.Start as Start
+use Rattle.sound.specs.Sound as Shelves
+use Rattle.soundness.specs.Sound as Sound
+use Rattle.values.specs.Declarations as Declarations
+use Rattle.values.specs.Counters as Counters
+use Rattle.values.specs.Stored as Stored
+use Rattle.values.specs.Data as Data
+use Rattle.forms.specs.Form as Form
+use Rattle.forms.specs.Judged as Judged
+use Rattle.forms.specs.Draw as Draw
+use Rattle.picture.specs.Rules as Pictures
+use Rattle.picture.specs.Cases as Picture
+use Rattle.font.specs.Rules as Fonts
+use Rattle.dots.specs.Whole as Whole
+use Rattle.bars.specs.Tables as Tables
+use Rattle.bars.specs.Elements as Bars
+use Rattle.bars.specs.Drawing as Drawing
+use Rattle.session.specs.Answers as Answers
+use Rattle.session.specs.Lent as Lent
+use Rattle.station.specs.Table as Rows
+use Rattle.station.specs.Station as Station
+use Rattle.cases.specs.Calls as Calls
+
+-- reading a line, and writing it in normal form
+unfoldable pub lines : Bool
+unfolding FitBytes.between FieldBytes.run FieldBytes.valueFrom Field.numberAt Field.textAt Field.signedAt Field.byteAt Grammar.find Grammar.headOf Grammar.fieldAt Grammar.fieldsFrom Grammar.spread Grammar.beyond Grammar.fieldLimits Grammar.limitsFrom Commands.itemOf Commands.orderOf Commands.judged Commands.headed Commands.readOf Front.sizeOf Front.askedBy Front.lineFront Front.frontOf Names.capital Names.nameByte Written.digits Written.signed Written.cased Written.writtenField Written.writtenFrom Written.writtenOf Written.headWritten Written.equal Written.isNormal
+lines = true
+
+-- the store, and what moves in it
+unfoldable pub memory : Bool
+unfolding Cell.cell Cell.zeros Scan.lowestFrom Entry.name Entry.first Entry.size Entry.many Find.found Find.sameName Find.titled Content.portionAfter Content.placeAfter Content.bytesFrom Content.extent Content.contentOf Lines.linesOf Grow.nextLast Grow.nextLinks Grow.lastOf Grow.withSize Grow.grown Grow.canGrow Start.hasRoom Start.nameEnd Start.newEntry Start.begun Start.finished Listing.listingLine Listing.listingFrom Listing.listing
+memory = true
+
+-- values and data
+unfoldable pub values : Bool
+unfolding Elements.modifierAt Elements.heldAt Elements.elementAt Elements.elementsFrom Elements.elements Declarations.nothing Declarations.withVariable Declarations.withCounter Counters.tenTo Counters.noneSet Counters.counterEntered Counters.moved Counters.movedAt Counters.movedAll Stored.enters Stored.padded Stored.field Stored.fieldAt Stored.valueIn Stored.variableIn Stored.variableEntered Stored.unset Stored.fieldSound Stored.counterSound Stored.valuesSound Stored.allSet Data.partOf Data.pieceOf
+values = true
+
+-- forms, pictures and fonts
+unfoldable pub forms : Bool
+unfolding Form.itemIn Form.takes Form.declaring Form.takesAll Form.declaredBy Form.formOk Form.declaredOf Form.hasPicture Form.hasAll Form.picturesStored Judged.judged Judged.declares Draw.far Draw.drawsItem Draw.drawsLine Draw.drawsLines Draw.formDrawn Pictures.headed Pictures.times Pictures.next Pictures.given Pictures.emptyRun Pictures.noEmptyRun Pictures.waiting Pictures.filled Pictures.legal Picture.header Fonts.headed Fonts.fieldsFrom Fonts.legal Whole.copied
+forms = true
+
+-- the clauses of sound
+unfoldable pub clauses : Bool
+unfolding Shelves.lentOk Shelves.kindsOk Shelves.legalByte Shelves.nameByteOk Shelves.nameOk Shelves.namesOk Shelves.uniqueOk Shelves.uniquesOk Shelves.singleOk Shelves.singlesOk Shelves.portionOk Shelves.linksOk Shelves.emptiesOk Shelves.tailOf Shelves.tailsOk Sound.numbersOk Sound.contentOk Sound.contentsOk Sound.activeOk Sound.activeBytes Sound.owedOk Sound.activitySound
+clauses = true
+
+-- the calls
+unfoldable pub calls : Bool
+unfolding Answers.numberOf Answers.isTaken Answers.answerOf Lent.pageWrong Lent.storeWrong Lent.directoryWrong Lent.lengthsWrong Rows.commandTable Station.cleared Station.opened Station.readBy Station.labelPage Station.labelSession Calls.lent Calls.start
+calls = true
+
+-- bars
+unfoldable pub bars : Bool
+unfolding FitBytes.between Fit.inClass Fit.fitLength Fit.fit Field.kindFrom Tables.rows128 Tables.rows39 Tables.rows25 Bars.digits Bars.each Bars.six Bars.weighed Bars.check128 Bars.elements128 Bars.nine Bars.spaced Bars.elements39 Bars.five Bars.woven Bars.pairs Bars.elements25 Bars.weights Bars.checkDigit Bars.elementsIn Bars.elements Drawing.dotsOf Drawing.widths Drawing.sum
+bars = true
 
 unfoldable pub computed : Bool
-unfolding start lent PictureCases.header BarsDrawing.inLimits BarsDrawing.dotsOf BarsDrawing.widths BarsDrawing.sum BarsDrawing.inBar BarsDrawing.bars BarsDrawing.barsDrawn BarsElements.digits BarsElements.each BarsElements.six BarsElements.weighed BarsElements.check128 BarsElements.elements128 BarsElements.nine BarsElements.spaced BarsElements.elements39 BarsElements.five BarsElements.woven BarsElements.pairs BarsElements.elements25 BarsElements.weights BarsElements.checkDigit BarsElements.checked BarsElements.patternRow BarsElements.pattern BarsElements.patterns BarsElements.setsOf BarsElements.elementsEan BarsElements.elementsIn BarsElements.elements BarsLaid.spread BarsTables.rows128 BarsTables.rows39 BarsTables.rows25 BarsTables.rowsA BarsTables.rowsB BarsTables.rowsSet CellsCell.cell CellsCell.zeros CellsScan.lowestFrom DotsWhole.white DotsWhole.copied DotsWhole.turnedIn DotsWhole.whiteFrom DotsWhole.whiteOutside FieldsBytes.run FieldsBytes.valueFrom FieldsData.modifierAt FieldsData.heldAt FieldsData.elementAt FieldsData.elementsFrom FieldsData.elements FieldsData.total FieldsData.dataAt FieldsData.limits FieldsField.numberAt FieldsField.textAt FieldsField.signedAt FieldsField.byteAt FieldsField.letterAt FieldsField.typeAt FieldsField.kindFrom FitBytes.between FitFit.inClass FitFit.fitLength FitFit.fit FitnessAnswers.reachesPast FitnessAnswers.undeclaredBy FitnessAnswers.pastBy FitnessAnswers.dataAnswer FitnessSummary.partLength FitnessSummary.judged FitnessSummary.summaryOf FontRules.headed FontRules.rowsClean FontRules.glyph FontRules.fieldsFrom FontRules.legal FontRules.placeFrom FontRules.rowsOf FontText.inMode FontText.textDrawn FontWritten.glyphFields FormsDraw.shown FormsDraw.pictureBytes FormsDraw.far FormsDraw.drawsItem FormsDraw.drawsLine FormsDraw.drawsLines FormsDraw.formDrawn FormsForm.itemIn FormsForm.takes FormsForm.declaring FormsForm.takesAll FormsForm.declaredBy FormsForm.formOk FormsForm.declaredOf FormsForm.hasPicture FormsForm.hasAll FormsForm.picturesStored FormsJudged.judged FormsJudged.declares FormsJudged.declaration ListingListing.listingLine ListingListing.listingFrom ListingListing.listing MovesErase.freed MovesErase.erased MovesErase.erasedFrom MovesGrow.nextLast MovesGrow.nextLinks MovesGrow.lastOf MovesGrow.withSize MovesGrow.grown MovesGrow.canGrow MovesStart.hasRoom MovesStart.nameEnd MovesStart.newEntry MovesStart.begun MovesStart.kept MovesStart.finished PictureRules.headed PictureRules.times PictureRules.next PictureRules.given PictureRules.emptyRun PictureRules.noEmptyRun PictureRules.waiting PictureRules.filled PictureRules.legal PictureRules.covering PictureShape.pictured PictureSteps.eight PictureSteps.part PictureSteps.spotOf ReadCodes.boundBy ReadCodes.codeAt ReadCommands.itemOf ReadCommands.orderOf ReadCommands.judged ReadCommands.headed ReadCommands.readOf ReadFront.sizeOf ReadFront.askedBy ReadFront.lineFront ReadFront.frontOf ReadGrammar.find ReadGrammar.headOf ReadGrammar.fieldAt ReadGrammar.fieldsFrom ReadGrammar.spread ReadGrammar.beyond ReadGrammar.fieldLimits ReadGrammar.limitsFrom ReadNames.capital ReadNames.nameByte SessionAnswers.numberOf SessionAnswers.isTaken SessionAnswers.answerOf SessionLent.pageWrong SessionLent.storeWrong SessionLent.directoryWrong SessionLent.lengthsWrong SoundShelf.shelf SoundShelf.titleOk SoundSound.lentOk SoundSound.kindsOk SoundSound.legalByte SoundSound.nameByteOk SoundSound.nameOk SoundSound.namesOk SoundSound.uniqueOk SoundSound.uniquesOk SoundSound.singleOk SoundSound.singlesOk SoundSound.portionOk SoundSound.linksOk SoundSound.emptiesOk SoundSound.freesOk SoundSound.tailOf SoundSound.tailsOk SoundSound.storeSound SoundnessSound.numbersOk SoundnessSound.backgroundOk SoundnessSound.contentOk SoundnessSound.contentsOk SoundnessSound.activeOk SoundnessSound.activeBytes SoundnessSound.owedOk SoundnessSound.activitySound SoundnessSound.sound StationStation.cleared StationStation.opened StationStation.readBy StationStation.commanded StationStation.labelPage StationStation.labelSession StationStation.labelledBy StationTable.commandTable StationTable.labelTable StoreContent.portionAfter StoreContent.placeAfter StoreContent.bytesFrom StoreContent.extent StoreContent.contentOf StoreContent.after StoreEntry.name StoreEntry.first StoreEntry.size StoreEntry.many StoreFind.found StoreFind.sameName StoreFind.titled StoreLines.linesOf StoreLines.lineOf StoreLines.nextLine StoreLines.lined ValuesCounters.tenTo ValuesCounters.digits ValuesCounters.digitsOf ValuesCounters.noneSet ValuesCounters.counterEntered ValuesCounters.moved ValuesCounters.movedAt ValuesCounters.movedAll ValuesData.partOf ValuesData.pieceOf ValuesDeclarations.nothing ValuesDeclarations.withVariable ValuesDeclarations.withCounter ValuesStored.enters ValuesStored.padded ValuesStored.field ValuesStored.fieldAt ValuesStored.valueIn ValuesStored.variableIn ValuesStored.variableEntered ValuesStored.unset ValuesStored.fits ValuesStored.keeps ValuesStored.fieldSound ValuesStored.counterSound ValuesStored.valuesSound ValuesStored.allSet WrittenContents.pieces WrittenContents.held WrittenContents.heldBy WrittenContents.contentsOf WrittenContents.headContents WrittenWritten.digits WrittenWritten.signed WrittenWritten.cased WrittenWritten.partWritten WrittenWritten.whatWritten WrittenWritten.dataWritten WrittenWritten.writtenField WrittenWritten.writtenFrom WrittenWritten.writtenOf WrittenWritten.headWritten WrittenWritten.equal WrittenWritten.isNormal
+unfolding lines memory values forms clauses calls
 computed = true

@@ -2,9 +2,9 @@
 -- Assumes nothing.
 use Prim.Native.Nat.{ℕ}
 use mathlib.Core.Path.{_≡_, refl, ap, _∙_}
-use mathlib.Core.Bool.{Bool, true, false}
+use mathlib.Core.Bool.{true}
 use mathlib.Core.List.{List, [], _∷_, _++_}
-use lib.ListN.{length, drop, replicate}
+use lib.ListN.{drop, replicate}
 use Rattle.fields.specs.Text.{bytes}
 use Rattle.dots.specs.declared.Ink.the-variants.{Black}
 use Rattle.dots.specs.Dots.{drawn as inked, cut, box}
@@ -19,7 +19,7 @@ use Rattle.session.specs.declared.answers.Answer.the-variants.{Taken, Unset}
 use Rattle.session.specs.Session.{session, fresh, blank}
 use Rattle.session.specs.Answers.{numberOf}
 use Rattle.session.specs.Lent.{World, world}
-use Rattle.station.specs.World.{After, after, outcome, drawnBy, labelled}
+use Rattle.station.specs.World.{after, outcome, drawnBy, labelled}
 use Rattle.station.specs.Station.{commanded, labelPage, labelledBy}
 use Rattle.cases.specs.Calls.{stand, start, font, output, calls, labels}
 use Rattle.cases.specs.Table.{sample}
@@ -194,7 +194,7 @@ pub opening : start ≡ stand s0 w0 white [] [] []
 unfolding computed w0
 opening = refl
 
-pub nine : calls 9 sample start ≡ stand (owing 2 0 99) w4 white (0 ∷ 0 ∷ 0 ∷ 0 ∷ 0 ∷ 0 ∷ 18 ∷ 0 ∷ 0 ∷ []) (bytes "23,\"TEST\"\n") []
+nine : calls 9 sample start ≡ stand (owing 2 0 99) w4 white (0 ∷ 0 ∷ 0 ∷ 0 ∷ 0 ∷ 0 ∷ 18 ∷ 0 ∷ 0 ∷ []) (bytes "23,\"TEST\"\n") []
 unfolding numberOf
 nine =
     ap (calls 9 sample) opening

@@ -22,10 +22,10 @@ use Rattle.cases.specs.Calls.{start, calls, labels}
 -- ---- what is asked
 
 pub data Asked : Type 0 where
-  -- the answers, and the bytes listed, of so many calls on an input after opening
-  Answers : ℕ → List ℕ → Asked
-  Listing : ℕ → List ℕ → Asked
-  -- the black dots of so many labels after them, and the value of a counter then
+  -- after opening, so many calls that read an input, and so many labels: the answers, the bytes listed, the black dots of each label, and the
+  -- value of a counter then
+  Answers : ℕ → List ℕ → ℕ → Asked
+  Listing : ℕ → List ℕ → ℕ → Asked
   Black : ℕ → List ℕ → ℕ → Asked
   Counter : ℕ → List ℕ → ℕ → ℕ → Asked
   -- the check digit or check symbol of data of a bar type, and the dots that they are wide with narrow e and wide f
@@ -41,8 +41,8 @@ V0 m = withVariable nothing 0 m 76
 
 -- ---- what the definitions give
 abbrev pub gives : Asked → List ℕ
-gives (Answers n input) = calls n input start .answers
-gives (Listing n input) = calls n input start .listed
+gives (Answers n input k) = labels k (calls n input start) .answers
+gives (Listing n input k) = labels k (calls n input start) .listed
 gives (Black n input k) = labels k (calls n input start) .black
 gives (Counter n input k c) = counterValue (labels k (calls n input start) .session .counters) c ∷ []
 gives (Check t text) = cond (eqb t 30) (checkDigit text) (check128 text) ∷ []
@@ -65,14 +65,14 @@ case n a e = record { number = n; asked = a; expected = e }
 abbrev pub sample : List ℕ
 sample = bytes "FS\"Test\"\nC0,02,+1,\"NO\"\nLO0,0,8,2\nFE\nFI\nFR\"TEST\"\nP2\n?C0,99\nP2\n"
 
--- a picture that is legal but for its byte 128
+-- a picture that is legal but for its byte 128, which is put in front of its runs
 abbrev pub wrongPicture : List ℕ
 wrongPicture = header ++ (192 ∷ 195 ∷ 0 ∷ 15 ∷ 194 ∷ 255 ∷ [])
 
 abbrev pub table : List Case
 table =
-    case 1 (Answers 9 sample) (0 ∷ 0 ∷ 0 ∷ 0 ∷ 0 ∷ 0 ∷ 18 ∷ 0 ∷ 0 ∷ [])
-    ∷ case 1 (Listing 9 sample) (bytes "23,\"TEST\"\n")
+    case 1 (Answers 9 sample 2) (0 ∷ 0 ∷ 0 ∷ 0 ∷ 0 ∷ 0 ∷ 18 ∷ 0 ∷ 0 ∷ 0 ∷ 0 ∷ [])
+    ∷ case 1 (Listing 9 sample 2) (bytes "23,\"TEST\"\n")
     ∷ case 1 (Black 9 sample 2) (16 ∷ 16 ∷ [])
     ∷ case 1 (Counter 9 sample 2 0) (1 ∷ [])
     ∷ case 2 (Check 30 (bytes "123456789012")) (8 ∷ [])
@@ -82,11 +82,11 @@ table =
     ∷ case 5 (Wide 2 2 5 (bytes "12")) (49 ∷ [])
     ∷ case 6 (Framed 10 10 3 360 250) (350 ∷ 240 ∷ [])
     ∷ case 7 (Shows 5 (bytes "ABCDE") (bytes "V0L1V0M3.2V0R1")) (bytes "ACDE")
-    ∷ case 8 (Answers 1 (bytes "q80\n")) (0 ∷ [])
-    ∷ case 8 (Answers 1 (bytes "q79\n")) (7 ∷ [])
-    ∷ case 9 (Answers 1 (replicate 255 65)) (4 ∷ [])
-    ∷ case 9 (Answers 1 (replicate 256 65)) (5 ∷ [])
-    ∷ case 10 (Answers 1 (bytes "GM\"A\",134\n" ++ wrongPicture)) (16 ∷ [])
+    ∷ case 8 (Answers 1 (bytes "q80\n") 0) (0 ∷ [])
+    ∷ case 8 (Answers 1 (bytes "q79\n") 0) (7 ∷ [])
+    ∷ case 9 (Answers 1 (replicate 255 65) 0) (4 ∷ [])
+    ∷ case 9 (Answers 1 (replicate 256 65) 0) (5 ∷ [])
+    ∷ case 10 (Answers 1 (bytes "GM\"A\",134\n" ++ wrongPicture) 0) (16 ∷ [])
     ∷ []
 
 abbrev pub given : List Case → List (List ℕ)
