@@ -8,7 +8,7 @@ use Rattle.fields.specs.Text.{bytes}
 use Rattle.values.specs.Counters.{counterValue}
 use Rattle.session.specs.declared.answers.Answer.the-variants.{Taken, Unended, Long, Limits, Illegal}
 use Rattle.cases.specs.Calls.{Stand, start, calls}
-use Rattle.cases.specs.Table.{wrongPicture, table, given, expected}
+use Rattle.cases.specs.Table.{Case, gives, wrongPicture, table, given, expected}
 use Rattle.cases.proofs.Opened.{computed, bars}
 use Rattle.cases.proofs.Laws.{answered, answer-of}
 use Rattle.cases.proofs.Sample.{w0, s0, sound-0, legal-font, opening, eleven}
@@ -37,27 +37,32 @@ illegal =
     answer-of s0 w0 (replicate 18240 0) (bytes "GM\"A\",134\n" ++ wrongPicture) _ opening
     (answered s0 w0 (bytes "GM\"A\",134\n" ++ wrongPicture) Illegal refl legal-font sound-0 refl)
 
--- ---- one row after another
+-- ---- row by row
 
-and : {x y : List ℕ} {xs ys : List (List ℕ)} → x ≡ y → xs ≡ ys → x ∷ xs ≡ y ∷ ys
-and e f = λ i. e i ∷ f i
+abbrev Holds : List Case → Type 0
+Holds [] = Unit {0}
+Holds (c ∷ cs) = (gives (c .asked) ≡ c .expected) × Holds cs
 
-pub cases : given table ≡ expected table
+together : (cs : List Case) → Holds cs → given cs ≡ expected cs
+together [] h = refl
+together (c ∷ cs) h = λ i. h .0 i ∷ together cs (h .1) i
+
+rows : Holds table
 unfolding computed bars
-cases =
-    and (ap (λ (t : Stand). t .answers) eleven)
-    (and (ap (λ (t : Stand). t .listed) eleven)
-    (and (ap (λ (t : Stand). t .black) eleven)
-    (and (ap (λ (t : Stand). counterValue (t .session .counters) 0 ∷ []) eleven)
-    (and refl
-    (and refl
-    (and refl
-    (and refl
-    (and refl
-    (and refl
-    (and refl
-    (and q80
-    (and q79
-    (and short
-    (and long
-    (and illegal refl)))))))))))))))
+rows = (
+  ap (λ (t : Stand). t .answers) eleven,
+  (
+    ap (λ (t : Stand). t .listed) eleven,
+    (
+      ap (λ (t : Stand). t .black) eleven,
+      (
+        ap (λ (t : Stand). counterValue (t .session .counters) 0 ∷ []) eleven,
+        (refl, (refl, (refl, (refl, (refl, (refl, (refl, (q80, (q79, (short, (long, (illegal, tt)))))))))))),
+      ),
+    ),
+  ),
+)
+
+-- "One statement over one table covers these ten"
+pub cases : given table ≡ expected table
+cases = together table rows
