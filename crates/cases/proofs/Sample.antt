@@ -26,7 +26,7 @@ use Rattle.cases.specs.Table.{sample}
 use Rattle.cases.proofs.Opened.{computed}
 use Rattle.cases.proofs.Laws.{sound-from, store-from, background, frees, two-rows, no-more, black-front, answered, labels-taken, call-on, label-on}
 
--- ---- the memory after each call: the first portion and what it holds, the links, the first entry
+-- ---- the memory after opening and after each of the four calls that change it
 
 abbrev white : List ℕ
 white = replicate 18240 0
@@ -34,7 +34,7 @@ white = replicate 18240 0
 abbrev unset : List ℕ
 unset = replicate 340 0
 
--- the form's lines, zero-filled to a portion, and the free portions behind it
+-- the first portion with no line, one line and two lines of the form; 63 free portions behind it
 abbrev none : List ℕ
 none = replicate 256 0
 
@@ -114,39 +114,39 @@ store-4 = store-from (stored two) taken (test 1 23) refl refl refl refl refl ref
 
 pub sound-0 : sound s0 w0 ≡ true
 unfolding computed w0
-sound-0 = sound-from (s0) (world white (stored none) free (replicate 128 0) unset) refl (background 608 240 18240) store-0 refl refl
+sound-0 = sound-from s0 w0 refl (background 608 240 18240) store-0 refl refl
 
 sound-1 : sound s0 w1 ≡ true
 unfolding computed w1
-sound-1 = sound-from (s0) (world white (stored none) taken (test 3 0) unset) refl (background 608 240 18240) store-1 refl refl
+sound-1 = sound-from s0 w1 refl (background 608 240 18240) store-1 refl refl
 
 sound-2 : sound s0 w2 ≡ true
 unfolding computed w2
-sound-2 = sound-from (s0) (world white (stored one) taken (test 3 13) unset) refl (background 608 240 18240) store-2 refl refl
+sound-2 = sound-from s0 w2 refl (background 608 240 18240) store-2 refl refl
 
 sound-3 : sound s0 w3 ≡ true
 unfolding computed w3
-sound-3 = sound-from (s0) (world white (stored two) taken (test 3 23) unset) refl (background 608 240 18240) store-3 refl refl
+sound-3 = sound-from s0 w3 refl (background 608 240 18240) store-3 refl refl
 
 sound-4 : sound s0 w4 ≡ true
 unfolding computed w4
-sound-4 = sound-from (s0) (world white (stored two) taken (test 1 23) unset) refl (background 608 240 18240) store-4 refl refl
+sound-4 = sound-from s0 w4 refl (background 608 240 18240) store-4 refl refl
 
 sound-5 : sound s5 w4 ≡ true
 unfolding computed w4
-sound-5 = sound-from (s5) (world white (stored two) taken (test 1 23) unset) refl (background 608 240 18240) store-4 refl refl
+sound-5 = sound-from s5 w4 refl (background 608 240 18240) store-4 refl refl
 
 sound-7 : sound s7 w4 ≡ true
 unfolding computed w4
-sound-7 = sound-from (s7) (world white (stored two) taken (test 1 23) unset) refl (background 608 240 18240) store-4 refl refl
+sound-7 = sound-from s7 w4 refl (background 608 240 18240) store-4 refl refl
 
 sound-8 : sound (owing 2 0 99) w4 ≡ true
 unfolding computed w4
-sound-8 = sound-from ((owing 2 0 99)) (world white (stored two) taken (test 1 23) unset) refl (background 608 240 18240) store-4 refl refl
+sound-8 = sound-from (owing 2 0 99) w4 refl (background 608 240 18240) store-4 refl refl
 
 sound-9 : sound (owing 1 1 0) w4 ≡ true
 unfolding computed w4
-sound-9 = sound-from ((owing 1 1 0)) (world white (stored two) taken (test 1 23) unset) refl (background 608 240 18240) store-4 refl refl
+sound-9 = sound-from (owing 1 1 0) w4 refl (background 608 240 18240) store-4 refl refl
 
 -- ---- the calls
 

@@ -28,7 +28,7 @@ pub data Asked : Type 0 where
   Listing : ℕ → List ℕ → ℕ → Asked
   Black : ℕ → List ℕ → ℕ → Asked
   Counter : ℕ → List ℕ → ℕ → ℕ → Asked
-  -- the check digit or check symbol of data of a bar type, and the dots that they are wide with narrow e and wide f
+  -- the check digit or check symbol of data of a bar type, and the dots that they are wide with narrow e and wide f: modules, where e is 1
   Check : ℕ → List ℕ → Asked
   Wide : ℕ → ℕ → ℕ → List ℕ → Asked
   -- the dots of a frame's first row and first column
@@ -65,7 +65,7 @@ case n a e = record { number = n; asked = a; expected = e }
 abbrev pub sample : List ℕ
 sample = bytes "FS\"Test\"\nC0,02,+1,\"NO\"\nLO0,0,8,2\nFE\nFI\nFR\"TEST\"\nP2\n?C0,99\nP2\n"
 
--- a picture that is legal but for its byte 128, which is put in front of its runs
+-- a legal picture with 192 put in front of its runs, as byte 128
 abbrev pub wrongPicture : List ℕ
 wrongPicture = header ++ (192 ∷ 195 ∷ 0 ∷ 15 ∷ 194 ∷ 255 ∷ [])
 
