@@ -1,4 +1,3 @@
-pub mod Answers
 pub mod Cleared
 pub mod Below
 pub mod Marked
