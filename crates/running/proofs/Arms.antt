@@ -101,7 +101,7 @@ taken-by a a' b x y z e f n g = g ∙ sym (cond-true (isTaken a') x y (sym (ap i
 item-join :
     (h : Bool) (v : Verdict) (rest : List Row) →
     answerOf (row Missing (not h) ∷ verdictRows v rest)
-      ≡ cond (isTaken (answerOf (row Missing (not h) ∷ verdictRows v []))) (answerOf rest) (answerOf (row Missing (not h) ∷ verdictRows v []))
+    ≡ cond (isTaken (answerOf (row Missing (not h) ∷ verdictRows v []))) (answerOf rest) (answerOf (row Missing (not h) ∷ verdictRows v []))
 unfolding answerOf isTaken numberOf
 item-join false v rest = refl
 item-join true Fine rest = refl
@@ -116,8 +116,8 @@ pub item-refused :
 item-refused d dir line it rest a b e f n =
     e
     ∙ sym
-      (cond-false (isTaken (answerOf (itemRows d dir line it []))) (answerOf rest) (answerOf (itemRows d dir line it []))
-      (sym (ap isTaken e) ∙ sym f ∙ not-true b n))
+    (cond-false (isTaken (answerOf (itemRows d dir line it []))) (answerOf rest) (answerOf (itemRows d dir line it []))
+    (sym (ap isTaken e) ∙ sym f ∙ not-true b n))
     ∙ sym (item-join (hasPicture dir line it) (judged d line it) rest)
 
 item-passed :
@@ -126,7 +126,7 @@ item-passed :
 item-passed d dir line it rest a b e f n =
     item-join (hasPicture dir line it) (judged d line it) rest
     ∙ cond-true (isTaken (answerOf (itemRows d dir line it []))) (answerOf rest) (answerOf (itemRows d dir line it []))
-      (sym (ap isTaken e) ∙ sym f ∙ not-false b n)
+    (sym (ap isTaken e) ∙ sym f ∙ not-false b n)
 
 pub item-room :
     (d : Declared) (dir line : List ℕ) (it : Item) (a : Answer) (b g : Bool) →
@@ -211,9 +211,9 @@ pub erase-form-in :
     (ranBy a s (world [] st l d v) []
     (pickState p (inactive s (erasedEvery (world [] st l d v) false))
     (pickState q (inactive s (erasedNamed (world [] st l d v) false f)) (state s (erasedNamed (world [] st l d v) false f)))) [])
-      ≡ ranBy a s (world b st l d v) o
-      (pickState p (inactive s (erasedEvery (world b st l d v) false))
-      (pickState q (inactive s (erasedNamed (world b st l d v) false f)) (state s (erasedNamed (world b st l d v) false f)))) []
+    ≡ ranBy a s (world b st l d v) o
+    (pickState p (inactive s (erasedEvery (world b st l d v) false))
+    (pickState q (inactive s (erasedNamed (world b st l d v) false f)) (state s (erasedNamed (world b st l d v) false f)))) []
 erase-form-in a true q f s b st l d v o =
     cond-map (onForms b o) (isTaken a) (ran (done Taken (activated s 65535) 0) (unsetIn (erasedEvery (world [] st l d v) false)) [])
     (ran (done a s 0) (world [] st l d v) [])
@@ -232,8 +232,8 @@ pub erase-picture-in :
     onMemory b v o
     (ranBy a s (world [] st l d []) []
     (state s (cond p (erasedEvery (world [] st l d []) true) (erasedNamed (world [] st l d []) true f))) [])
-      ≡ ranBy a s (world b st l d v) o
-      (state s (cond p (erasedEvery (world b st l d v) true) (erasedNamed (world b st l d v) true f))) []
+    ≡ ranBy a s (world b st l d v) o
+    (state s (cond p (erasedEvery (world b st l d v) true) (erasedNamed (world b st l d v) true f))) []
 erase-picture-in a true f s b st l d v o =
     cond-map (onMemory b v o) (isTaken a) (ran (done Taken s 0) (erasedEvery (world [] st l d []) true) []) (ran (done a s 0) (world [] st l d []) [])
 erase-picture-in a false (At i) s b st l d v o =
@@ -247,7 +247,7 @@ pub erase-form-run :
 erase-form-run n s font line more b st l d v o x e =
     ap (onForms b o) e
     ∙ erase-form-in (answerOf (row Missing (notFound (world [] st l d v) false line n) ∷ [])) (n .all)
-      (eqb (s .active) (placeOf (named (world [] st l d v) false line n))) (named (world [] st l d v) false line n) s b st l d v o
+    (eqb (s .active) (placeOf (named (world [] st l d v) false line n))) (named (world [] st l d v) false line n) s b st l d v o
 
 pub erase-picture-run :
     (n : Named) (s : Session) (font line more b st l d v o : List ℕ) (x : Ran) → x ≡ runBy [] (world [] st l d []) s line [] [] (ErasePicture n) →
@@ -261,8 +261,8 @@ print-in :
     onOutput (world b st l d v)
     (ranBy (answerOf (row Missing m ∷ row Overlong (exceeds (printedAt (world [] st l d []) f) (length o)) ∷ [])) s (world [] st l d []) o
     (state s (world [] st l d [])) (printedAt (world [] st l d []) f))
-      ≡ ranBy (answerOf (row Missing m ∷ row Overlong (exceeds (printedAt (world b st l d v) f) (length o)) ∷ [])) s (world b st l d v) o
-      (state s (world b st l d v)) (printedAt (world b st l d v) f)
+    ≡ ranBy (answerOf (row Missing m ∷ row Overlong (exceeds (printedAt (world b st l d v) f) (length o)) ∷ [])) s (world b st l d v) o
+    (state s (world b st l d v)) (printedAt (world b st l d v) f)
 print-in m (At i) s b st l d v o =
     let a = answerOf (row Missing m ∷ row Overlong (exceeds (contentAt (world [] st l d []) i) (length o)) ∷ []) in
     let bytes = contentAt (world [] st l d []) i in
@@ -312,8 +312,8 @@ variable-kept d n text v h =
 entered-cases :
     (e : Entered) (s : Session) (b st l d v v' o : List ℕ) → (isEntered e ≡ false → v' ≡ v) →
     ran (done (answerOf (enteredRows e)) s 0) (world b st l d v') o
-      ≡ cond (isTaken (answerOf (enteredRows e))) (ran (done Taken s 0) (world b st l d v') o)
-      (ran (done (answerOf (enteredRows e)) s 0) (world b st l d v) o)
+    ≡ cond (isTaken (answerOf (enteredRows e))) (ran (done Taken s 0) (world b st l d v') o)
+    (ran (done (answerOf (enteredRows e)) s 0) (world b st l d v) o)
 unfolding answerOf isTaken numberOf
 entered-cases Enters s b st l d v v' o h = refl
 entered-cases NotDeclared s b st l d v v' o h = ap (λ (k : List ℕ). ran (done Undeclared s 0) (world b st l d k) o) (h refl)
@@ -322,15 +322,15 @@ entered-cases DoesNotFit s b st l d v v' o h = ap (λ (k : List ℕ). ran (done 
 pub variable-by :
     (dec : Declared) (n : ℕ) (text : List ℕ) (e : Entered) (s : Session) (b st l d v v' o : List ℕ) → stored e v' ≡ variableEntered dec n text v →
     ran (done (answerOf (enteredRows e)) s 0) (world b st l d v') o
-      ≡ cond (isTaken (answerOf (enteredRows (variableEntered dec n text v .answer))))
-      (ran (done Taken s 0) (world b st l d (variableEntered dec n text v .values)) o)
-      (ran (done (answerOf (enteredRows (variableEntered dec n text v .answer))) s 0) (world b st l d v) o)
+    ≡ cond (isTaken (answerOf (enteredRows (variableEntered dec n text v .answer))))
+    (ran (done Taken s 0) (world b st l d (variableEntered dec n text v .values)) o)
+    (ran (done (answerOf (enteredRows (variableEntered dec n text v .answer))) s 0) (world b st l d v) o)
 variable-by dec n text e s b st l d v v' o q =
     subst
     (λ (x : Stored).
-      ran (done (answerOf (enteredRows e)) s 0) (world b st l d v') o
-        ≡ cond (isTaken (answerOf (enteredRows (x .answer)))) (ran (done Taken s 0) (world b st l d (x .values)) o)
-        (ran (done (answerOf (enteredRows (x .answer))) s 0) (world b st l d v) o))
+    ran (done (answerOf (enteredRows e)) s 0) (world b st l d v') o
+    ≡ cond (isTaken (answerOf (enteredRows (x .answer)))) (ran (done Taken s 0) (world b st l d (x .values)) o)
+    (ran (done (answerOf (enteredRows (x .answer))) s 0) (world b st l d v) o))
     q
     (entered-cases e s b st l d v v' o
     (λ h. ap (λ (x : Stored). x .values) q ∙ variable-kept dec n text v (sym (ap (λ (x : Stored). isEntered (x .answer)) q) ∙ h)))

@@ -172,19 +172,19 @@ unfolding itemOf
 item-limits k rows s vs ps q =
     pick-item (eqb k 2) _ _
     (λ e.
-      let z : Kept rows 2 s vs ps = subst (λ (j : ℕ). Kept rows j s vs ps) (eqb-true k 2 e) q in
-      let a = x-row rows s vs ps z in
-      let b = y-row rows s vs ps z in
-      (omega (arith, a), omega (arith, b)))
+    let z : Kept rows 2 s vs ps = subst (λ (j : ℕ). Kept rows j s vs ps) (eqb-true k 2 e) q in
+    let a = x-row rows s vs ps z in
+    let b = y-row rows s vs ps z in
+    (omega (arith, a), omega (arith, b)))
     (λ _.
-      pick-item (eqb k 8) _ _ (λ _. tt)
-      (λ _.
-        pick-item (eqb k 9) _ _ (λ _. tt)
-        (λ _.
-          pick-item (eqb k 10) _ _ (λ _. tt)
-          (λ _.
-            pick-item (eqb k 11) _ _ (λ _. tt)
-            (λ _. pick-item (eqb k 22) _ _ (λ _. tt) (λ _. pick-item (eqb k 23) _ _ (λ _. tt) (λ _. tt)))))))
+    pick-item (eqb k 8) _ _ (λ _. tt)
+    (λ _.
+    pick-item (eqb k 9) _ _ (λ _. tt)
+    (λ _.
+    pick-item (eqb k 10) _ _ (λ _. tt)
+    (λ _.
+    pick-item (eqb k 11) _ _ (λ _. tt)
+    (λ _. pick-item (eqb k 22) _ _ (λ _. tt) (λ _. pick-item (eqb k 23) _ _ (λ _. tt) (λ _. tt)))))))
 
 order-limits : (k rows : ℕ) (s vs ps : List ℕ) → rows < 65536 → Kept rows k s vs ps → limited (orderOf k s vs ps)
 unfolding orderOf
@@ -192,17 +192,17 @@ order-limits k rows s vs ps r q =
     pick-command (eqb k 0) _ _
     (λ e. let a = length-row rows s vs ps (subst (λ (j : ℕ). Kept rows j s vs ps) (eqb-true k 0 e) q) in omega (arith, a, r))
     (λ _.
-      pick-command (eqb k 1) _ _
-      (λ e. let a = width-row rows s vs ps (subst (λ (j : ℕ). Kept rows j s vs ps) (eqb-true k 1 e) q) in omega (arith, a))
-      (λ _. pick-command (eqb k 3) _ _ (λ _. tt) (λ _. pick-command (eqb k 4) _ _ (λ _. tt)
-      (λ _. pick-command (eqb k 12) _ _ (λ _. tt) (λ _. pick-command (eqb k 13) _ _ (λ _. tt)
-      (λ _. pick-command (eqb k 14) _ _ (λ _. tt) (λ _. pick-command (eqb k 15) _ _ (λ _. tt)
-      (λ _. pick-command (eqb k 16) _ _ (λ _. tt) (λ _. pick-command (eqb k 17) _ _ (λ _. tt)
-      (λ _. pick-command (eqb k 18) _ _ (λ _. tt) (λ _. pick-command (eqb k 19) _ _ (λ _. tt)
-      (λ _. pick-command (eqb k 20) _ _ (λ _. tt) (λ _. pick-command (eqb k 21) _ _ (λ _. tt)
-      (λ _. pick-command (eqb k 24) _ _ (λ _. tt) (λ _. pick-command (eqb k 25) _ _ (λ _. tt)
-      (λ _. pick-command (eqb k 26) _ _
-      (λ e. let a = print-row rows s vs ps (subst (λ (j : ℕ). Kept rows j s vs ps) (eqb-true k 26 e) q) in omega (arith, a)) (λ _. tt)))))))))))))))))
+    pick-command (eqb k 1) _ _
+    (λ e. let a = width-row rows s vs ps (subst (λ (j : ℕ). Kept rows j s vs ps) (eqb-true k 1 e) q) in omega (arith, a))
+    (λ _. pick-command (eqb k 3) _ _ (λ _. tt) (λ _. pick-command (eqb k 4) _ _ (λ _. tt)
+    (λ _. pick-command (eqb k 12) _ _ (λ _. tt) (λ _. pick-command (eqb k 13) _ _ (λ _. tt)
+    (λ _. pick-command (eqb k 14) _ _ (λ _. tt) (λ _. pick-command (eqb k 15) _ _ (λ _. tt)
+    (λ _. pick-command (eqb k 16) _ _ (λ _. tt) (λ _. pick-command (eqb k 17) _ _ (λ _. tt)
+    (λ _. pick-command (eqb k 18) _ _ (λ _. tt) (λ _. pick-command (eqb k 19) _ _ (λ _. tt)
+    (λ _. pick-command (eqb k 20) _ _ (λ _. tt) (λ _. pick-command (eqb k 21) _ _ (λ _. tt)
+    (λ _. pick-command (eqb k 24) _ _ (λ _. tt) (λ _. pick-command (eqb k 25) _ _ (λ _. tt)
+    (λ _. pick-command (eqb k 26) _ _
+    (λ e. let a = print-row rows s vs ps (subst (λ (j : ℕ). Kept rows j s vs ps) (eqb-true k 26 e) q) in omega (arith, a)) (λ _. tt)))))))))))))))))
 
 decided-limits :
     (k rows : ℕ) (s vs ps : List ℕ) (l : Limits) (c : Command) → rows < 65536 → limitsFrom (rowOf k .fields) (boundsOf k rows) s 0 vs ps ≡ l →
@@ -256,4 +256,3 @@ fits-read b st l d v line c h w e =
       written = short-read (length b / 76) line c h e;
       entries = directory-bound (length b) (length st) (length l) (length d) (length v) w;
     }
-

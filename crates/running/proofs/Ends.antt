@@ -42,7 +42,7 @@ use Rattle.session.specs.Answers.{row, answerOf, isTaken, numberOf}
 use Rattle.session.specs.Lent.{World, world, rowsOf, wrongLent}
 use Rattle.running.specs.Rows.{recordRows, lineRows}
 use Rattle.running.specs.Does.{recordedLine, doesLine, listsLine}
-use Rattle.running.specs.Running.{done, Ran, ran, ranBy, recordBy, readBy, lineTable, lineBy, faulted}
+use Rattle.running.specs.Running.{done, Ran, ran, ranBy, recordBy, ranRead, lineTable, lineBy, faulted}
 use Rattle.running.proofs.Answers.{cond-map, answer-skip}
 use Rattle.running.proofs.Arms.{onMemory}
 
@@ -61,17 +61,17 @@ long-by font w s line more o h k = rw (h, k)
 -- what a line leaves is what it leaves as it was read
 pub line-read :
     (font : List ℕ) (w : World) (s : Session) (line more o : List ℕ) (r : Read) → wrongLent w ≡ false → ltb 255 (length line) ≡ false →
-    readOf (rowsOf w) line ≡ r → readBy font w s line more o r ≡ lineBy font w s line more o
+    readOf (rowsOf w) line ≡ r → ranRead font w s line more o r ≡ lineBy font w s line more o
 unfolding lineBy lineTable
 line-read font w s line more o r h k e =
-    ap (readBy font w s line more o) (sym e)
+    ap (ranRead font w s line more o) (sym e)
     ∙ ap (λ (a : Answer). ranBy a s w o (doesLine font w s line more (readOf (rowsOf w) line)) (listsLine w line (readOf (rowsOf w) line)))
     (sym (answer-skip Lengths (wrongLent w) _ h ∙ answer-skip Long (ltb 255 (length line)) (lineRows w s line more (length o) (readOf (rowsOf w) line)) k))
 
 -- ---- 6 and 7
 
 pub fault-by :
-    (f : Fault) (font : List ℕ) (w : World) (s : Session) (line more o : List ℕ) → ran (done (faulted f) s 0) w o ≡ readBy font w s line more o (Refused f)
+    (f : Fault) (font : List ℕ) (w : World) (s : Session) (line more o : List ℕ) → ran (done (faulted f) s 0) w o ≡ ranRead font w s line more o (Refused f)
 unfolding answerOf isTaken numberOf faulted
 fault-by (form p) font w s line more o = refl
 fault-by (Limit p) font w s line more o = refl

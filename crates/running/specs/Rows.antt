@@ -217,4 +217,3 @@ abbrev pub lineRows : World → Session → List ℕ → List ℕ → ℕ → Re
 lineRows w s line more room (Refused (form p)) = row Unwritten true ∷ []
 lineRows w s line more room (Refused (Limit p)) = row Limits true ∷ []
 lineRows w s line more room (Reads c) = row Owing (ltb 0 (s .owed)) ∷ placedRows w s line more room c (recorded (w .directory))
-

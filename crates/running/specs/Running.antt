@@ -72,8 +72,8 @@ abbrev pub runBy : List ℕ → World → Session → List ℕ → List ℕ → 
 runBy font w s line more o c = ranBy (answerOf (runRows w s line more (length o) c)) s w o (runs font w s line more c) (listed w line c)
 
 -- a line that was read, by 6, 7 and 8 and what stands after them
-abbrev pub readBy : List ℕ → World → Session → List ℕ → List ℕ → List ℕ → Read → Ran
-readBy font w s line more o r =
+abbrev pub ranRead : List ℕ → World → Session → List ℕ → List ℕ → List ℕ → Read → Ran
+ranRead font w s line more o r =
     ranBy (answerOf (lineRows w s line more (length o) r)) s w o (doesLine font w s line more r) (listsLine w line r)
 
 -- a line and the bytes behind it that a GM asks for: "a lent length is wrong" and "A line is up to 255 bytes" come first, whoever calls

@@ -2,7 +2,7 @@
 ghost use mathlib.Core.Path.{_≡_};
 ghost use Rattle.session.specs.Lent.{world};
 ghost use Rattle.read.specs.declared.Read.the-variants.{Taken as Reads};
-ghost use Rattle.running.specs.Running.{ran, readBy, lineBy, faulted, Fits};
+ghost use Rattle.running.specs.Running.{ran, ranRead, lineBy, faulted, Fits};
 use crate::Done;
 use crate::records::answered;
 use crate::records::record;
@@ -39,7 +39,7 @@ fn on_command(
     output: &mut [u8],
 ) -> Done
     requires { ⌜ Fits command (now line) (now directory) ⌝ }
-    ensures { λ r. ⌜ ran r (world (now (background .exit)) (now (store .exit)) (now (links .exit)) (now (directory .exit)) (now (values .exit))) (now (output .exit)) ≡ readBy (now (font .entry)) (world (now (background .entry)) (now (store .entry)) (now (links .entry)) (now (directory .entry)) (now (values .entry))) session (now (line .entry)) (now (more .entry)) (now (output .entry)) (Reads command) ⌝ }
+    ensures { λ r. ⌜ ran r (world (now (background .exit)) (now (store .exit)) (now (links .exit)) (now (directory .exit)) (now (values .exit))) (now (output .exit)) ≡ ranRead (now (font .entry)) (world (now (background .entry)) (now (store .entry)) (now (links .entry)) (now (directory .entry)) (now (values .entry))) session (now (line .entry)) (now (more .entry)) (now (output .entry)) (Reads command) ⌝ }
 {
     let owed = session.owed;
     if 0 < owed {
@@ -48,7 +48,17 @@ fn on_command(
     match store::recording(directory) {
         Found::At(i) => record(session, command, line, i, store, links, directory),
         Found::Nothing => run(
-            session, command, font, line, more, background, store, links, directory, values, output,
+            session,
+            command,
+            font,
+            line,
+            more,
+            background,
+            store,
+            links,
+            directory,
+            values,
+            output,
         ),
     }
 }
@@ -83,7 +93,17 @@ pub fn run_line(
     let rows = background.len() / 76;
     match read::read_line(line, rows) {
         Read::Taken(command) => on_command(
-            session, command, font, line, more, background, store, links, directory, values, output,
+            session,
+            command,
+            font,
+            line,
+            more,
+            background,
+            store,
+            links,
+            directory,
+            values,
+            output,
         ),
         Read::Refused(fault) => answered(fault_answer(fault), session),
     }

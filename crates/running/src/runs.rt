@@ -21,8 +21,8 @@ ghost use Rattle.running.specs.Rows.{enteredRows, exceeds, printedAt};
 ghost use Rattle.running.specs.Does.{basedBy, erasedNamed};
 ghost use Rattle.running.specs.Running.{done, settles, ran, runBy, limitedItem, Fits};
 use crate::Done;
-use crate::records::item_answer;
 use crate::records::answered;
+use crate::records::item_answer;
 use crate::records::taken;
 use read::Command;
 use read::Item;
@@ -420,11 +420,20 @@ fn enter_variable(
     let active = session.active;
     let d = active_declared(store, links, directory, active);
     let text = inside(line, at, length);
-    answered(entered(values::stored::set_variable(d, values, n, text)), session)
+    answered(
+        entered(values::stored::set_variable(d, values, n, text)),
+        session,
+    )
 }
 
 // ?C
-fn enter_counter(session: Session, c: SetCounter, store: &[u8], links: &[u16], directory: &[u8]) -> Done
+fn enter_counter(
+    session: Session,
+    c: SetCounter,
+    store: &[u8],
+    links: &[u16],
+    directory: &[u8],
+) -> Done
     ensures { λ r. ⌜ ran r (world [] (now (store .entry)) (now (links .entry)) (now (directory .entry)) []) [] ≡ runBy [] (world [] (now (store .entry)) (now (links .entry)) (now (directory .entry)) []) session [] [] [] (Count c) ⌝ }
 {
     let n = c.n;
@@ -502,7 +511,17 @@ pub fn run(
     ensures { λ r. ⌜ ran r (world (now (background .exit)) (now (store .exit)) (now (links .exit)) (now (directory .exit)) (now (values .exit))) (now (output .exit)) ≡ runBy (now (font .entry)) (world (now (background .entry)) (now (store .entry)) (now (links .entry)) (now (directory .entry)) (now (values .entry))) session (now (line .entry)) (now (more .entry)) (now (output .entry)) command ⌝ }
 {
     match command {
-        Command::Item(item) => run_item(session, font, background, store, links, directory, values, line, item),
+        Command::Item(item) => run_item(
+            session,
+            font,
+            background,
+            store,
+            links,
+            directory,
+            values,
+            line,
+            item,
+        ),
         Command::Length(l) => set_length(session, l, background),
         Command::Width(w) => set_width(session, w, background),
         Command::Turn(t) => set_turn(session, t),
@@ -515,7 +534,15 @@ pub fn run(
         Command::Store(p) => keep_picture(session, line, p, more, store, links, directory),
         Command::ListPictures => list_names(session, directory, 2, output),
         Command::ErasePicture(n) => erase_picture(session, line, n, store, links, directory),
-        Command::SetVariable(v) => enter_variable(session, line, v, store, links, directory, values),
+        Command::SetVariable(v) => enter_variable(
+            session,
+            line,
+            v,
+            store,
+            links,
+            directory,
+            values,
+        ),
         Command::SetCounter(c) => enter_counter(session, c, store, links, directory),
         Command::Clear => clear(session, values),
         Command::Print(p) => owe(session, p, store, links, directory, values),

@@ -1,4 +1,5 @@
 pub mod Cleared
 pub mod Below
 pub mod Marked
+pub mod Calls
 pub mod Promises

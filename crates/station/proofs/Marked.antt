@@ -24,7 +24,7 @@ use Rattle.running.proofs.Answers.{cond-true, cond-false, answer-skip, answer-s
 
 -- ---- 1, 2 and 3
 
-abbrev checked : Bool → Bool → Bool → List Row → List Row
+abbrev pub checked : Bool → Bool → Bool → List Row → List Row
 checked x y z rows = row Lengths x ∷ row Font (not y) ∷ row Unsound (not z) ∷ rows
 
 checked-join :

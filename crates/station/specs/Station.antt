@@ -26,6 +26,7 @@ use Rattle.running.specs.World.{State, state, activeOf, activeDeclared}
 use Rattle.station.specs.Outcomes.{After, after, outcome, Drawn, drawnBy, labelled, Opened, openedBy}
 use Rattle.station.specs.Table.{commandTable, labelTable, lineOf, moreOf}
 use Rattle.running.specs.Does.{doesLine, listsLine}
+use Rattle.running.specs.Running.{Ran}
 
 -- ---- opening
 
@@ -89,6 +90,10 @@ commanded s font w output input =
     settled (isTaken a)
     (accepted (readBy a input) (doesFront font w s input (frontOf input)) (listsFront w input (frontOf input)) output)
     (refused a (readBy a input) s w output)
+
+-- what a line that was run leaves, when k bytes of the input were read
+abbrev pub readAs : ℕ → Ran → After
+readAs k x = after (outcome (x .done .answer) (x .done .session) k (x .done .written)) (x .world) (x .output)
 
 -- ---- a label
 

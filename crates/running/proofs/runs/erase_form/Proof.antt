@@ -69,8 +69,16 @@ same-length-9 c = search needs
 
 returns-3 : tie.Need-returns-3
 unfolding answerOf isTaken numberOf
-returns-3 c = rw (c .before .before .activate2 .ensures .0, c .before .before .activate2 .ensures .1, ← c .before .before .before .before .before .before .before .before .before .before .before .before .before .before .before .before .before .before .before .entry-of .ensures, ← c .before .before .before .before .before .before .before .before .before .before .before .before .before .before .before .before .before .before .is-missing .ensures, c .before .before .before .before .before .before .before .before .before .before .before .before .before .before .before .before .before .if1 .left, c .before .before .before .before .before .before .before .before .before .before .before .before .before .before .before .before .if2 .left,
-      ← c .before .before .before .before .before .before .before .before .before .before .before .before .before .before .before .place-of .ensures, eq-eqb _ _ (c .before .before .before .before .if3 .taken))
+returns-3 c = rw (
+  c .before .before .activate2 .ensures .0,
+  c .before .before .activate2 .ensures .1,
+  ← c .before .before .before .before .before .before .before .before .before .before .before .before .before .before .before .before .before .before .before .entry-of .ensures,
+  ← c .before .before .before .before .before .before .before .before .before .before .before .before .before .before .before .before .before .before .is-missing .ensures,
+  c .before .before .before .before .before .before .before .before .before .before .before .before .before .before .before .before .before .if1 .left,
+  c .before .before .before .before .before .before .before .before .before .before .before .before .before .before .before .before .if2 .left,
+  ← c .before .before .before .before .before .before .before .before .before .before .before .before .before .before .before .place-of .ensures,
+  eq-eqb _ _ (c .before .before .before .before .if3 .taken),
+)
     (ap (inWorld _ _)
     (erased-unset (c .before .before .before .before .before .before .before .before .before .before .before .before .before .before .before .before .before .before .before .entry-of .result) false _ _ (c .before .before .before .before .before .before .before .before .before .before .before .before .before .before .before .before .before .before .before .before .before .before .before .before .before .before .args .store .now) (c .before .before .before .before .before .before .before .before .before .before .before .before .before .before .before .before .before .before .before .before .before .before .before .before .before .before .args .links .now) (c .before .before .before .before .before .before .before .before .before .before .before .before .before .before .before .before .before .before .before .before .before .before .before .before .before .before .args .directory .now) _ _ _ (c .before .before .before .before .before .before .before .before .before .before .before .erase-found .ensures)))
 

@@ -36,8 +36,15 @@ same-length-2 c = search needs
 
 returns-2 : tie.Need-returns-2
 unfolding answerOf isTaken numberOf
-returns-2 c = rw (c .answered2 .ensures, ← c .before .before .before .before .before .before .before .packed .ensures, ← c .before .before .before .before .before .find .ensures, ← c .before .before .before .before .is-at .ensures, c .before .before .before .if1 .left, ← c .before .before .is-legal .ensures,
-      not-true (c .before .before .is-legal .result) (c .before .if2 .taken))
+returns-2 c = rw (
+  c .answered2 .ensures,
+  ← c .before .before .before .before .before .before .before .packed .ensures,
+  ← c .before .before .before .before .before .find .ensures,
+  ← c .before .before .before .before .is-at .ensures,
+  c .before .before .before .if1 .left,
+  ← c .before .before .is-legal .ensures,
+  not-true (c .before .before .is-legal .result) (c .before .if2 .taken),
+)
 
 has-room-requires : tie.Need-has-room-requires
 has-room-requires c κs = search needs
@@ -53,8 +60,17 @@ same-length-4 c = search needs
 
 returns-3 : tie.Need-returns-3
 unfolding answerOf isTaken numberOf
-returns-3 c = rw (c .answered3 .ensures, ← c .before .before .before .before .before .before .before .before .before .before .before .packed .ensures, ← c .before .before .before .before .before .before .before .before .before .find .ensures, ← c .before .before .before .before .before .before .before .before .is-at .ensures, c .before .before .before .before .before .before .before .if1 .left, ← c .before .before .before .before .before .before .is-legal .ensures,
-      not-false (c .before .before .before .before .before .before .is-legal .result) (c .before .before .before .before .before .if2 .left), ← c .before .before .has-room .ensures, not-true (c .before .before .has-room .result) (c .before .if3 .taken))
+returns-3 c = rw (
+  c .answered3 .ensures,
+  ← c .before .before .before .before .before .before .before .before .before .before .before .packed .ensures,
+  ← c .before .before .before .before .before .before .before .before .before .find .ensures,
+  ← c .before .before .before .before .before .before .before .before .is-at .ensures,
+  c .before .before .before .before .before .before .before .if1 .left,
+  ← c .before .before .before .before .before .before .is-legal .ensures,
+  not-false (c .before .before .before .before .before .before .is-legal .result) (c .before .before .before .before .before .if2 .left),
+  ← c .before .before .has-room .ensures,
+  not-true (c .before .before .has-room .result) (c .before .if3 .taken),
+)
 
 keep-requires : tie.Need-keep-requires
 keep-requires c κs = search needs
@@ -73,8 +89,17 @@ same-length-7 c = search needs
 
 returns-4 : tie.Need-returns-4
 unfolding answerOf isTaken numberOf
-returns-4 c = rw (c .taken .ensures, ← c .before .before .before .before .before .before .before .before .before .before .before .before .before .before .before .before .before .before .before .before .before .packed .ensures, ← c .before .before .before .before .before .before .before .before .before .before .before .before .before .before .before .before .before .before .before .find .ensures, ← c .before .before .before .before .before .before .before .before .before .before .before .before .before .before .before .before .before .before .is-at .ensures, c .before .before .before .before .before .before .before .before .before .before .before .before .before .before .before .before .before .if1 .left, ← c .before .before .before .before .before .before .before .before .before .before .before .before .before .before .before .before .is-legal .ensures,
-      not-false (c .before .before .before .before .before .before .before .before .before .before .before .before .before .before .before .before .is-legal .result) (c .before .before .before .before .before .before .before .before .before .before .before .before .before .before .before .if2 .left), ← c .before .before .before .before .before .before .before .before .before .before .before .before .has-room .ensures, not-false (c .before .before .before .before .before .before .before .before .before .before .before .before .has-room .result) (c .before .before .before .before .before .before .before .before .before .before .before .if3 .left))
+returns-4 c = rw (
+  c .taken .ensures,
+  ← c .before .before .before .before .before .before .before .before .before .before .before .before .before .before .before .before .before .before .before .before .before .packed .ensures,
+  ← c .before .before .before .before .before .before .before .before .before .before .before .before .before .before .before .before .before .before .before .find .ensures,
+  ← c .before .before .before .before .before .before .before .before .before .before .before .before .before .before .before .before .before .before .is-at .ensures,
+  c .before .before .before .before .before .before .before .before .before .before .before .before .before .before .before .before .before .if1 .left,
+  ← c .before .before .before .before .before .before .before .before .before .before .before .before .before .before .before .before .is-legal .ensures,
+  not-false (c .before .before .before .before .before .before .before .before .before .before .before .before .before .before .before .before .is-legal .result) (c .before .before .before .before .before .before .before .before .before .before .before .before .before .before .before .if2 .left),
+  ← c .before .before .before .before .before .before .before .before .before .before .before .before .has-room .ensures,
+  not-false (c .before .before .before .before .before .before .before .before .before .before .before .before .has-room .result) (c .before .before .before .before .before .before .before .before .before .before .before .if3 .left),
+)
     (ap (inMemory _ _ _ _) (c .before .before .before .before .before .before .before .keep .ensures .1))
 
 pub keep-picture-spec : {M : Type 1} → statement M

@@ -29,8 +29,14 @@ answered-requires-2 c κs = search needs
 
 returns-2 : tie.Need-returns-2
 unfolding answerOf isTaken numberOf
-returns-2 c = rw (c .answered2 .ensures, ← c .before .before .before .before .before .active-pictures .ensures, not-false (c .before .before .before .before .before .active-pictures .result) (c .before .before .before .before .if1 .left), ← c .before .before .before .active-declared .ensures, ← c .before .before .all-set .ensures,
-      not-true (c .before .before .all-set .result) (c .before .if2 .taken))
+returns-2 c = rw (
+  c .answered2 .ensures,
+  ← c .before .before .before .before .before .active-pictures .ensures,
+  not-false (c .before .before .before .before .before .active-pictures .result) (c .before .before .before .before .if1 .left),
+  ← c .before .before .before .active-declared .ensures,
+  ← c .before .before .all-set .ensures,
+  not-true (c .before .before .all-set .result) (c .before .if2 .taken),
+)
 
 owing-requires : tie.Need-owing-requires
 owing-requires c κs = search needs
@@ -40,8 +46,15 @@ taken-requires c κs = search needs
 
 returns-3 : tie.Need-returns-3
 unfolding answerOf isTaken numberOf
-returns-3 c = rw (c .taken .ensures, c .before .owing .ensures, ← c .before .before .before .before .before .before .active-pictures .ensures, not-false (c .before .before .before .before .before .before .active-pictures .result) (c .before .before .before .before .before .if1 .left), ← c .before .before .before .before .active-declared .ensures,
-      ← c .before .before .before .all-set .ensures, not-false (c .before .before .before .all-set .result) (c .before .before .if2 .left))
+returns-3 c = rw (
+  c .taken .ensures,
+  c .before .owing .ensures,
+  ← c .before .before .before .before .before .before .active-pictures .ensures,
+  not-false (c .before .before .before .before .before .before .active-pictures .result) (c .before .before .before .before .before .if1 .left),
+  ← c .before .before .before .before .active-declared .ensures,
+  ← c .before .before .before .all-set .ensures,
+  not-false (c .before .before .before .all-set .result) (c .before .before .if2 .left),
+)
 
 pub owe-spec : {M : Type 1} → statement M
 owe-spec = tie.close (tie.spec cast-k active-pictures-requires answered-requires returns active-declared-requires all-set-requires answered-requires-2 returns-2 owing-requires taken-requires returns-3)

@@ -39,8 +39,15 @@ same-length-3 c = search needs
 
 returns-2 : tie.Need-returns-2
 unfolding answerOf isTaken numberOf
-returns-2 c = rw (c .answered2 .ensures, ← c .before .before .before .before .before .before .before .before .before .packed .ensures, ← c .before .before .before .before .before .before .before .find .ensures, ← c .before .before .before .before .before .before .is-at .ensures, c .before .before .before .before .before .if1 .left, ← c .before .before .has-room .ensures,
-      not-true (c .before .before .has-room .result) (c .before .if2 .taken))
+returns-2 c = rw (
+  c .answered2 .ensures,
+  ← c .before .before .before .before .before .before .before .before .before .packed .ensures,
+  ← c .before .before .before .before .before .before .before .find .ensures,
+  ← c .before .before .before .before .before .before .is-at .ensures,
+  c .before .before .before .before .before .if1 .left,
+  ← c .before .before .has-room .ensures,
+  not-true (c .before .before .has-room .result) (c .before .if2 .taken),
+)
 
 start-requires : tie.Need-start-requires
 start-requires c κs = search needs
@@ -59,8 +66,15 @@ same-length-6 c = search needs
 
 returns-3 : tie.Need-returns-3
 unfolding answerOf isTaken numberOf
-returns-3 c = rw (c .taken .ensures, ← c .before .before .before .before .before .before .before .before .before .before .before .before .before .before .before .before .before .before .before .packed .ensures, ← c .before .before .before .before .before .before .before .before .before .before .before .before .before .before .before .before .before .find .ensures, ← c .before .before .before .before .before .before .before .before .before .before .before .before .before .before .before .before .is-at .ensures, c .before .before .before .before .before .before .before .before .before .before .before .before .before .before .before .if1 .left, ← c .before .before .before .before .before .before .before .before .before .before .before .before .has-room .ensures,
-      not-false (c .before .before .before .before .before .before .before .before .before .before .before .before .has-room .result) (c .before .before .before .before .before .before .before .before .before .before .before .if2 .left))
+returns-3 c = rw (
+  c .taken .ensures,
+  ← c .before .before .before .before .before .before .before .before .before .before .before .before .before .before .before .before .before .before .before .packed .ensures,
+  ← c .before .before .before .before .before .before .before .before .before .before .before .before .before .before .before .before .before .find .ensures,
+  ← c .before .before .before .before .before .before .before .before .before .before .before .before .before .before .before .before .is-at .ensures,
+  c .before .before .before .before .before .before .before .before .before .before .before .before .before .before .before .if1 .left,
+  ← c .before .before .before .before .before .before .before .before .before .before .before .before .has-room .ensures,
+  not-false (c .before .before .before .before .before .before .before .before .before .before .before .before .has-room .result) (c .before .before .before .before .before .before .before .before .before .before .before .if2 .left),
+)
     (ap (inMemory _ _ _ _)
     (c .before .before .before .before .before .before .before .start .ensures .1
     ∙ start-room _ _ _ (sym (c .before .before .before .before .before .before .before .before .before .before .before .before .has-room .ensures) ∙ not-false (c .before .before .before .before .before .before .before .before .before .before .before .before .has-room .result) (c .before .before .before .before .before .before .before .before .before .before .before .if2 .left))))

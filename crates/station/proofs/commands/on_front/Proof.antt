@@ -1,6 +1,5 @@
 use mathlib.Core.Path.{ap}
-use Rattle.station.specs.Parts.{readAs}
-use Rattle.station.proofs.Bounds.{take-short}
+use Rattle.station.specs.Station.{readAs}
 use borrow.Author.Needs.{needs}
 use Rattle.station.proofs.commands.on_front.Statement.{statement}
 use Rattle.station.proofs.commands.on_front.Tie as tie
@@ -23,8 +22,8 @@ less-requires c κs = search needs
 first-requires-2 : tie.Need-first-requires-2
 first-requires-2 c κs = search needs
 
-on-line-requires : tie.Need-on-line-requires
-on-line-requires c κs = (take-short _ _ _ (c .before .before .before .before .before .before .before .before .before .before .before .before .before .before .before .before .before .before .pre .0) (c .before .before .before .before .before .before .before .before .before .first .ensures), c .before .before .before .before .before .before .before .before .before .before .before .before .before .before .before .before .before .before .pre .1)
+run-line-requires : tie.Need-run-line-requires
+run-line-requires c κs = search needs
 
 same-length : tie.Need-same-length
 same-length c = search needs
@@ -45,7 +44,7 @@ same-length-6 : tie.Need-same-length-6
 same-length-6 c = search needs
 
 returns : tie.Need-returns
-returns c = rw (← c .before .before .before .before .before .before .before .before .before .before .before .before .before .before .before .before .before .before .before .before .before .before .before .first .ensures, ← c .before .before .before .before .before .before .before .before .before .before .before .before .before .before .before .before .before .before .before .before .before .less .ensures, ← c .before .before .before .before .before .before .before .before .before .before .before .before .before .before .before .before .before .before .before .before .before .before .rest .ensures, ← c .before .before .before .before .before .before .before .before .before .before .before .before .before .before .before .before .before .before .before .before .first2 .ensures) (ap (readAs _) (c .before .before .before .before .before .before .before .before .before .before .before .before .before .on-line .ensures))
+returns c = rw (← c .before .before .before .before .before .before .before .before .before .before .before .before .before .before .before .before .before .before .before .before .before .before .before .first .ensures, ← c .before .before .before .before .before .before .before .before .before .before .before .before .before .before .before .before .before .before .before .before .before .less .ensures, ← c .before .before .before .before .before .before .before .before .before .before .before .before .before .before .before .before .before .before .before .before .before .before .rest .ensures, ← c .before .before .before .before .before .before .before .before .before .before .before .before .before .before .before .before .before .before .before .before .first2 .ensures) (ap (readAs _) (c .before .before .before .before .before .before .before .before .before .before .before .before .before .run-line .ensures))
 
 pub on-front-spec : {M : Type 1} → statement M
-on-front-spec = tie.close (tie.spec first-requires add-rest rest-requires add-less less-requires first-requires-2 on-line-requires same-length same-length-2 same-length-3 same-length-4 same-length-5 same-length-6 returns)
+on-front-spec = tie.close (tie.spec first-requires add-rest rest-requires add-less less-requires first-requires-2 run-line-requires same-length same-length-2 same-length-3 same-length-4 same-length-5 same-length-6 returns)
