@@ -65,7 +65,7 @@ module _ (i f : List ℕ) (w : World) (p : List ℕ) where
   unfolding labelledFace
   label-done s o i' p' r h d e q n = rw (eq-eqb (length i) 65 h, ← d, ← e, n, q, whole i (o .session) h)
 
-neither : (a b : Bool) → (a || b) ≡ false → a ≡ false
+pub neither : (a b : Bool) → (a || b) ≡ false → a ≡ false
 neither true b e = e
 neither false b e = refl
 

@@ -54,7 +54,7 @@ headOf s =
 unfoldable pub imageOf : Session → List ℕ
 imageOf s = headOf s ++ counterBytes 10 0 (s .counters)
 
--- the numbers of a session fit their places, and there are ten counters: so it is of every image's session (`session-fits`)
+-- the numbers of a session fit their places, and there are ten counters; every image's session is so (`session-fits`)
 pub record Fits (s : Session) : Type 0 where
   pub width : s .width < 65536
   pub length : s .length < 65536
