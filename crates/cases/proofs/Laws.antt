@@ -26,7 +26,7 @@ use Rattle.session.specs.declared.answers.Answer.{Answer}
 use Rattle.session.specs.declared.answers.Answer.the-variants.{Taken}
 use Rattle.session.specs.Answers.{numberOf, isTaken, answerOf}
 use Rattle.session.specs.Lent.{World, rowsOf, wrongLent}
-use Rattle.station.specs.World.{After, Drawn, drawnBy, labelled}
+use Rattle.station.specs.Outcomes.{After, Drawn, drawnBy, labelled}
 use Rattle.station.specs.Table.{commandTable, labelTable}
 use Rattle.station.specs.Station.{
   readBy,

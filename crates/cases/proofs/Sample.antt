@@ -19,7 +19,7 @@ use Rattle.session.specs.declared.answers.Answer.the-variants.{Taken, Unset}
 use Rattle.session.specs.Session.{session, fresh, blank}
 use Rattle.session.specs.Answers.{numberOf}
 use Rattle.session.specs.Lent.{World, world}
-use Rattle.station.specs.World.{after, outcome, drawnBy, labelled}
+use Rattle.station.specs.Outcomes.{after, outcome, drawnBy, labelled}
 use Rattle.station.specs.Station.{commanded, labelPage, labelledBy}
 use Rattle.cases.specs.Calls.{stand, start, font, output, calls, labels}
 use Rattle.cases.specs.Table.{sample}

@@ -7,7 +7,7 @@ use Rattle.dots.specs.Whole.{blackDots}
 use Rattle.session.specs.declared.Session.{Session}
 use Rattle.session.specs.Lent.{World, world}
 use Rattle.session.specs.Answers.{numberOf}
-use Rattle.station.specs.World.{After, Drawn, Opened}
+use Rattle.station.specs.Outcomes.{After, Drawn, Opened}
 use Rattle.station.specs.Station.{opened, commanded, labelledBy}
 
 -- "240 rows, 64 portions, 8 entries"

@@ -15,7 +15,7 @@ use Rattle.dots.specs.Whole.{white}
 use Rattle.session.specs.declared.answers.Answer.the-variants.{Taken, Lengths}
 use Rattle.session.specs.Session.{none, fresh}
 use Rattle.session.specs.Lent.{World, world, rowsOf, wrongLent}
-use Rattle.station.specs.World.{Opened, openedBy, labelled}
+use Rattle.station.specs.Outcomes.{Opened, openedBy, labelled}
 use Rattle.station.specs.Station.{opened, cleared, pickOpened}
 
 -- ---- links freed one after another

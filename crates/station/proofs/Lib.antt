@@ -1,5 +1,5 @@
-pub mod Answers
 pub mod Cleared
 pub mod Below
 pub mod Marked
+pub mod Calls
 pub mod Promises

@@ -16,14 +16,15 @@ use Rattle.session.specs.declared.answers.Answer.{Answer}
 use Rattle.session.specs.declared.answers.Answer.the-variants.{Taken, Lengths, Font, Unsound, NoneOwed}
 use Rattle.session.specs.Answers.{Row, row, answerOf, isTaken, numberOf}
 use Rattle.session.specs.Lent.{World, world}
-use Rattle.station.specs.World.{Drawn, drawnBy, labelled, activeOf}
+use Rattle.running.specs.World.{activeOf}
+use Rattle.station.specs.Outcomes.{Drawn, drawnBy, labelled}
 use Rattle.station.specs.Table.{entryRows, labelTable}
 use Rattle.station.specs.Station.{turnedBy, labelPage, labelSession, settledLabel, labelledBy}
-use Rattle.station.proofs.Answers.{cond-true, cond-false, answer-skip, answer-stop}
+use Rattle.running.proofs.Answers.{cond-true, cond-false, answer-skip, answer-stop}
 
 -- ---- 1, 2 and 3
 
-abbrev checked : Bool → Bool → Bool → List Row → List Row
+abbrev pub checked : Bool → Bool → Bool → List Row → List Row
 checked x y z rows = row Lengths x ∷ row Font (not y) ∷ row Unsound (not z) ∷ rows
 
 checked-join :

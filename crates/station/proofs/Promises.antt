@@ -13,7 +13,7 @@ use Rattle.session.specs.declared.answers.Answer.the-variants.{Taken, Lengths}
 use Rattle.session.specs.Answers.{answerOf, isTaken, numberOf}
 use Rattle.session.specs.Session.{none, fresh}
 use Rattle.session.specs.Lent.{World, rowsOf, wrongLent}
-use Rattle.station.specs.World.{Drawn, drawnBy, labelled, Opened, openedBy}
+use Rattle.station.specs.Outcomes.{Drawn, drawnBy, labelled, Opened, openedBy}
 use Rattle.station.specs.Table.{labelTable}
 use Rattle.station.specs.Station.{cleared, pickOpened, opened, labelPage, labelSession, settledLabel, labelledBy}
 

@@ -1,4 +1,3 @@
-pub mod World
+pub mod Outcomes
 pub mod Table
-pub mod Does
 pub mod Station

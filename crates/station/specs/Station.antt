@@ -22,9 +22,11 @@ use Rattle.session.specs.declared.answers.Answer.the-variants.{Taken, Lengths}
 use Rattle.session.specs.Answers.{numberOf, isTaken, answerOf}
 use Rattle.session.specs.Session.{none, fresh, counted}
 use Rattle.session.specs.Lent.{World, world, rowsOf, wrongLent}
-use Rattle.station.specs.World.{State, state, After, after, outcome, Drawn, drawnBy, labelled, Opened, openedBy, activeOf, activeDeclared}
+use Rattle.running.specs.World.{State, state, activeOf, activeDeclared}
+use Rattle.station.specs.Outcomes.{After, after, outcome, Drawn, drawnBy, labelled, Opened, openedBy}
 use Rattle.station.specs.Table.{commandTable, labelTable, lineOf, moreOf}
-use Rattle.station.specs.Does.{does, listed}
+use Rattle.running.specs.Does.{doesLine, listsLine}
+use Rattle.running.specs.Running.{Ran}
 
 -- ---- opening
 
@@ -58,14 +60,6 @@ unfoldable pub readBy : Answer → List ℕ → ℕ
 readBy a input = cond (leb 1 (numberOf a) && leb (numberOf a) 4) 0 (frontRead (frontOf input))
 
 -- what a call that is taken does and lists
-abbrev pub doesLine : List ℕ → World → Session → List ℕ → List ℕ → Read → State
-doesLine font w s line more (Reads c) = does font w s line more c
-doesLine font w s line more (Refused f) = state s w
-
-abbrev pub listsLine : World → List ℕ → Read → List ℕ
-listsLine w line (Reads c) = listed w line c
-listsLine w line (Refused f) = []
-
 abbrev pub doesFront : List ℕ → World → Session → List ℕ → Front → State
 doesFront font w s input Short = state s w
 doesFront font w s input (LongLine k) = state s w
@@ -96,6 +90,10 @@ commanded s font w output input =
     settled (isTaken a)
     (accepted (readBy a input) (doesFront font w s input (frontOf input)) (listsFront w input (frontOf input)) output)
     (refused a (readBy a input) s w output)
+
+-- what a line that was run leaves, when k bytes of the input were read
+abbrev pub readAs : ℕ → Ran → After
+readAs k x = after (outcome (x .done .answer) (x .done .session) k (x .done .written)) (x .world) (x .output)
 
 -- ---- a label
 

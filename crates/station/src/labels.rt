@@ -6,7 +6,7 @@ ghost use Rattle.forms.specs.Draw.{setting, formDrawn};
 ghost use Rattle.soundness.specs.Sound.{activeBytes};
 ghost use Rattle.session.specs.Answers.{answerOf};
 ghost use Rattle.session.specs.Lent.{world};
-ghost use Rattle.station.specs.World.{drawnBy};
+ghost use Rattle.station.specs.Outcomes.{drawnBy};
 ghost use Rattle.station.specs.Table.{labelTable};
 ghost use Rattle.station.specs.Station.{turnedBy, labelPage, labelSession, labelledBy};
 use crate::Labelled;

@@ -1,13 +1,16 @@
-// The station: opening and one label; the definitions of one command.
+// The station: opening, one command, one label.
 //
 // Paper 01 from "What is lent" to "Labels". Each call checks first, by the table of answers (specs/Table.antt, the first row that applies is the
-// answer), and only then changes what it was lent, so that a refusal changes nothing. Opening and the label call promise one equation between their
-// result with every lent list at exit and `opened` or `labelledBy` (specs/Station.antt) of what they were lent, for any session, any memory and any
-// font; no caller has to have checked anything. What a command answers and does is defined here too (`commanded`); its code is still to come.
+// answer), and only then changes what it was lent, so that a refusal changes nothing. Each call promises one equation between its
+// result with every lent list at exit and `opened`, `commanded` or `labelledBy` (specs/Station.antt) of what it was lent, for any session, any
+// memory, any font and any input; no caller has to have checked anything. What a session of calls amounts to is said in crate `demands`.
 mod checks; // 1, 2 and 3
+mod commands; // one command at the front of the input
 mod labels; // one label
 mod opening; // a station opened
 
+pub use commands::command;
+pub use commands::rest;
 pub use labels::label;
 pub use opening::open;
 use session::Answer;

@@ -4,7 +4,7 @@ ghost use lib.ListN.{length, replicate};
 ghost use Rattle.session.specs.Lent.{world};
 ghost use Rattle.session.specs.Session.{none};
 ghost use Rattle.session.specs.declared.answers.Answer.the-variants.{Lengths};
-ghost use Rattle.station.specs.World.{openedBy, labelled};
+ghost use Rattle.station.specs.Outcomes.{openedBy, labelled};
 ghost use Rattle.station.specs.Station.{opened};
 use crate::Labelled;
 use session::Answer;

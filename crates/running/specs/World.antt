@@ -1,21 +1,16 @@
--- What a call is lent and leaves, and the views of it that commands speak of.
+-- What a command is lent, and the views of it that commands speak of.
 -- Assumes nothing.
 use Prim.Native.Nat.{ℕ}
-use mathlib.Core.Bool.{Bool, true, false}
 use mathlib.Core.List.{List}
 use Rattle.values.specs.declared.declarations.Declared.{Declared}
 use Rattle.store.specs.declared.Found.{Found}
 use Rattle.store.specs.declared.Found.the-variants.{At, Nothing}
 use Rattle.store.specs.Content.{content}
-use Rattle.store.specs.Find.{titledAt}
 use Rattle.moves.specs.Memory.{Memory, memory}
 use Rattle.forms.specs.Form.{declaredOf}
 use Rattle.soundness.specs.Sound.{activeBytes}
 use Rattle.session.specs.declared.Session.{Session}
-use Rattle.session.specs.declared.answers.Answer.{Answer}
 use Rattle.session.specs.Lent.{World, world}
-use Rattle.station.specs.declared.Outcome.{Outcome}
-use Rattle.station.specs.declared.Labelled.{Labelled}
 
 -- the session and the lent lists together
 pub record State : Type 0 where
@@ -24,38 +19,6 @@ pub record State : Type 0 where
 
 abbrev pub state : Session → World → State
 state s w = record { session = s; world = w }
-
--- what a command call leaves: its outcome, the lists and the output
-pub record After : Type 0 where
-  pub outcome : Outcome
-  pub world : World
-  pub output : List ℕ
-
-abbrev pub after : Outcome → World → List ℕ → After
-after r w o = record { outcome = r; world = w; output = o }
-
-abbrev pub outcome : Answer → Session → ℕ → ℕ → Outcome
-outcome a s n k = record { answer = a; session = s; read = n; written = k }
-
--- what a label call leaves: its outcome and the page
-pub record Drawn : Type 0 where
-  pub outcome : Labelled
-  pub page : List ℕ
-
-abbrev pub drawnBy : Labelled → List ℕ → Drawn
-drawnBy r p = record { outcome = r; page = p }
-
-abbrev pub labelled : Answer → Session → Labelled
-labelled a s = record { answer = a; session = s }
-
--- what opening leaves: its outcome, the page and the lists
-pub record Opened : Type 0 where
-  pub outcome : Labelled
-  pub page : List ℕ
-  pub world : World
-
-abbrev pub openedBy : Labelled → List ℕ → World → Opened
-openedBy r p w = record { outcome = r; page = p; world = w }
 
 -- ---- views
 

@@ -40,6 +40,8 @@ use Rattle.read.specs.declared.Command.the-variants.{
   White,
 }
 use Rattle.read.specs.declared.Named.{Named}
+use Rattle.read.specs.declared.Read.{Read}
+use Rattle.read.specs.declared.Read.the-variants.{Taken as Reads, Refused}
 use Rattle.read.specs.Names.{packedOf}
 use Rattle.written.specs.Written.{normal}
 use Rattle.forms.specs.Draw.{setting, drawsItem}
@@ -47,8 +49,8 @@ use Rattle.listing.specs.Listing.{listing}
 use Rattle.session.specs.declared.Session.{Session}
 use Rattle.session.specs.Session.{sized, turning, based, activated, counting, owing}
 use Rattle.session.specs.Lent.{World, world}
-use Rattle.station.specs.World.{State, state, memoryOf, withMemory, withBackground, withValues, activeDeclared, placeOf}
-use Rattle.station.specs.Table.{lookup, named, textOf, printed}
+use Rattle.running.specs.World.{State, state, memoryOf, withMemory, withBackground, withValues, activeDeclared, placeOf}
+use Rattle.running.specs.Rows.{lookup, named, textOf, printed}
 
 -- "Both whiten the background, as does `N`"
 abbrev pub whitened : World → World
@@ -174,3 +176,12 @@ listed w line (SetCounter c) = []
 listed w line Clear = []
 listed w line (Print p) = []
 listed w line White = []
+
+-- ---- a line that was read
+abbrev pub doesLine : List ℕ → World → Session → List ℕ → List ℕ → Read → State
+doesLine font w s line more (Reads c) = does font w s line more c
+doesLine font w s line more (Refused f) = state s w
+
+abbrev pub listsLine : World → List ℕ → Read → List ℕ
+listsLine w line (Reads c) = listed w line c
+listsLine w line (Refused f) = []

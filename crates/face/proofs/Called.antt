@@ -1,0 +1,84 @@
+-- What the calls leave, from what the functions they call ensure.
+use mathlib.Core.Path.{_≡_, refl, sym, _∙_}
+use mathlib.Core.Bool.{Bool, true, false, _||_}
+use mathlib.Core.List.{List, [], _∷_}
+use Prim.Native.Nat.{ℕ}
+use native.Mathlib.Omega.{arith}
+use lib.ListN.{length, set}
+use lib.Dec.{eqb}
+use lib.Seq.{sets}
+use borrow.Author.Tests.{eq-eqb, ne-eqb, eqb-true, not-false}
+use Rattle.values.proofs.Writing.{sets-all}
+use Rattle.session.specs.declared.Session.{Session}
+use Rattle.session.specs.declared.answers.Answer.the-variants.{Lengths}
+use Rattle.session.specs.Answers.{numberOf}
+use Rattle.session.specs.Lent.{World}
+use Rattle.station.specs.declared.Outcome.{Outcome}
+use Rattle.station.specs.declared.Labelled.{Labelled}
+use Rattle.station.specs.Outcomes.{after, drawnBy, openedBy}
+use Rattle.station.specs.Station.{opened, commanded, labelledBy}
+use Rattle.face.specs.Image.{bytesOf, counterBytes, sessionOf, imageOf}
+use Rattle.face.specs.Face.{counted, imageWrong, countsWrong, opening, commanding, labelling, openedFace, commandedFace, labelledFace}
+
+-- ---- counts
+
+pub counted-two : (l : List ℕ) (r w : ℕ) → length l ≡ 2 → set (set l 0 r) 1 w ≡ counted l r w
+unfolding counted
+counted-two [] r w h = absurd (omega arith)
+counted-two (x ∷ []) r w h = absurd (omega arith)
+counted-two (x ∷ y ∷ []) r w h = refl
+counted-two (x ∷ y ∷ z ∷ l) r w h = absurd (omega arith)
+
+pub counted-other : (l : List ℕ) (r w : ℕ) → (length l ≡ 2 → ⊥) → l ≡ counted l r w
+unfolding counted
+counted-other l r w h = rw (ne-eqb (length l) 2 h)
+
+-- ---- the image
+
+length-image : (s : Session) → length (imageOf s) ≡ 65
+unfolding imageOf bytesOf counterBytes
+length-image s = refl
+
+-- an image stored over 65 bytes is all there is
+whole : (i : List ℕ) (s : Session) → length i ≡ 65 → sets i 0 (imageOf s) ≡ imageOf s
+whole i s h = sets-all i (imageOf s) (length-image s ∙ sym h)
+
+-- ---- the calls
+
+module _ (i p : List ℕ) (w : World) where
+  pub open-wrong : (r : ℕ) → (length i ≡ 65 → ⊥) → r ≡ numberOf Lengths → opening r i p w ≡ openedFace i p w
+  unfolding openedFace
+  open-wrong r h e = rw (ne-eqb (length i) 65 h, e)
+
+  pub open-done : (o : Labelled) (i' p' : List ℕ) (w' : World) (r : ℕ) → length i ≡ 65 → openedBy o p' w' ≡ opened p w
+      → i' ≡ sets i 0 (imageOf (o .session)) → r ≡ numberOf (o .answer) → opening r i' p' w' ≡ openedFace i p w
+  unfolding openedFace
+  open-done o i' p' w' r h e q n = rw (eq-eqb (length i) 65 h, ← e, n, q, whole i (o .session) h)
+
+module _ (i f : List ℕ) (w : World) (p : List ℕ) where
+  pub label-wrong : (r : ℕ) → (length i ≡ 65 → ⊥) → r ≡ numberOf Lengths → labelling r i p ≡ labelledFace i f w p
+  unfolding labelledFace
+  label-wrong r h e = rw (ne-eqb (length i) 65 h, e)
+
+  pub label-done : (s : Session) (o : Labelled) (i' p' : List ℕ) (r : ℕ) → length i ≡ 65 → s ≡ sessionOf i → drawnBy o p' ≡ labelledBy s f w p
+      → i' ≡ sets i 0 (imageOf (o .session)) → r ≡ numberOf (o .answer) → labelling r i' p' ≡ labelledFace i f w p
+  unfolding labelledFace
+  label-done s o i' p' r h d e q n = rw (eq-eqb (length i) 65 h, ← d, ← e, n, q, whole i (o .session) h)
+
+pub neither : (a b : Bool) → (a || b) ≡ false → a ≡ false
+neither true b e = e
+neither false b e = refl
+
+module _ (i cs f : List ℕ) (w : World) (out input : List ℕ) (wrong : Bool) (is : wrong ≡ (imageWrong i || countsWrong cs)) where
+  pub command-wrong : (cs' : List ℕ) (r : ℕ) → wrong ≡ true → cs' ≡ counted cs 0 0 → r ≡ numberOf Lengths
+      → commanding r i cs' w out ≡ commandedFace i cs f w out input
+  unfolding commandedFace
+  command-wrong cs' r h d e = rw (← is, h, d, e)
+
+  pub command-done : (s : Session) (o : Outcome) (i' cs' : List ℕ) (w' : World) (out' : List ℕ) (r : ℕ) → wrong ≡ false → s ≡ sessionOf i
+      → after o w' out' ≡ commanded s f w out input → i' ≡ sets i 0 (imageOf (o .session)) → cs' ≡ counted cs (o .read) (o .written) → r ≡ numberOf (o .answer)
+      → commanding r i' cs' w' out' ≡ commandedFace i cs f w out input
+  unfolding commandedFace
+  command-done s o i' cs' w' out' r h d e q k n =
+      let t : length i ≡ 65 = eqb-true (length i) 65 (not-false (eqb (length i) 65) (neither (imageWrong i) (countsWrong cs) (sym is ∙ h))) in
+      rw (← is, h, ← d, ← e, n, q, k, whole i (o .session) t)

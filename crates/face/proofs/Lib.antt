@@ -1,0 +1,5 @@
+pub mod Numbers
+pub mod Ten
+pub mod Called
+pub mod Inverse
+pub mod Kept

@@ -1,0 +1,3 @@
+pub mod Image
+pub mod Face
+pub mod Samples

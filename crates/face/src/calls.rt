@@ -1,0 +1,113 @@
+// The three calls. Each is the station's on the session of the image; an image of another length is [1], and nothing is touched.
+ghost use mathlib.Core.Path.{_≡_};
+ghost use Rattle.session.specs.Lent.{world};
+ghost use Rattle.face.specs.Face.{counted, opening, commanding, labelling, openedFace, commandedFace, labelledFace};
+use crate::image::IMAGE;
+use crate::image::decode;
+use crate::image::encode;
+use session::Answer;
+use session::answers::number;
+use values::bytes::either;
+
+// Bytes read and bytes written, at every answer; counts of another length are left as they are.
+fn store_counts(counts: &mut [u64], read: usize, written: usize)
+    ensures { λ _. ⌜ now (counts .exit) ≡ counted (now (counts .entry)) read written ⌝ }
+{
+    if counts.len() == 2 {
+        counts[0] = read as u64;
+        counts[1] = written as u64;
+    }
+}
+
+#[no_mangle]
+pub extern "C" fn station_open(
+    session: &mut [u8],
+    page: &mut [u8],
+    background: &mut [u8],
+    store: &mut [u8],
+    links: &mut [u16],
+    directory: &mut [u8],
+    values: &mut [u8],
+) -> u8
+    ensures { λ r. ⌜ opening r (now (session .exit)) (now (page .exit)) (world (now (background .exit)) (now (store .exit)) (now (links .exit)) (now (directory .exit)) (now (values .exit))) ≡ openedFace (now (session .entry)) (now (page .entry)) (world (now (background .entry)) (now (store .entry)) (now (links .entry)) (now (directory .entry)) (now (values .entry))) ⌝ }
+{
+    if session.len() != IMAGE {
+        return number(Answer::Lengths);
+    }
+    let o = station::open(page, background, store, links, directory, values);
+    let after = o.session;
+    encode(after, session);
+    let answer = o.answer;
+    number(answer)
+}
+
+#[no_mangle]
+pub extern "C" fn station_command(
+    session: &mut [u8],
+    counts: &mut [u64],
+    font: &[u8],
+    background: &mut [u8],
+    store: &mut [u8],
+    links: &mut [u16],
+    directory: &mut [u8],
+    values: &mut [u8],
+    output: &mut [u8],
+    input: &[u8],
+) -> u8
+    ensures { λ r. ⌜ commanding r (now (session .exit)) (now (counts .exit)) (world (now (background .exit)) (now (store .exit)) (now (links .exit)) (now (directory .exit)) (now (values .exit))) (now (output .exit)) ≡ commandedFace (now (session .entry)) (now (counts .entry)) (now (font .entry)) (world (now (background .entry)) (now (store .entry)) (now (links .entry)) (now (directory .entry)) (now (values .entry))) (now (output .entry)) (now (input .entry)) ⌝ }
+{
+    if either(session.len() != IMAGE, counts.len() != 2) {
+        store_counts(counts, 0, 0);
+        return number(Answer::Lengths);
+    }
+    let before = decode(session);
+    let o = station::command(
+        before,
+        font,
+        background,
+        store,
+        links,
+        directory,
+        values,
+        output,
+        input,
+    );
+    let after = o.session;
+    encode(after, session);
+    store_counts(counts, o.read, o.written);
+    let answer = o.answer;
+    number(answer)
+}
+
+#[no_mangle]
+pub extern "C" fn station_label(
+    session: &mut [u8],
+    font: &[u8],
+    page: &mut [u8],
+    background: &[u8],
+    store: &[u8],
+    links: &[u16],
+    directory: &[u8],
+    values: &[u8],
+) -> u8
+    ensures { λ r. ⌜ labelling r (now (session .exit)) (now (page .exit)) ≡ labelledFace (now (session .entry)) (now (font .entry)) (world (now (background .entry)) (now (store .entry)) (now (links .entry)) (now (directory .entry)) (now (values .entry))) (now (page .entry)) ⌝ }
+{
+    if session.len() != IMAGE {
+        return number(Answer::Lengths);
+    }
+    let before = decode(session);
+    let o = station::label(
+        before,
+        font,
+        page,
+        background,
+        store,
+        links,
+        directory,
+        values,
+    );
+    let after = o.session;
+    encode(after, session);
+    let answer = o.answer;
+    number(answer)
+}

@@ -1,0 +1,4 @@
+pub mod World
+pub mod Rows
+pub mod Does
+pub mod Running

@@ -1,0 +1,268 @@
+-- A command call: the ways it ends.
+-- Assumes nothing.
+use mathlib.Core.Path.{_≡_, refl, sym, ap, _∙_, subst}
+use mathlib.Core.Bool.{Bool, true, false, not, cond, _&&_, _||_, true≢false}
+use mathlib.Core.List.{List, [], _∷_}
+use Prim.Native.Nat.{ℕ, _+_, _≤_, _<_}
+use native.Mathlib.Omega.{arith}
+use lib.ListN.{length, getD, take, length-take}
+use lib.Dec.{eqb, ltb, leb}
+use lib.Seq.{sets}
+use borrow.Author.Tests.{not-true, not-false, ltb-true, le-ltb}
+use Rattle.fields.specs.Bytes.{run}
+use Rattle.fields.specs.declared.Class.the-variants.{Inside}
+use Rattle.store.specs.declared.Found.{Found}
+use Rattle.store.specs.declared.Found.the-variants.{At, Nothing}
+use Rattle.store.specs.Find.{recorded}
+use Rattle.read.specs.declared.Command.{Command}
+use Rattle.read.specs.declared.Command.the-variants.{
+  Item as item,
+  Length,
+  Width,
+  Turn,
+  Start,
+  End,
+  Retrieve,
+  EraseForm,
+  ListForms,
+  PrintForm,
+  Store,
+  ListPictures,
+  ErasePicture,
+  SetVariable,
+  SetCounter,
+  Clear,
+  Print,
+  White,
+}
+use Rattle.read.specs.declared.Fault.the-variants.{Form as form, Limit}
+use Rattle.read.specs.declared.Read.{Read}
+use Rattle.read.specs.declared.Read.the-variants.{Taken as Reads, Refused}
+use Rattle.read.specs.declared.Front.{Front}
+use Rattle.read.specs.declared.Front.the-variants.{Short, Long as LongLine, Idle, Line}
+use Rattle.read.specs.Commands.{readOf}
+use Rattle.read.specs.Front.{frontOf, lineFront, asked}
+use Rattle.font.specs.Rules.{legal}
+use Rattle.soundness.specs.Sound.{sound}
+use Rattle.session.specs.declared.Session.{Session}
+use Rattle.session.specs.declared.answers.Answer.{Answer}
+use Rattle.session.specs.declared.answers.Answer.the-variants.{Taken, Lengths, Font, Unsound, Unended, Long}
+use Rattle.session.specs.Answers.{Row, row, answerOf, isTaken, numberOf}
+use Rattle.session.specs.Lent.{World, rowsOf, wrongLent}
+use Rattle.running.specs.World.{State}
+use Rattle.running.specs.Rows.{recordRows, runRows, placedRows, lineRows}
+use Rattle.running.specs.Does.{doesLine, listsLine}
+use Rattle.running.specs.Running.{done, ran, ranBy, ranRead, lineBy}
+use Rattle.running.proofs.Ends.{line-read}
+use Rattle.station.specs.Outcomes.{After, after, outcome}
+use Rattle.station.specs.Table.{entryRows, frontRows, commandTable, lineOf, moreOf}
+use Rattle.station.specs.Station.{frontRead, readBy, doesFront, listsFront, accepted, refused, settled, readAs, commanded}
+use Rattle.station.proofs.Marked.{checked, entry-passed}
+
+-- ---- a command call that ends there
+
+early-call :
+    (x y z : Bool) (rows : List Row) (input output : List ℕ) (s : Session) (w : World) (t : After) → isTaken (answerOf (checked x y z [])) ≡ false →
+    after (outcome (answerOf (checked x y z [])) s 0 0) w output
+    ≡ settled (isTaken (answerOf (checked x y z rows))) t
+    (refused (answerOf (checked x y z rows)) (readBy (answerOf (checked x y z rows)) input) s w output)
+unfolding answerOf isTaken numberOf readBy
+early-call true y z rows input output s w t h = refl
+early-call false false z rows input output s w t h = refl
+early-call false true false rows input output s w t h = refl
+early-call false true true rows input output s w t h = absurd (true≢false h)
+
+pub command-refused :
+    (s : Session) (font : List ℕ) (w : World) (output input : List ℕ) (x : Bool) (a : Answer) (b : Bool) →
+    x ≡ wrongLent w → a ≡ answerOf (entryRows x font s w []) → b ≡ isTaken a → not b ≡ true →
+    after (outcome a s 0 0) w output ≡ commanded s font w output input
+unfolding commanded commandTable
+command-refused s font w output input x a b q e f n =
+    ap (λ (k : Answer). after (outcome k s 0 0) w output) (e ∙ ap (λ (k : Bool). answerOf (entryRows k font s w [])) q)
+    ∙ early-call (wrongLent w) (legal font) (sound s w) (frontRows w s input (length output) (frontOf input)) input output s w _
+    (ap (λ (k : Bool). isTaken (answerOf (entryRows k font s w []))) (sym q) ∙ sym (ap isTaken e) ∙ sym f ∙ not-true b n)
+
+-- ---- a command call, by the front of its input
+
+abbrev readFrom : Answer → Front → ℕ
+readFrom a f = cond (leb 1 (numberOf a) && leb (numberOf a) 4) 0 (frontRead f)
+
+abbrev answered : Session → List ℕ → World → List ℕ → List ℕ → Front → Answer → After
+answered s font w output input f a =
+    settled (isTaken a) (accepted (readFrom a f) (doesFront font w s input f) (listsFront w input f) output) (refused a (readFrom a f) s w output)
+
+abbrev fronted : Session → List ℕ → World → List ℕ → List ℕ → Front → After
+fronted s font w output input f = answered s font w output input f (answerOf (frontRows w s input (length output) f))
+
+pub command-passed :
+    (s : Session) (font : List ℕ) (w : World) (output input : List ℕ) (f : Front) (x : Bool) (a : Answer) (b : Bool) →
+    x ≡ wrongLent w → a ≡ answerOf (entryRows x font s w []) → b ≡ isTaken a → not b ≡ false → frontOf input ≡ f →
+    commanded s font w output input ≡ fronted s font w output input f
+unfolding commanded commandTable readBy
+command-passed s font w output input f x a b q e g n h =
+    ap (answered s font w output input (frontOf input))
+    (entry-passed (wrongLent w) font s w (frontRows w s input (length output) (frontOf input)) a b
+    (e ∙ ap (λ (k : Bool). answerOf (entryRows k font s w [])) q) g n)
+    ∙ ap (fronted s font w output input) h
+
+pub front-short : (s : Session) (font : List ℕ) (w : World) (output input : List ℕ) → fronted s font w output input Short ≡ after (outcome Unended s 0 0) w output
+unfolding answerOf isTaken numberOf
+front-short s font w output input = refl
+
+pub front-long :
+    (s : Session) (font : List ℕ) (w : World) (output input : List ℕ) (k : ℕ) →
+    fronted s font w output input (LongLine k) ≡ after (outcome Long s k 0) w output
+unfolding answerOf isTaken numberOf
+front-long s font w output input k = refl
+
+pub front-idle :
+    (s : Session) (font : List ℕ) (w : World) (output input : List ℕ) (k : ℕ) → fronted s font w output input (Idle k) ≡ after (outcome Taken s k 0) w output
+unfolding answerOf isTaken numberOf
+front-idle s font w output input k = refl
+
+-- ---- a line: no answer from 6 on is one of 1 to 4
+
+abbrev late : Answer → Bool
+late a = not (leb 1 (numberOf a) && leb (numberOf a) 4)
+
+abbrev allLate : List Row → Bool
+allLate [] = true
+allLate (r ∷ rs) = late (r .answer) && allLate rs
+
+late-first : (a : Answer) (b : Bool) (rs : List Row) → (late a && allLate rs) ≡ true → late (answerOf rs) ≡ true → late (answerOf (row a b ∷ rs)) ≡ true
+unfolding answerOf
+late-first a true rs e f = first (late a) (allLate rs) e
+  where
+    first : (p q : Bool) → (p && q) ≡ true → p ≡ true
+    first true q h = refl
+    first false q h = h
+late-first a false rs e f = f
+
+all-rest : (p q : Bool) → (p && q) ≡ true → q ≡ true
+all-rest true q e = e
+all-rest false q e = absurd (true≢false (sym e))
+
+late-answer : (rs : List Row) → allLate rs ≡ true → late (answerOf rs) ≡ true
+unfolding answerOf numberOf
+late-answer [] e = refl
+late-answer (r ∷ rs) e = late-first (r .answer) (r .applies) rs e (late-answer rs (all-rest (late (r .answer)) (allLate rs) e))
+
+late-record : (w : World) (line : List ℕ) (i : ℕ) (c : Command) → allLate (recordRows w line i c) ≡ true
+unfolding numberOf
+late-record w line i (item it) = refl
+late-record w line i (Length l) = refl
+late-record w line i (Width m) = refl
+late-record w line i (Turn t) = refl
+late-record w line i (Start n) = refl
+late-record w line i End = refl
+late-record w line i (Retrieve n) = refl
+late-record w line i (EraseForm n) = refl
+late-record w line i ListForms = refl
+late-record w line i (PrintForm n) = refl
+late-record w line i (Store p) = refl
+late-record w line i ListPictures = refl
+late-record w line i (ErasePicture n) = refl
+late-record w line i (SetVariable v) = refl
+late-record w line i (SetCounter c) = refl
+late-record w line i Clear = refl
+late-record w line i (Print p) = refl
+late-record w line i White = refl
+
+late-run : (w : World) (s : Session) (line more : List ℕ) (room : ℕ) (c : Command) → allLate (runRows w s line more room c) ≡ true
+unfolding numberOf
+late-run w s line more room (item it) = refl
+late-run w s line more room (Length l) = refl
+late-run w s line more room (Width m) = refl
+late-run w s line more room (Turn t) = refl
+late-run w s line more room (Start n) = refl
+late-run w s line more room End = refl
+late-run w s line more room (Retrieve n) = refl
+late-run w s line more room (EraseForm n) = refl
+late-run w s line more room ListForms = refl
+late-run w s line more room (PrintForm n) = refl
+late-run w s line more room (Store p) = refl
+late-run w s line more room ListPictures = refl
+late-run w s line more room (ErasePicture n) = refl
+late-run w s line more room (SetVariable v) = refl
+late-run w s line more room (SetCounter c) = refl
+late-run w s line more room Clear = refl
+late-run w s line more room (Print p) = refl
+late-run w s line more room White = refl
+
+late-placed : (w : World) (s : Session) (line more : List ℕ) (room : ℕ) (c : Command) (f : Found) → allLate (placedRows w s line more room c f) ≡ true
+late-placed w s line more room c (At i) = late-record w line i c
+late-placed w s line more room c Nothing = late-run w s line more room c
+
+late-line : (w : World) (s : Session) (line more : List ℕ) (room : ℕ) (r : Read) → allLate (lineRows w s line more room r) ≡ true
+unfolding numberOf
+late-line w s line more room (Refused (form p)) = refl
+late-line w s line more room (Refused (Limit p)) = refl
+late-line w s line more room (Reads c) = late-placed w s line more room c (recorded (w .directory))
+
+line-choice :
+    (t e : Bool) (a : Answer) (s : Session) (w : World) (o : List ℕ) (k : ℕ) (st : State) (bytes : List ℕ) → not e ≡ true →
+    settled t (accepted (cond e 0 k) st bytes o) (refused a (cond e 0 k) s w o)
+    ≡ readAs k (cond t (ran (done Taken (st .session) (length bytes)) (st .world) (sets o 0 bytes)) (ran (done a s 0) w o))
+line-choice true false a s w o k st bytes h = refl
+line-choice false false a s w o k st bytes h = refl
+line-choice t true a s w o k st bytes h = absurd (true≢false (sym h))
+
+line-call :
+    (s : Session) (font : List ℕ) (w : World) (o line more : List ℕ) (k : ℕ) (r : Read) (a : Answer) → a ≡ answerOf (lineRows w s line more (length o) r) →
+    settled (isTaken a) (accepted (cond (leb 1 (numberOf a) && leb (numberOf a) 4) 0 k) (doesLine font w s line more r) (listsLine w line r) o)
+    (refused a (cond (leb 1 (numberOf a) && leb (numberOf a) 4) 0 k) s w o)
+    ≡ readAs k (ranBy a s w o (doesLine font w s line more r) (listsLine w line r))
+line-call s font w o line more k r a e =
+    line-choice (isTaken a) (leb 1 (numberOf a) && leb (numberOf a) 4) a s w o k (doesLine font w s line more r) (listsLine w line r)
+    (ap late e ∙ late-answer (lineRows w s line more (length o) r) (late-line w s line more (length o) r))
+
+-- ---- "A line is up to 255 bytes"
+
+abbrev isLine : Front → Bool
+isLine Short = false
+isLine (LongLine k) = false
+isLine (Idle k) = false
+isLine (Line n k) = true
+
+abbrev lineIn : Front → ℕ
+lineIn Short = 0
+lineIn (LongLine k) = 0
+lineIn (Idle k) = 0
+lineIn (Line n k) = n
+
+line-front : (b c : Bool) (n k : ℕ) → n < 256 → lineIn (cond b (Idle (n + 1)) (cond c (Line n k) Short)) < 256
+line-front true c n k h = omega arith
+line-front false true n k h = h
+line-front false false n k h = omega arith
+
+front-length : (s : List ℕ) (n : ℕ) → n < 256 → lineIn (lineFront s n) < 256
+unfolding lineFront
+front-length s n h =
+    line-front (eqb n 0 || eqb (getD s 0 0) 59) (leb (n + 1 + asked (take n s)) (length s)) n (n + 1 + asked (take n s)) h
+
+front-cases : (s : List ℕ) (a b c : Bool) (n k m : ℕ) → (b ≡ true → n < 256) → lineIn (cond a (cond b (lineFront s n) (LongLine k)) (cond c Short (LongLine m))) < 256
+front-cases s true true c n k m h = front-length s n (h refl)
+front-cases s true false c n k m h = omega arith
+front-cases s false b true n k m h = omega arith
+front-cases s false b false n k m h = omega arith
+
+front-least : (s : List ℕ) → lineIn (frontOf s) < 256
+unfolding frontOf
+front-least s =
+    front-cases s (ltb (run Inside s) (length s)) (ltb (run Inside s) 256) (ltb (length s) 256) (run Inside s) (run Inside s + 1) (length s)
+    (ltb-true (run Inside s) 256)
+
+pub line-short : (s : List ℕ) (n k : ℕ) → frontOf s ≡ Line n k → n < 256
+line-short s n k e = subst (λ (f : Front). lineIn f < 256) e (front-least s)
+
+line-least : (s : List ℕ) (n : ℕ) → n < 256 → ltb 255 (length (lineOf s n)) ≡ false
+line-least s n h = let z : length (take n s) ≤ n = omega (arith, length-take n s) in le-ltb 255 (length (take n s)) (omega (arith, z, h))
+
+pub front-line :
+    (s : Session) (font : List ℕ) (w : World) (output input : List ℕ) (n k : ℕ) → wrongLent w ≡ false → n < 256 →
+    fronted s font w output input (Line n k) ≡ readAs k (lineBy font w s (lineOf input n) (moreOf input n k) output)
+front-line s font w output input n k h l =
+    line-call s font w output (lineOf input n) (moreOf input n k) k (readOf (rowsOf w) (lineOf input n))
+    (answerOf (lineRows w s (lineOf input n) (moreOf input n k) (length output) (readOf (rowsOf w) (lineOf input n)))) refl
+    ∙ ap (readAs k)
+    (line-read font w s (lineOf input n) (moreOf input n k) output (readOf (rowsOf w) (lineOf input n)) h (line-least input n l) refl)
