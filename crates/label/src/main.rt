@@ -1,0 +1,173 @@
+// The station on standard input: 240 rows, 64 portions, 8 entries, an empty 8 by 8 font, and up to 8,192 bytes of commands.
+//
+// Paper 01, "Sample session": each call's number and answer are written, then the listing that the call gave, then a line for each label that it owes,
+// with the black dots of its page. All that matters is in crate `station`; the sample session stands in `stdin`, and what it must give in `stdout`.
+use libc::STDIN_FILENO;
+use libc::STDOUT_FILENO;
+use session::Answer;
+use session::Session;
+use station::Outcome;
+
+// Cells of 8 by 8 dots, and no glyph.
+const FONT: [u8; 8] = *b"\x01\x02\x00\x08\x08\xff\x00\x00";
+
+fn say(text: &[u8]) {
+    io::write_all(STDOUT_FILENO, text);
+}
+
+fn say_number(n: usize) {
+    io::print_decimal(STDOUT_FILENO, n as u64);
+}
+
+// `line K: A`, and the listing as it is.
+fn say_answer(k: usize, answer: Answer, output: &[u8], written: usize) {
+    let number = session::answers::number(answer);
+    say(b"line ");
+    say_number(k);
+    say(b": ");
+    say_number(number as usize);
+    say(b"\n");
+    say(read::input::first(output, written));
+}
+
+// `label I black D`
+fn say_label(session: Session, page: &[u8]) {
+    let drawn = session.drawn;
+    say(b"label ");
+    say_number(drawn as usize);
+    say(b" black ");
+    say_number(dots::black_dots(page));
+    say(b"\n");
+}
+
+// Label calls "until none is owed".
+fn labels(
+    session: Session,
+    page: &mut [u8],
+    background: &[u8],
+    store: &[u8],
+    links: &[u16],
+    directory: &[u8],
+    values: &[u8],
+) -> Session {
+    let mut s = session;
+    let mut owed = s.owed;
+    while 0 < owed {
+        let labelled = station::label(s, &FONT, page, background, store, links, directory, values);
+        s = labelled.session;
+        say_label(s, page);
+        owed -= 1;
+    }
+    s
+}
+
+// One call on the unread rest of the input, "silent if no bytes remain", with the labels that it owes.
+fn call(
+    k: usize,
+    session: Session,
+    page: &mut [u8],
+    background: &mut [u8],
+    store: &mut [u8],
+    links: &mut [u16],
+    directory: &mut [u8],
+    values: &mut [u8],
+    output: &mut [u8],
+    unread: &[u8],
+) -> Outcome {
+    let o = station::command(
+        session,
+        &FONT,
+        background,
+        store,
+        links,
+        directory,
+        values,
+        output,
+        unread,
+    );
+    if unread.len() == 0 {
+        return o;
+    }
+    let answer = o.answer;
+    let written = o.written;
+    let after = o.session;
+    say_answer(k, answer, output, written);
+    let drawn = labels(after, page, background, store, links, directory, values);
+    Outcome {
+        answer: answer,
+        session: drawn,
+        read: o.read,
+        written: written,
+    }
+}
+
+// Calls up to the one that reads nothing. Every other reads a byte or more, so that there are no more of them than bytes.
+fn calls(
+    opened: Session,
+    page: &mut [u8],
+    background: &mut [u8],
+    store: &mut [u8],
+    links: &mut [u16],
+    directory: &mut [u8],
+    values: &mut [u8],
+    output: &mut [u8],
+    input: &[u8],
+) {
+    let mut s = opened;
+    let mut at: usize = 0;
+    let mut k: usize = 0;
+    while k < input.len() {
+        k += 1;
+        let unread = station::rest(input, at);
+        let o = call(
+            k,
+            s,
+            page,
+            background,
+            store,
+            links,
+            directory,
+            values,
+            output,
+            unread,
+        );
+        s = o.session;
+        let read = o.read;
+        if read == 0 {
+            return;
+        }
+        at = dots::capped_sum(at, read);
+    }
+}
+
+fn main() {
+    let mut page = [0u8; 18240];
+    let mut background = [0u8; 18240];
+    let mut store = [0u8; 16384];
+    let mut links = [0u16; 64];
+    let mut directory = [0u8; 128];
+    let mut values = [0u8; 340];
+    let mut output = [0u8; 16384];
+    let mut input = [0u8; 8192];
+    let n = io::read_full(STDIN_FILENO, &mut input);
+    let opened = station::open(
+        &mut page,
+        &mut background,
+        &mut store,
+        &mut links,
+        &mut directory,
+        &mut values,
+    );
+    let session = opened.session;
+    calls(
+        session,
+        &mut page,
+        &mut background,
+        &mut store,
+        &mut links,
+        &mut directory,
+        &mut values,
+        &mut output,
+        &input[..n],
+    );
+}

@@ -1,0 +1,113 @@
+// Calls that an independent station answered, made again on this one through its exported boundary: every line must be the one that the other wrote.
+//
+// `calls.bin` is a row of records, all numbers low byte first. A record starts with its letter. `S fill` is a new desk: every byte of every slice is
+// fill, each link fill * 257, the counts 0. `F length bytes` is the font from now on. `K slice at byte` changes one byte between calls (slice 0
+// session, 4 background, 5 store, 6 links as bytes, 7 directory, 8 values). `O`, `C` and `L` are the three calls, with nine lengths, and `C` with the
+// length of its input and the input. A desk has room for more than a call is lent. `stdout` has a line for each call: its number, the answer, the
+// two counts, and a digest of all slices, the room beyond what was lent included.
+mod calls; // one call
+mod desk; // a new desk, and one byte changed
+mod file; // what stands in calls.bin
+mod lines; // the line of a call
+
+use calls::call;
+use desk::Desk;
+use desk::changed;
+use desk::new_desk;
+use file::byte;
+use file::number;
+use file::part;
+use lines::line;
+
+// The desk, where the next record stands, how many calls were made, and where the font stands.
+struct Progress {
+    desk: Desk,
+    at: usize,
+    calls: usize,
+    font: usize,
+    length: usize,
+}
+
+fn moved(r: Progress, size: usize) -> Progress {
+    let mut next = r;
+    next.at = dots::capped_sum(r.at, size);
+    next
+}
+
+// F
+fn font(r: Progress, record: &[u8]) -> Progress {
+    let length = number(record, 1);
+    let mut next = moved(r, 3 + length);
+    next.font = dots::capped_sum(r.at, 3);
+    next.length = length;
+    next
+}
+
+// How many bytes the record of a call takes.
+fn size(record: &[u8]) -> usize {
+    if byte(record, 0) == b'C' {
+        return 21 + number(record, 19);
+    }
+    19
+}
+
+// O, C and L
+fn called(file: &[u8], r: Progress, record: &[u8]) -> Progress {
+    let desk = r.desk;
+    let c = call(record, part(file, r.font, r.length), desk);
+    let answer = c.answer;
+    let after = c.desk;
+    let calls = dots::capped_sum(r.calls, 1);
+    line(calls, answer, after);
+    let mut next = moved(r, size(record));
+    next.desk = after;
+    next.calls = calls;
+    next
+}
+
+fn one(file: &[u8], r: Progress) -> Progress {
+    let record = read::input::rest(file, r.at);
+    let desk = r.desk;
+    match byte(record, 0) {
+        b'S' => {
+            let mut next = moved(r, 2);
+            next.desk = new_desk(byte(record, 1));
+            next
+        }
+        b'F' => font(r, record),
+        b'K' => {
+            let mut next = moved(r, 5);
+            next.desk = changed(desk, byte(record, 1), number(record, 2), byte(record, 4));
+            next
+        }
+        _ => called(file, r, record),
+    }
+}
+
+// No record is empty, so that there are no more of them than bytes.
+fn replay(file: &[u8]) {
+    let desk = new_desk(0);
+    let mut r = Progress {
+        desk: desk,
+        at: 0,
+        calls: 0,
+        font: 0,
+        length: 0,
+    };
+    let mut k: usize = 0;
+    while k < file.len() {
+        if file.len() <= r.at {
+            return;
+        }
+        r = one(file, r);
+        k += 1;
+    }
+}
+
+fn main() {
+    let mut bytes = io::large_buffer();
+    let calls = os::open_read(b"calls.bin");
+    let n = io::read_full(calls, &mut bytes);
+    libc::close(calls);
+    replay(&bytes[..n]);
+}
