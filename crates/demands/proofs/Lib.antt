@@ -1,0 +1,14 @@
+pub mod Tables
+pub mod Refusal
+pub mod Taking
+pub mod Labels
+pub mod Shelves
+pub mod WentIn
+pub mod Unfit
+pub mod Free
+pub mod Lines
+pub mod Relist
+pub mod Again
+pub mod Ended
+pub mod Sayings
+pub mod Demands

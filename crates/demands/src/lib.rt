@@ -1,0 +1,1 @@
+// The three demands as theorems over the definitions of the station (specs/, proofs/).
