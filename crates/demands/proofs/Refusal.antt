@@ -1,4 +1,4 @@
--- Demand 1: a refusal keeps everything, two outcomes of one call are equal, and the answer is the first row of the table that applies.
+-- Demand 1: the answer is the first row of the table that applies, and what a call reads.
 -- Assumes nothing.
 use mathlib.Core.Path.{_≡_, refl, sym, ap, _∙_, subst}
 use mathlib.Core.Bool.{Bool, true, false, true≢false}
@@ -47,33 +47,8 @@ use Rattle.station.specs.Outcomes.{After, after, outcome, Drawn}
 use Rattle.station.specs.Table.{commandTable, labelTable, frontRows, lineOf, moreOf}
 use Rattle.station.specs.Station.{commanded, settled, readBy, labelledBy, settledLabel}
 use Rattle.demands.specs.Tables.{rises, risesAbove, applies, noneApplies, Given}
-use Rattle.demands.proofs.Tables.{taken-is, given, exactly, taken-none, none-taken}
-
--- ---- "A refusal leaves session and all lent memory unchanged"
-
-command-keeps :
-    (t : Bool) (a : Answer) (n : Answer → ℕ) (s : Session) (w : World) (output : List ℕ) (c : After) → c .outcome .answer ≡ Taken →
-    isTaken (settled t c (after (outcome a s (n a) 0) w output) .outcome .answer) ≡ false →
-    settled t c (after (outcome a s (n a) 0) w output)
-    ≡ after (outcome (settled t c (after (outcome a s (n a) 0) w output) .outcome .answer) s (n (settled t c (after (outcome a s (n a) 0) w output) .outcome .answer)) 0) w output
-unfolding isTaken numberOf
-command-keeps true a n s w output c e h = absurd (true≢false (sym (ap isTaken e) ∙ h))
-command-keeps false a n s w output c e h = refl
-
-pub command-refusal-keeps :
-    (s : Session) (font : List ℕ) (w : World) (output input : List ℕ) → isTaken (commanded s font w output input .outcome .answer) ≡ false →
-    commanded s font w output input
-    ≡ after (outcome (commanded s font w output input .outcome .answer) s (readBy (commanded s font w output input .outcome .answer) input) 0) w output
-unfolding commanded
-command-refusal-keeps s font w output input h =
-    command-keeps (isTaken (answerOf (commandTable s font w (length output) input))) (answerOf (commandTable s font w (length output) input)) (λ (a : Answer). readBy a input) s w output _ refl h
-
--- ---- two outcomes that satisfy an entry's contract are equal
-
-pub command-outcomes-equal :
-    (s : Session) (font : List ℕ) (w : World) (output input : List ℕ) (x y : After) →
-    x ≡ commanded s font w output input → y ≡ commanded s font w output input → x ≡ y
-command-outcomes-equal s font w output input x y e f = e ∙ sym f
+use Rattle.keeping.proofs.Tables.{taken-is}
+use Rattle.demands.proofs.Tables.{given, exactly, taken-none, none-taken}
 
 -- ---- the answer is the table's
 

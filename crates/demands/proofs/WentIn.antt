@@ -81,8 +81,9 @@ use Rattle.keeping.proofs.Recording.{recorded-is}
 use Rattle.keeping.proofs.Always.{GoodState, called-good, after-good}
 use Rattle.demands.specs.Calls.{Asked, answered, commands, stateOf, Says}
 use Rattle.demands.specs.Recorded.{shelfIn, grownAt, lineKept, keeps, keepsAll, Goes, GoOn, Kept, Made, madeShelf}
-use Rattle.demands.proofs.Refusal.{command-refusal-keeps, command-taken-none}
-use Rattle.demands.proofs.Tables.{taken-is}
+use Rattle.station.proofs.Promises.{command-refusal-keeps}
+use Rattle.keeping.proofs.Tables.{taken-is}
+use Rattle.demands.proofs.Refusal.{command-taken-none}
 use Rattle.demands.proofs.Taking.{command-accepted, front-none, Done, command-done}
 use Rattle.demands.proofs.Shelves.{grownAt-none, grownAt-twice, recorded-moved, recorded-new}
 

@@ -7,7 +7,6 @@ use Prim.Native.Nat.{ℕ, _<_}
 use lib.ListN.{length, getD, replicate}
 use lib.Dec.{eqb}
 use borrow.Author.Tests.{eq-eqb, eqb-true, not-false}
-use Rattle.read.specs.Front.{frontOf}
 use Rattle.session.specs.declared.Session.{Session}
 use Rattle.session.specs.declared.answers.Answer.{Answer}
 use Rattle.session.specs.declared.answers.Answer.the-variants.{Taken, Lengths}
@@ -15,9 +14,8 @@ use Rattle.session.specs.Answers.{isTaken, numberOf, answerOf}
 use Rattle.session.specs.Session.{none}
 use Rattle.session.specs.Lent.{World}
 use Rattle.station.specs.Outcomes.{After, after, outcome, Drawn, drawnBy, labelled}
-use Rattle.station.specs.Table.{commandTable}
-use Rattle.station.specs.Station.{readBy, doesFront, listsFront, accepted, refused, settled, commanded, labelledBy}
-use Rattle.station.proofs.Promises.{open-refusal-keeps, label-refusal-keeps}
+use Rattle.station.specs.Station.{readBy, commanded, labelledBy}
+use Rattle.station.proofs.Promises.{open-refusal-keeps, command-refusal-keeps, label-refusal-keeps}
 use Rattle.face.specs.Image.{bytesOf, counterBytes, sessionOf, imageOf}
 use Rattle.face.specs.Face.{
   imageWrong,
@@ -49,24 +47,6 @@ open-refusal i p w h n =
 
 -- ---- a command
 
-command-keeps :
-    (t : Bool) (a : Answer) (n : ℕ) (s : Session) (w : World) (o : List ℕ) (x : After) → x .outcome .answer ≡ Taken →
-    isTaken (settled t x (refused a n s w o) .outcome .answer) ≡ false →
-    settled t x (refused a n s w o)
-    ≡ after (outcome (settled t x (refused a n s w o) .outcome .answer) s (settled t x (refused a n s w o) .outcome .read) 0) w o
-unfolding isTaken numberOf
-command-keeps true a n s w o x e h = absurd (true≢false (sym (ap isTaken e) ∙ h))
-command-keeps false a n s w o x e h = refl
-
-command-refusal-keeps :
-    (s : Session) (f : List ℕ) (w : World) (o input : List ℕ) → isTaken (commanded s f w o input .outcome .answer) ≡ false →
-    commanded s f w o input ≡ after (outcome (commanded s f w o input .outcome .answer) s (commanded s f w o input .outcome .read) 0) w o
-unfolding commanded
-command-refusal-keeps s f w o input h =
-    let a = answerOf (commandTable s f w (length o) input) in
-    command-keeps (isTaken a) a (readBy a input) s w o
-    (accepted (readBy a input) (doesFront f w s input (frontOf input)) (listsFront w input (frontOf input)) o) refl h
-
 -- where the station's call keeps session and lists, this one keeps the image too
 command-same : (i cs o : List ℕ) (w : World) (c : After) (a : Answer) (s : Session) (n k : ℕ) → c ≡ after (outcome a s n k) w o → imageOf s ≡ i
     → commandingOf cs c ≡ commanding (commandingOf cs c .answer) i (commandingOf cs c .counts) w o
@@ -93,7 +73,7 @@ module _ (i : List ℕ) (small : (k : ℕ) → getD i k 0 < 256) (f : List ℕ) 
   command-refusal cs o input =
       let c = commanded (sessionOf i) f w o input in
       command-either (imageWrong i || countsWrong cs) i cs o w c
-      (λ e h. command-same i cs o w c (c .outcome .answer) (sessionOf i) (c .outcome .read) 0 (command-refusal-keeps (sessionOf i) f w o input h)
+      (λ e h. command-same i cs o w c (c .outcome .answer) (sessionOf i) (readBy (c .outcome .answer) input) 0 (command-refusal-keeps (sessionOf i) f w o input h)
       (same i small (neither (imageWrong i) (countsWrong cs) e)))
 
 -- ---- a label

@@ -1,4 +1,4 @@
--- Theorems about opening and the label call: a refusal keeps what was lent, two outcomes of one call are equal, and the answer is the table's.
+-- Theorems about the three calls: a refusal keeps what was lent, and two outcomes of one call are equal.
 -- Assumes nothing.
 use mathlib.Core.Path.{_≡_, refl, sym, ap, _∙_}
 use mathlib.Core.Bool.{Bool, true, false, not, _||_, true≢false}
@@ -13,9 +13,9 @@ use Rattle.session.specs.declared.answers.Answer.the-variants.{Taken, Lengths}
 use Rattle.session.specs.Answers.{answerOf, isTaken, numberOf}
 use Rattle.session.specs.Session.{none, fresh}
 use Rattle.session.specs.Lent.{World, rowsOf, wrongLent}
-use Rattle.station.specs.Outcomes.{Drawn, drawnBy, labelled, Opened, openedBy}
-use Rattle.station.specs.Table.{labelTable}
-use Rattle.station.specs.Station.{cleared, pickOpened, opened, labelPage, labelSession, settledLabel, labelledBy}
+use Rattle.station.specs.Outcomes.{After, after, outcome, Drawn, drawnBy, labelled, Opened, openedBy}
+use Rattle.station.specs.Table.{commandTable, labelTable}
+use Rattle.station.specs.Station.{cleared, pickOpened, opened, readBy, settled, commanded, labelPage, labelSession, settledLabel, labelledBy}
 
 -- ---- a label call that is refused keeps session and page
 
@@ -52,6 +52,25 @@ open-refusal-keeps page w h =
     open-keeps (wrongLent w || not (eqb (length page) (length (w .background)))) page w
     (openedBy (labelled Taken (fresh (rowsOf w))) (zeros (length page)) (cleared w)) refl h
 
+-- ---- a command that is refused keeps session, every list and the output
+
+command-keeps :
+    (t : Bool) (a : Answer) (n : Answer → ℕ) (s : Session) (w : World) (output : List ℕ) (c : After) → c .outcome .answer ≡ Taken →
+    isTaken (settled t c (after (outcome a s (n a) 0) w output) .outcome .answer) ≡ false →
+    settled t c (after (outcome a s (n a) 0) w output)
+    ≡ after (outcome (settled t c (after (outcome a s (n a) 0) w output) .outcome .answer) s (n (settled t c (after (outcome a s (n a) 0) w output) .outcome .answer)) 0) w output
+unfolding isTaken numberOf
+command-keeps true a n s w output c e h = absurd (true≢false (sym (ap isTaken e) ∙ h))
+command-keeps false a n s w output c e h = refl
+
+pub command-refusal-keeps :
+    (s : Session) (font : List ℕ) (w : World) (output input : List ℕ) → isTaken (commanded s font w output input .outcome .answer) ≡ false →
+    commanded s font w output input
+    ≡ after (outcome (commanded s font w output input .outcome .answer) s (readBy (commanded s font w output input .outcome .answer) input) 0) w output
+unfolding commanded
+command-refusal-keeps s font w output input h =
+    command-keeps (isTaken (answerOf (commandTable s font w (length output) input))) (answerOf (commandTable s font w (length output) input)) (λ (a : Answer). readBy a input) s w output _ refl h
+
 -- ---- two outcomes of one call are equal
 
 pub label-outcomes-equal :
@@ -60,3 +79,8 @@ label-outcomes-equal s font w page x y e f = e ∙ sym f
 
 pub open-outcomes-equal : (page : List ℕ) (w : World) (x y : Opened) → x ≡ opened page w → y ≡ opened page w → x ≡ y
 open-outcomes-equal page w x y e f = e ∙ sym f
+
+pub command-outcomes-equal :
+    (s : Session) (font : List ℕ) (w : World) (output input : List ℕ) (x y : After) →
+    x ≡ commanded s font w output input → y ≡ commanded s font w output input → x ≡ y
+command-outcomes-equal s font w output input x y e f = e ∙ sym f
