@@ -2,9 +2,10 @@
 //
 // `calls.bin` is a row of records, all numbers low byte first. A record starts with its letter. `S fill` is a new desk: every byte of every slice is
 // fill, each link fill * 257, the counts 0. `F length bytes` is the font from now on. `K slice at byte` changes one byte between calls (slice 0
-// session, 4 background, 5 store, 6 links as bytes, 7 directory, 8 values). `O`, `C` and `L` are the three calls, with nine lengths, and `C` with the
-// length of its input and the input. A desk has room for more than a call is lent. `stdout` has a line for each call: its number, the answer, the
-// two counts, and a digest of all slices, the room beyond what was lent included.
+// session, 4 background, 5 store, 6 links as bytes, 7 directory, 8 values). `O`, `C` and `L` are the three calls, with the lengths of session, counts,
+// page, background, store, links, directory, values and output; after them `C` has the length of its input and the input. A desk has room for more
+// than a call is lent. `stdout` has a line for each call: its number, the answer, the two counts, and a digest of all slices, the room beyond what was
+// lent included. Both files are those of peer/vectors.
 mod calls; // one call
 mod desk; // a new desk, and one byte changed
 mod file; // what stands in calls.bin
@@ -65,9 +66,9 @@ fn called(file: &[u8], r: Progress, record: &[u8]) -> Progress {
     next
 }
 
+// One record.
 fn one(file: &[u8], r: Progress) -> Progress {
     let record = read::input::rest(file, r.at);
-    let desk = r.desk;
     match byte(record, 0) {
         b'S' => {
             let mut next = moved(r, 2);
@@ -76,6 +77,7 @@ fn one(file: &[u8], r: Progress) -> Progress {
         }
         b'F' => font(r, record),
         b'K' => {
+            let desk = r.desk;
             let mut next = moved(r, 5);
             next.desk = changed(desk, byte(record, 1), number(record, 2), byte(record, 4));
             next
