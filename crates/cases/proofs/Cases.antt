@@ -1,6 +1,5 @@
 -- The ten proof cases of paper 01: what the definitions give for the table is what the table expects.
 -- Assumes nothing.
-use Prim.Native.Nat.{ℕ}
 use mathlib.Core.Path.{_≡_, refl, ap}
 use mathlib.Core.List.{List, [], _∷_, _++_}
 use lib.ListN.{replicate}

@@ -1,7 +1,7 @@
 -- Demand 1: the answer is the first row of the table that applies, and what a call reads.
 -- Assumes nothing.
 use mathlib.Core.Path.{_≡_, refl, sym, ap, _∙_, subst}
-use mathlib.Core.Bool.{Bool, true, false, true≢false}
+use mathlib.Core.Bool.{Bool, true, false}
 use mathlib.Core.List.{List}
 use Prim.Native.Nat.{ℕ}
 use lib.ListN.{length}
@@ -43,7 +43,7 @@ use Rattle.session.specs.declared.answers.Answer.the-variants.{Taken}
 use Rattle.session.specs.Answers.{answerOf, isTaken, numberOf}
 use Rattle.session.specs.Lent.{World, rowsOf}
 use Rattle.running.specs.Rows.{recordRows, runRows, placedRows, lineRows}
-use Rattle.station.specs.Outcomes.{After, after, outcome, Drawn}
+use Rattle.station.specs.Outcomes.{After, outcome, Drawn}
 use Rattle.station.specs.Table.{commandTable, labelTable, frontRows, lineOf, moreOf}
 use Rattle.station.specs.Station.{commanded, settled, readBy, labelledBy, settledLabel}
 use Rattle.demands.specs.Tables.{rises, risesAbove, applies, noneApplies, Given}

@@ -3,18 +3,18 @@ use mathlib.Core.Path.{_≡_, _∙_, refl, sym, ap}
 use mathlib.Core.Bool.{Bool, true, false, cond, _&&_, not, and-false, false≢true}
 use mathlib.Core.List.{List, [], _∷_}
 use Prim.Native.Nat.{ℕ, zero, suc, _+_, _-_, _*_, _^_, _≤_, _<_}
-use native.Mathlib.Nat.{add-zero, add-suc, pow-suc, pow-le-pow-right, mul-le-mul-right, mul-assoc, mul-comm}
+use native.Mathlib.Nat.{pow-suc, pow-le-pow-right, mul-le-mul-right, mul-assoc, mul-comm}
 use native.Mathlib.Numerals.{add-one}
 use native.Mathlib.Omega.{arith}
-use lib.Dec.{T, leb, ltb, eqb, lit<}
+use lib.Dec.{T, leb, eqb, lit<}
 use native.Mathlib.Decide.{ℕ-discrete, decLt}
-use lib.ListN.{length, getD, take, drop, length-drop, length-take, drop-of-length-le, List·getD-eq-default}
+use lib.ListN.{length, getD, drop, length-drop, length-take, drop-of-length-le, List·getD-eq-default}
 use lib.Seq.{drop-cons}
-use borrow.Author.Tests.{le-leb, lt-leb, leb-true, eq-eqb, ne-eqb, eqb-true}
+use borrow.Author.Tests.{le-leb, lt-leb, leb-true, ne-eqb, eqb-true}
 use Rattle.fields.specs.declared.Class.{Class}
 use Rattle.fit.specs.Bytes.{between}
 use Rattle.fields.specs.Bytes.{inClass, run, digitOf, valueFrom}
-use Rattle.fields.specs.Field.{part, runAt, numberAt, textAt, textFault, nought, Small}
+use Rattle.fields.specs.Field.{part, runAt, numberAt, textAt, textFault, Small}
 use Rattle.fields.specs.declared.Class.the-variants.{Digit, Quoted}
 use Rattle.fields.specs.declared.Field.{Field}
 use Rattle.fields.specs.declared.Field.the-variants.{Is, Not}

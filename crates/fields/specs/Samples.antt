@@ -1,18 +1,16 @@
 -- Fields of the paper's lines, and what reading them gives: antt computes each.
 -- Assumes nothing.
-use Prim.Native.Nat.{ℕ}
 use mathlib.Core.Path.{_≡_, refl}
 use mathlib.Core.List.{[], _∷_}
 use Rattle.fit.specs.Bytes.{between}
 use Rattle.fields.specs.Text.{bytes}
 use Rattle.fields.specs.Bytes.{run, valueFrom}
-use Rattle.fields.specs.Field.{numberAt, textAt, signedAt, byteAt, letterAt, typeAt}
+use Rattle.fields.specs.Field.{numberAt, textAt, signedAt, byteAt, typeAt}
 use Rattle.fields.specs.Data.{modifierAt, heldAt, elementAt, elementsFrom, elements, total, dataAt, limits}
-use Rattle.fields.specs.declared.Class.the-variants.{Mode, Side}
 use Rattle.fields.specs.declared.Field.the-variants.{Is, Not}
-use Rattle.fields.specs.declared.Limits.the-variants.{Within, Outside}
-use Rattle.fields.specs.declared.Part.the-variants.{Whole, First, Last, Middle}
-use Rattle.fields.specs.declared.What.the-variants.{Text, Variable, Counter}
+use Rattle.fields.specs.declared.Limits.the-variants.{Outside}
+use Rattle.fields.specs.declared.Part.the-variants.{First, Last, Middle}
+use Rattle.fields.specs.declared.What.the-variants.{Variable}
 
 -- leading zeros are allowed, nine digits at most, and no sign stands before a number
 zeros : numberAt (bytes "LO010,2") 2 ≡ Is 10 5

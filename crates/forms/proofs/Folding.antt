@@ -1,18 +1,17 @@
 -- The lines of a form, one after another: a fold over all lines of some bytes is a step with the first, and the fold over what stands behind it.
 -- Assumes nothing.
 use mathlib.Core.Path.{_≡_, refl, sym, ap, _∙_}
-use mathlib.Core.Bool.{Bool, true, false, cond, _&&_}
-use mathlib.Core.List.{List, [], _∷_, _++_}
-use mathlib.Core.Logic.{_⊎_, inl, inr, ⊎-elim}
-use Prim.Native.Nat.{ℕ, zero, suc, _+_, _-_, _≤_, _<_}
+use mathlib.Core.Bool.{Bool, true, false, _&&_}
+use mathlib.Core.List.{List, [], _∷_}
+use mathlib.Core.Logic.{_⊎_, ⊎-elim}
+use Prim.Native.Nat.{ℕ, suc, _-_, _≤_, _<_}
 use native.Mathlib.Omega.{arith}
 use native.Mathlib.Decide.{decLe}
-use lib.ListN.{length, getD, take, drop, length-drop}
-use lib.Dec.{eqb, leb, ltb}
+use lib.ListN.{length, drop, length-drop}
+use lib.Dec.{eqb, ltb}
 use borrow.Author.Tests.{eq-eqb, ne-eqb, lt-ltb, le-ltb, le-leb, lt-leb}
 use Rattle.cells.proofs.Counts.{same?, drop-none}
-use Rattle.store.specs.Lines.{Lines, lines, onto, withByte, linesOf, lineOf, pickLine}
-use Rattle.store.proofs.Lines.{line-most}
+use Rattle.store.specs.Lines.{lines, onto, linesOf, lineOf}
 use Rattle.values.specs.declared.declarations.Declared.{Declared}
 use Rattle.read.specs.Grammar.{headOf, find}
 use Rattle.read.specs.Commands.{readOf, headed}

@@ -1,10 +1,10 @@
 -- A form that grows by a line: recording is one step of the fold. And the empty form.
 -- Assumes nothing.
 use mathlib.Core.Path.{_≡_, refl, sym, ap, _∙_}
-use mathlib.Core.Bool.{Bool, true, false, cond, _&&_}
+use mathlib.Core.Bool.{Bool, true, _&&_}
 use mathlib.Core.List.{List, [], _∷_, _++_}
-use mathlib.Core.Logic.{_⊎_, inl, inr, ⊎-elim}
-use Prim.Native.Nat.{ℕ, zero, suc}
+use mathlib.Core.Logic.{_⊎_, ⊎-elim}
+use Prim.Native.Nat.{ℕ}
 use native.Mathlib.Omega.{arith}
 use lib.ListN.{length}
 use lib.Dec.{eqb}
@@ -15,7 +15,7 @@ use Rattle.values.specs.declared.declarations.Declared.{Declared}
 use Rattle.values.specs.Declarations.{nothing}
 use Rattle.forms.specs.Form.{takes, declaring, takesAll, declaredBy, hasAll, formOk, declaredOf, picturesStored}
 use Rattle.forms.specs.Draw.{Setting, Drawing, drawsLine, drawsLines, formDrawn}
-use Rattle.forms.proofs.Bytes.{and-true, and-assoc}
+use Rattle.forms.proofs.Bytes.{and-assoc}
 
 -- ---- the fold over appended lines is the fold continued
 

@@ -1,7 +1,7 @@
 -- What drawing a form keeps, whatever it draws: all that each drawing of dots, of text and of bars keeps. Of text and bars this is asked here, since
 -- the crates that draw them say it.
 -- Assumes nothing.
-use mathlib.Core.Path.{_≡_, refl, sym, ap, _∙_}
+use mathlib.Core.Path.{_≡_, _∙_}
 use mathlib.Core.Bool.{Bool, true}
 use mathlib.Core.List.{List, [], _∷_}
 use Prim.Native.Nat.{ℕ}

@@ -2,21 +2,19 @@
 -- Assumes nothing.
 use mathlib.Core.Path.{_≡_, refl, sym, ap, _∙_}
 use mathlib.Core.Bool.{Bool, true, false, cond, _&&_}
-use mathlib.Core.List.{List, [], _∷_}
-use Prim.Native.Nat.{ℕ, zero, suc, _+_, _-_, _≤_, _<_}
+use mathlib.Core.List.{List, []}
+use Prim.Native.Nat.{ℕ, zero, suc, _-_, _≤_, _<_}
 use native.Mathlib.Omega.{arith}
 use native.Mathlib.Decide.{decLe}
-use lib.ListN.{length, take, drop}
-use lib.Seq.{sets, take-all}
-use lib.Dec.{eqb, ltb}
+use lib.ListN.{length, take}
+use lib.Seq.{take-all}
 use borrow.Author.Tests.{eq-eqb, ne-eqb, lt-ltb, le-ltb}
 use Rattle.cells.proofs.Counts.{drop-none}
 use Rattle.cells.proofs.Sets.{sets-front}
 use Rattle.store.specs.declared.Cursor.{Cursor}
-use Rattle.store.specs.declared.Next.{Next}
 use Rattle.store.specs.declared.Next.the-variants.{Line, End, Bad}
 use Rattle.store.specs.Content.{bytesFrom, contentOf, content, ahead, onward, after}
-use Rattle.store.specs.Lines.{linesOf, lineOf, pickNext, nextLine, lined}
+use Rattle.store.specs.Lines.{linesOf, lineOf, nextLine, lined}
 use Rattle.store.proofs.Reading.{length-bytes, length-ahead, ahead-after}
 use Rattle.store.proofs.Lines.{line-most}
 use Rattle.values.specs.declared.declarations.Declared.{Declared}
@@ -24,7 +22,7 @@ use Rattle.forms.specs.declared.running.Walk.{Walk}
 use Rattle.forms.specs.Form.{itemIn, takes, declaring, takesAll, declaredBy, hasStored, hasAll, formOk, declaredOf, picturesStored}
 use Rattle.forms.specs.Walk.{lineIn, behind, started, restOk, walkOk, walkDeclared, walkHas}
 use Rattle.forms.proofs.Bytes.{and-true, and-assoc}
-use Rattle.forms.proofs.Folding.{behind-none, behind-less, behind-tail, line-good, line-long, line-cut, rest-step, declared-step, has-step}
+use Rattle.forms.proofs.Folding.{behind-less, behind-tail, line-good, line-long, line-cut, rest-step, declared-step, has-step}
 
 -- ---- what the next line says
 

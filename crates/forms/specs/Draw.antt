@@ -1,7 +1,7 @@
 -- What a line draws, on a page or on the background, and what a form draws on a label.
 -- Assumes nothing.
 use Prim.Native.Nat.{ℕ, _+_, min}
-use mathlib.Core.Bool.{Bool, true, false}
+use mathlib.Core.Bool.{true}
 use mathlib.Core.List.{List, [], _∷_}
 use lib.ListN.{take}
 use Rattle.fields.specs.Data.{elements}

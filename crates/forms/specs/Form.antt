@@ -1,10 +1,10 @@
 -- "each form a row of normalised lines that recording would take one after another (presence of pictures aside)"
 -- Assumes nothing.
 use Prim.Native.Nat.{ℕ}
-use mathlib.Core.Bool.{Bool, true, false, cond, _&&_}
+use mathlib.Core.Bool.{Bool, true, false, _&&_}
 use mathlib.Core.List.{List, [], _∷_}
 use lib.ListN.{length}
-use lib.Dec.{eqb, leb}
+use lib.Dec.{eqb}
 use Rattle.values.specs.declared.declarations.Declared.{Declared}
 use Rattle.values.specs.Declarations.{nothing}
 use Rattle.store.specs.declared.Found.{Found}

@@ -2,7 +2,7 @@
 -- declared after it.
 -- Assumes nothing.
 use Prim.Native.Nat.{ℕ}
-use mathlib.Core.Bool.{Bool, true, false, cond}
+use mathlib.Core.Bool.{Bool, true, false}
 use mathlib.Core.List.{List}
 use Rattle.fit.specs.declared.Kind.{Kind}
 use Rattle.fit.specs.declared.Kind.the-variants.{Shown}

@@ -1,7 +1,7 @@
 -- Every call leads from a sound world to a sound one: a label call (Labels), and here each command call, taken or refused.
 -- Assumes nothing.
 use mathlib.Core.Path.{_≡_, refl, subst}
-use mathlib.Core.Bool.{Bool, true, false, not, _||_, cond}
+use mathlib.Core.Bool.{Bool, true, false, _||_, cond}
 use mathlib.Core.List.{List}
 use Prim.Native.Nat.{ℕ, _+_, _≤_, _<_}
 use native.Mathlib.Omega.{arith}
@@ -52,10 +52,10 @@ use Rattle.session.specs.declared.answers.Answer.the-variants.{
 use Rattle.session.specs.Answers.{numberOf, isTaken, answerOf}
 use Rattle.session.specs.Lent.{World, rowsOf, wrongLent}
 use Rattle.running.specs.Rows.{runRows, placedRows, lineRows}
-use Rattle.running.specs.Does.{runs, placed, does, doesLine}
+use Rattle.running.specs.Does.{runs, placed, doesLine}
 use Rattle.station.specs.Table.{lineOf, moreOf, frontRows, commandTable}
 use Rattle.station.specs.Outcomes.{After}
-use Rattle.station.specs.Station.{doesFront, refused, settled, commanded}
+use Rattle.station.specs.Station.{doesFront, settled, commanded}
 use Rattle.keeping.specs.Good.{Good}
 use Rattle.keeping.specs.Tens.{Tens}
 use Rattle.keeping.proofs.Layers.{good-sound, sound-good}

@@ -3,7 +3,7 @@
 use mathlib.Core.Path.{_≡_, refl}
 use mathlib.Core.Bool.{Bool, true, false, _&&_, false≢true}
 use Rattle.sound.specs.Sound.{storeSound}
-use Rattle.soundness.specs.Sound.{numbersOk, backgroundOk, contentsOk, activeBytes, activitySound, sound}
+use Rattle.soundness.specs.Sound.{numbersOk, backgroundOk, contentsOk, sound}
 use Rattle.session.specs.declared.Session.{Session}
 use Rattle.session.specs.Lent.{World, rowsOf, wrongLent}
 use Rattle.keeping.specs.Good.{Good}

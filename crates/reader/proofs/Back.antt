@@ -3,12 +3,11 @@
 use native.Mathlib.Omega.{arith}
 use Prim.Native.Nat.{ℕ, _+_, _<_}
 use mathlib.Core.Path.{_≡_, refl, ap, _∙_}
-use mathlib.Core.Bool.{false}
 use mathlib.Core.List.{List, [], _∷_, _++_, append-assoc}
 use lib.Dec.{T}
 use lib.ListN.{length, take, length-append}
 use Rattle.fit.specs.Bytes.{between}
-use Rattle.fields.specs.declared.Class.the-variants.{Digit, Quoted}
+use Rattle.fields.specs.declared.Class.the-variants.{Quoted}
 use Rattle.fields.specs.declared.Field.the-variants.{Is}
 use Rattle.fields.specs.Field.{numberAt, textAt, byteAt}
 use Rattle.store.specs.Entry.{nameLength, name, size}

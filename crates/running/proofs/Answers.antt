@@ -1,13 +1,13 @@
 -- The first row of a table that applies, and what is known of lengths that are right.
 -- Assumes nothing.
-use mathlib.Core.Path.{_≡_, refl, sym, ap, _∙_}
-use mathlib.Core.Bool.{Bool, true, false, not, cond, _&&_, _||_, true≢false}
-use mathlib.Core.List.{List, [], _∷_}
+use mathlib.Core.Path.{_≡_, refl}
+use mathlib.Core.Bool.{Bool, true, false, not, cond, _||_, true≢false}
+use mathlib.Core.List.{List, _∷_}
 use Prim.Native.Nat.{ℕ, _%_, _≤_}
 use lib.Dec.{eqb, ltb}
 use borrow.Author.Tests.{ltb-false}
 use Rattle.session.specs.declared.answers.Answer.{Answer}
-use Rattle.session.specs.Answers.{Row, row, answerOf, isTaken}
+use Rattle.session.specs.Answers.{Row, row, answerOf}
 use Rattle.session.specs.Lent.{pageWrong, storeWrong, directoryWrong, valuesWrong, lengthsWrong}
 
 -- ---- rows

@@ -1,7 +1,7 @@
 -- What a command leaves of the lists it was lent, put back into all that is lent; and the answers of items, names and values.
 -- Assumes nothing.
 use mathlib.Core.Path.{_≡_, refl, sym, ap, _∙_, subst}
-use mathlib.Core.Bool.{Bool, true, false, not, cond, _&&_, true≢false}
+use mathlib.Core.Bool.{Bool, true, false, not, cond, true≢false}
 use mathlib.Core.List.{List, [], _∷_, _++_}
 use Prim.Native.Nat.{ℕ, suc, _+_, _*_, _/_, _≤_, _<_}
 use native.Mathlib.Omega.{arith}
@@ -21,7 +21,7 @@ use Rattle.store.specs.declared.Cursor.{Cursor}
 use Rattle.store.specs.Content.{content, cursorAt}
 use Rattle.store.specs.Find.{found, pickFound, titled, titledAt}
 use Rattle.store.proofs.Reading.{length-content}
-use Rattle.moves.specs.Memory.{Memory, memory}
+use Rattle.moves.specs.Memory.{Memory}
 use Rattle.moves.specs.Start.{hasRoom, started, begun}
 use Rattle.written.specs.Written.{Wrote}
 use Rattle.read.specs.declared.Item.{Item}

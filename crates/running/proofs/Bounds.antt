@@ -1,22 +1,18 @@
 -- The numbers of a command that was read lie within limits that a session can keep, and a line is short.
 -- Assumes nothing.
-use mathlib.Core.Path.{_≡_, refl, sym, ap, _∙_, subst}
-use mathlib.Core.Bool.{Bool, true, false, cond, _&&_, _||_, false≢true}
+use mathlib.Core.Path.{_≡_, refl, ap, _∙_, subst}
+use mathlib.Core.Bool.{Bool, true, false, cond, _&&_, false≢true}
 use mathlib.Core.List.{List, [], _∷_}
-use Prim.Native.Nat.{ℕ, zero, suc, _+_, _/_, _≤_, _<_}
+use Prim.Native.Nat.{ℕ, suc, _/_, _≤_, _<_}
 use native.Mathlib.Omega.{arith}
-use lib.ListN.{length, getD, take, drop, length-take}
-use lib.Dec.{leb, ltb, eqb}
-use borrow.Author.Tests.{leb-true, ltb-true, eqb-true}
+use lib.ListN.{length, getD, drop}
+use lib.Dec.{leb, eqb}
+use borrow.Author.Tests.{leb-true, eqb-true}
 use Rattle.fit.specs.Bytes.{between}
-use Rattle.fields.specs.Bytes.{run}
-use Rattle.fields.specs.declared.Class.the-variants.{Inside}
 use Rattle.fields.specs.declared.Limits.{Limits}
 use Rattle.fields.specs.declared.Limits.the-variants.{Within, Outside}
 use Rattle.read.specs.declared.Head.{Head}
 use Rattle.read.specs.declared.Head.the-variants.{Row, Unknown}
-use Rattle.read.specs.declared.Front.{Front}
-use Rattle.read.specs.declared.Front.the-variants.{Short, Long, Idle, Line}
 use Rattle.read.specs.declared.Item.{Item}
 use Rattle.read.specs.declared.Command.{Command}
 use Rattle.read.specs.declared.Command.the-variants.{
@@ -43,8 +39,7 @@ use Rattle.read.specs.declared.Read.{Read}
 use Rattle.read.specs.declared.Read.the-variants.{Taken, Refused}
 use Rattle.read.specs.Grammar.{Got, good, bad, rowOf, boundsOf, fieldsFrom, limitsFrom, fieldLimits, firstOf, isNumber, beyond, spread, free, headOf}
 use Rattle.read.specs.Commands.{readOf, headed, judged, decided, commandOf, itemOf, orderOf, isItem}
-use Rattle.read.specs.Front.{frontOf, lineFront, asked}
-use Rattle.session.specs.Lent.{World, world, wrongLent}
+use Rattle.session.specs.Lent.{world, wrongLent}
 use Rattle.running.specs.Running.{limited, limitedItem, short, Fits}
 use Rattle.running.proofs.Answers.{page-bound, directory-bound}
 use Rattle.written.proofs.Short.{normal-short}

@@ -1,7 +1,7 @@
 -- A line: the ways it ends.
 -- Assumes nothing.
 use mathlib.Core.Path.{_≡_, refl, sym, ap, _∙_}
-use mathlib.Core.Bool.{Bool, true, false, cond}
+use mathlib.Core.Bool.{true, false}
 use mathlib.Core.List.{List, [], _∷_}
 use Prim.Native.Nat.{ℕ}
 use lib.ListN.{length}
@@ -38,7 +38,7 @@ use Rattle.read.specs.Commands.{readOf}
 use Rattle.session.specs.declared.Session.{Session}
 use Rattle.session.specs.declared.answers.Answer.{Answer}
 use Rattle.session.specs.declared.answers.Answer.the-variants.{Taken, Lengths, Long, Misplaced}
-use Rattle.session.specs.Answers.{row, answerOf, isTaken, numberOf}
+use Rattle.session.specs.Answers.{answerOf, isTaken, numberOf}
 use Rattle.session.specs.Lent.{World, world, rowsOf, wrongLent}
 use Rattle.running.specs.Rows.{recordRows, lineRows}
 use Rattle.running.specs.Does.{recordedLine, doesLine, listsLine}

@@ -1,6 +1,6 @@
 -- What a command does, once it is taken: to the session, to the lent lists, and to the output.
 -- Assumes nothing.
-use Prim.Native.Nat.{ℕ, zero, suc, _+_}
+use Prim.Native.Nat.{ℕ, _+_}
 use mathlib.Core.Bool.{Bool, true, false, cond}
 use mathlib.Core.List.{List, [], _∷_, _++_}
 use lib.ListN.{length}
@@ -12,7 +12,6 @@ use Rattle.values.specs.Stored.{variableEntered, unset}
 use Rattle.store.specs.declared.Found.{Found}
 use Rattle.store.specs.declared.Found.the-variants.{At, Nothing}
 use Rattle.store.specs.Find.{recorded}
-use Rattle.moves.specs.Memory.{Memory, memory}
 use Rattle.moves.specs.Grow.{appended}
 use Rattle.moves.specs.Start.{started, kept, finished}
 use Rattle.moves.specs.Erase.{erasedAt, erasedAll}
@@ -39,7 +38,6 @@ use Rattle.read.specs.declared.Command.the-variants.{
   Print,
   White,
 }
-use Rattle.read.specs.declared.Named.{Named}
 use Rattle.read.specs.declared.Read.{Read}
 use Rattle.read.specs.declared.Read.the-variants.{Taken as Reads, Refused}
 use Rattle.read.specs.Names.{packedOf}
@@ -50,7 +48,7 @@ use Rattle.session.specs.declared.Session.{Session}
 use Rattle.session.specs.Session.{sized, turning, based, activated, counting, owing}
 use Rattle.session.specs.Lent.{World, world}
 use Rattle.running.specs.World.{State, state, memoryOf, withMemory, withBackground, withValues, activeDeclared, placeOf}
-use Rattle.running.specs.Rows.{lookup, named, textOf, printed}
+use Rattle.running.specs.Rows.{named, textOf, printed}
 
 -- "Both whiten the background, as does `N`"
 abbrev pub whitened : World → World

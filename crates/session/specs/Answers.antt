@@ -1,7 +1,7 @@
 -- Paper 01's table: "No. | Given exactly when".
 -- Assumes nothing.
 use Prim.Native.Nat.{ℕ}
-use mathlib.Core.Bool.{Bool, true, false, cond}
+use mathlib.Core.Bool.{Bool, true, false}
 use mathlib.Core.List.{List, [], _∷_}
 use lib.Dec.{eqb}
 use Rattle.session.specs.declared.answers.Answer.{Answer}

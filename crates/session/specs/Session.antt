@@ -1,8 +1,8 @@
 -- "The session holds width, length, turn, origin, counters with set or unset (then 0), active form, labels owed and drawn."
 -- Assumes nothing.
 use Prim.Native.Nat.{ℕ, _+_, _-_}
-use mathlib.Core.Bool.{Bool, true, false, cond, _||_}
-use mathlib.Core.List.{List, [], _∷_}
+use mathlib.Core.Bool.{cond, _||_}
+use mathlib.Core.List.{[], _∷_}
 use lib.Dec.{eqb}
 use Rattle.values.specs.declared.counters.Counters.{Counters}
 use Rattle.session.specs.declared.Session.{Session}

@@ -1,8 +1,8 @@
 -- Cleared memory is sound, and nothing stands on its shelf.
 use mathlib.Core.Path.{_≡_, refl, sym, ap, _∙_, subst}
-use mathlib.Core.List.{List, [], _∷_}
+use mathlib.Core.List.{List}
 use mathlib.Core.Bool.{Bool, true, false, false≢true}
-use Prim.Native.Nat.{ℕ, zero, suc, _+_, _*_, _/_, _≤_, _<_, min}
+use Prim.Native.Nat.{ℕ, zero, suc, _+_, _*_, _/_, _≤_, _<_}
 use native.Mathlib.Omega.{arith}
 use lib.ListN.{length, getD}
 use lib.Seq.{drop-nil}
@@ -10,11 +10,10 @@ use Rattle.cells.specs.Cell.{cell, zeros}
 use Rattle.cells.specs.Count.{times, sumTo, allZero}
 use Rattle.cells.proofs.Cells.{length-zeros, getD-zeros, cell-fits, length-cell}
 use Rattle.store.specs.Chain.{chain}
-use Rattle.store.specs.Entry.{entries, entry, kind, name, first, size, many, ofKind}
-use Rattle.store.specs.Content.{contentOf, extent, bytesFrom}
+use Rattle.store.specs.Entry.{entries, entry, kind, many, ofKind}
 use Rattle.moves.specs.Memory.{memory}
 use Rattle.sound.specs.Sound.{firsts, counts, storeSound}
-use Rattle.sound.specs.Shelf.{held, nothing, heldOf, shelfOf}
+use Rattle.sound.specs.Shelf.{nothing, heldOf, shelfOf}
 use Rattle.sound.proofs.Facts.{SoundAt, facts-sound, sizesOf, lent-store}
 use lib.ListN.{replicate, length-replicate, getD-replicate}
 use lib.Seq.{ext-getD}

@@ -8,7 +8,7 @@ use native.Mathlib.Omega.{arith}
 use lib.ListN.{length, getD, take, length-take}
 use lib.Dec.{eqb, ltb, leb}
 use lib.Seq.{sets}
-use borrow.Author.Tests.{not-true, not-false, ltb-true, le-ltb}
+use borrow.Author.Tests.{not-true, ltb-true, le-ltb}
 use Rattle.fields.specs.Bytes.{run}
 use Rattle.fields.specs.declared.Class.the-variants.{Inside}
 use Rattle.store.specs.declared.Found.{Found}
@@ -46,13 +46,13 @@ use Rattle.font.specs.Rules.{legal}
 use Rattle.soundness.specs.Sound.{sound}
 use Rattle.session.specs.declared.Session.{Session}
 use Rattle.session.specs.declared.answers.Answer.{Answer}
-use Rattle.session.specs.declared.answers.Answer.the-variants.{Taken, Lengths, Font, Unsound, Unended, Long}
+use Rattle.session.specs.declared.answers.Answer.the-variants.{Taken, Unended, Long}
 use Rattle.session.specs.Answers.{Row, row, answerOf, isTaken, numberOf}
 use Rattle.session.specs.Lent.{World, rowsOf, wrongLent}
 use Rattle.running.specs.World.{State}
 use Rattle.running.specs.Rows.{recordRows, runRows, placedRows, lineRows}
 use Rattle.running.specs.Does.{doesLine, listsLine}
-use Rattle.running.specs.Running.{done, ran, ranBy, ranRead, lineBy}
+use Rattle.running.specs.Running.{done, ran, ranBy, lineBy}
 use Rattle.running.proofs.Ends.{line-read}
 use Rattle.station.specs.Outcomes.{After, after, outcome}
 use Rattle.station.specs.Table.{entryRows, frontRows, commandTable, lineOf, moreOf}

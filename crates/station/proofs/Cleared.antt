@@ -1,22 +1,21 @@
 -- Opening: links all free, lists all zero, and the three ways a call ends.
 -- Assumes nothing.
-use mathlib.Core.Path.{_≡_, refl, sym, ap, _∙_}
-use mathlib.Core.Bool.{Bool, true, false, not, cond, _||_}
+use mathlib.Core.Path.{_≡_, sym, _∙_}
+use mathlib.Core.Bool.{true, false}
 use mathlib.Core.List.{List}
 use Prim.Native.Nat.{ℕ, _+_, _/_, _≤_, _<_}
 use native.Mathlib.Decide.{ℕ-discrete}
 use native.Mathlib.Omega.{arith}
 use lib.ListN.{length, getD, set, replicate, length-replicate, getD-replicate}
-use lib.Dec.{eqb}
 use lib.Seq.{ext-getD, getD-set-same, getD-set-other}
 use borrow.Author.Tests.{eq-eqb, ne-eqb}
 use Rattle.cells.specs.Cell.{zeros}
 use Rattle.dots.specs.Whole.{white}
 use Rattle.session.specs.declared.answers.Answer.the-variants.{Taken, Lengths}
 use Rattle.session.specs.Session.{none, fresh}
-use Rattle.session.specs.Lent.{World, world, rowsOf, wrongLent}
-use Rattle.station.specs.Outcomes.{Opened, openedBy, labelled}
-use Rattle.station.specs.Station.{opened, cleared, pickOpened}
+use Rattle.session.specs.Lent.{World, world, wrongLent}
+use Rattle.station.specs.Outcomes.{openedBy, labelled}
+use Rattle.station.specs.Station.{opened, cleared}
 
 -- ---- links freed one after another
 

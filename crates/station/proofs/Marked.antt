@@ -7,7 +7,7 @@ use Prim.Native.Nat.{ℕ}
 use lib.ListN.{length}
 use lib.Dec.{eqb}
 use borrow.Author.Tests.{not-true, not-false, eq-eqb, ne-eqb}
-use Rattle.dots.specs.Whole.{copied, turned}
+use Rattle.dots.specs.Whole.{copied}
 use Rattle.font.specs.Rules.{legal}
 use Rattle.forms.specs.Draw.{setting, formDrawn}
 use Rattle.soundness.specs.Sound.{sound}

@@ -1,15 +1,13 @@
 -- The three calls.
 -- Assumes nothing.
-use Prim.Native.Nat.{ℕ, _/_}
+use Prim.Native.Nat.{ℕ}
 use mathlib.Core.Bool.{Bool, true, false, not, _&&_, _||_, cond}
-use mathlib.Core.List.{List, [], _∷_}
+use mathlib.Core.List.{List, []}
 use lib.ListN.{length, replicate}
 use lib.Dec.{eqb, leb}
 use Rattle.cells.specs.Cell.{zeros}
 use Rattle.dots.specs.Whole.{copied, turned}
 use Rattle.values.specs.Counters.{movedAll}
-use Rattle.read.specs.declared.Read.{Read}
-use Rattle.read.specs.declared.Read.the-variants.{Taken as Reads, Refused}
 use Rattle.read.specs.declared.Front.{Front}
 use Rattle.read.specs.declared.Front.the-variants.{Short, Long as LongLine, Idle, Line}
 use Rattle.read.specs.Commands.{readOf}

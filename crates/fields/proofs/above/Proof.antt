@@ -1,6 +1,4 @@
 use native.Mathlib.Omega.{arith}
-use mathlib.Core.Path.{ap}
-use Rattle.fields.specs.Field.{Small, plus}
 use borrow.Author.Needs.{needs}
 use Rattle.fields.proofs.above.Statement.{statement}
 use Rattle.fields.proofs.above.Tie as tie

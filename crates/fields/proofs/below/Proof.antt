@@ -1,5 +1,4 @@
 use native.Mathlib.Omega.{arith}
-use Rattle.fields.specs.Field.{Small, minus}
 use borrow.Author.Needs.{needs}
 use Rattle.fields.proofs.below.Statement.{statement}
 use Rattle.fields.proofs.below.Tie as tie

@@ -1,7 +1,5 @@
 use Rattle.fit.proofs.Laws.{between-from}
-use mathlib.Core.Path.{sym, _∙_}
-use borrow.Author.Tests.{le-leb, lt-leb}
-use Rattle.fit.specs.Bytes.{between}
+use mathlib.Core.Path.{sym}
 use Rattle.fields.proofs.Laws.{below-range}
 use Rattle.fields.proofs.counts.Statement.{statement}
 use Rattle.fields.proofs.counts.Tie as tie

@@ -4,7 +4,7 @@ use native.Mathlib.Omega.{arith}
 use denote.Ref.{now}
 use lib.ListN.{length}
 use Rattle.fields.specs.Data.{elements, total}
-use Rattle.fields.proofs.Steps.{Took, element-took, total-next, data-stop, data-end, data-past}
+use Rattle.fields.proofs.Steps.{element-took, total-next, data-stop, data-end, data-past}
 use borrow.Author.Needs.{needs}
 use Rattle.fields.proofs.data_form.Statement.{statement}
 use Rattle.fields.proofs.data_form.Tie as tie

@@ -1,10 +1,10 @@
-use Prim.Native.Nat.{_+_, _-_, _≤_}
+use Prim.Native.Nat.{_-_}
 use mathlib.Core.Path.{_≡_, _∙_, refl, sym}
 use native.Mathlib.Omega.{arith}
 use denote.Ref.{now}
 use lib.ListN.{length}
 use Rattle.fields.specs.Data.{elements, limits}
-use Rattle.fields.proofs.Steps.{Took, element-took, element-past, limits-next, limits-out, limits-stop}
+use Rattle.fields.proofs.Steps.{element-took, element-past, limits-next, limits-out, limits-stop}
 use borrow.Author.Needs.{needs}
 use Rattle.fields.proofs.data_limits.Statement.{statement}
 use Rattle.fields.proofs.data_limits.Tie as tie

@@ -1,11 +1,10 @@
 use Prim.Native.Nat.{_+_}
 use native.Mathlib.Omega.{arith}
 use denote.Ref.{now}
-use mathlib.Core.Path.{_∙_, sym}
 use mathlib.Core.Logic.{⊎-elim}
 use Rattle.fields.specs.Data.{heldAt}
 use Rattle.fields.proofs.Laws.{inside, in-range, below-range, above-range}
-use Rattle.fields.proofs.Steps.{modifier-ends, Modified}
+use Rattle.fields.proofs.Steps.{modifier-ends}
 use borrow.Author.Needs.{needs}
 use Rattle.fields.proofs.held_at.Statement.{statement}
 use Rattle.fields.proofs.held_at.Tie as tie

@@ -1,7 +1,6 @@
 use native.Mathlib.Omega.{arith}
 use denote.Ref.{now}
-use lib.ListN.{getD}
-use mathlib.Core.Path.{_≡_, _∙_, refl, sym, ap}
+use mathlib.Core.Path.{_∙_, sym, ap}
 use Rattle.fields.proofs.Laws.{number-none, number-long, number-is, run-room}
 use Rattle.fields.specs.declared.Class.the-variants.{Digit}
 use Rattle.fields.specs.declared.Field.the-variants.{Is}

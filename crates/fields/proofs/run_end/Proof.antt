@@ -3,7 +3,7 @@ use denote.Ref.{now}
 use Rattle.fields.proofs.Laws.{run-more, run-stop, run-end}
 use native.Mathlib.Omega.{arith}
 use borrow.Author.Needs.{needs}
-use Prim.Native.Nat.{_+_, _-_, _≤_}
+use Prim.Native.Nat.{_+_, _-_}
 use mathlib.Core.Path.{_≡_}
 use lib.ListN.{length, drop}
 use Rattle.fields.specs.Bytes.{run}

@@ -1,9 +1,9 @@
 use Rattle.fields.proofs.Laws.{digit-small, value-more, value-end, value-below, value-none, value-fits}
 use native.Mathlib.Omega.{arith}
 use borrow.Author.Needs.{needs}
-use Prim.Native.Nat.{_+_, _-_, _^_, _≤_, _<_}
-use mathlib.Core.Path.{_≡_, _∙_, refl, sym, ap}
-use lib.ListN.{length, drop, getD}
+use Prim.Native.Nat.{_-_, _^_, _≤_, _<_}
+use mathlib.Core.Path.{_≡_, _∙_, refl, sym}
+use lib.ListN.{getD}
 use denote.Ref.{now}
 use Rattle.fields.specs.Bytes.{valueFrom}
 use Rattle.fields.specs.Field.{part}

@@ -1,4 +1,3 @@
-use mathlib.Core.Path.{refl}
 use Rattle.fit.specs.Fit.{fitLength}
 use borrow.Author.Needs.{needs}
 use Rattle.fit.proofs.fit_length.Statement.{statement}

@@ -1,4 +1,3 @@
-use mathlib.Core.Path.{refl}
 use Rattle.fit.specs.Fit.{inClass}
 use borrow.Author.Needs.{needs}
 use Rattle.fit.proofs.in_class.Statement.{statement}

@@ -1,7 +1,5 @@
 use Rattle.fit.proofs.Laws.{letter-39}
-use mathlib.Core.Path.{refl, sym, _∙_}
-use mathlib.Core.Bool.{true}
-use native.Mathlib.Omega.{arith}
+use mathlib.Core.Path.{sym, _∙_}
 use borrow.Author.Tests.{ne-eqb}
 use Rattle.fit.specs.Bytes.{between}
 use Rattle.fit.specs.Fit.{inClass}

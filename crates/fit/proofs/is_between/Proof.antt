@@ -1,6 +1,5 @@
 use mathlib.Core.Path.{sym}
 use Rattle.fit.proofs.Laws.{between-below, between-from}
-use borrow.Author.Needs.{needs}
 use Rattle.fit.proofs.is_between.Statement.{statement}
 use Rattle.fit.proofs.is_between.Tie as tie
 use Rattle.fit.proofs.is_between.Reads as reads

@@ -1,6 +1,6 @@
 use Prim.Native.Nat.{_-_}
-use mathlib.Core.Path.{_≡_, refl, sym}
-use lib.ListN.{length, length-set}
+use mathlib.Core.Path.{_≡_, refl}
+use lib.ListN.{length}
 use borrow.Author.Needs.{needs}
 use Rattle.read_bytes.proofs.tried.Statement.{statement}
 use Rattle.read_bytes.proofs.tried.Tie as tie

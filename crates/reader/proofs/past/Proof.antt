@@ -2,7 +2,7 @@
 -- The struct is Copy: what it owns is had twice, one copy is kept whole for the exit, and of the other what the line owns goes to `start`. What was found owns only facts, which are made anew.
 -- Assumes nothing.
 use mathlib.Core.Path.{_≡_, refl, _∙_}
-use Prim.Native.Nat.{ℕ, _<_, _^_}
+use Prim.Native.Nat.{ℕ}
 use mathlib.Core.List.{[], _∷_}
 use lib.Dec.{T as Holds}
 use lib.ListN.{length}

@@ -1,7 +1,6 @@
-use mathlib.Core.Path.{_≡_, refl, sym, ap, _∙_}
+use mathlib.Core.Path.{ap, _∙_}
 use denote.Ref.{now}
 use Prim.Native.Nat.{ℕ}
-use mathlib.Core.List.{List}
 use Rattle.dots.specs.Dots.{drawn, cut, box}
 use Rattle.forms.specs.Draw.{far}
 use borrow.Author.Needs.{needs}

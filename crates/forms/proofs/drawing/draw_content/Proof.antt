@@ -1,7 +1,6 @@
-use mathlib.Core.Path.{_≡_, refl, sym, ap, _∙_}
+use mathlib.Core.Path.{ap, _∙_}
 use denote.Ref.{now}
 use Prim.Native.Nat.{ℕ}
-use mathlib.Core.List.{List}
 use lib.ListN.{replicate, length-replicate}
 use Rattle.store.specs.Content.{content}
 use Rattle.dots.specs.declared.Ink.the-variants.{Black}

@@ -1,7 +1,5 @@
-use mathlib.Core.Path.{_≡_, refl, sym, ap, _∙_}
+use mathlib.Core.Path.{_∙_}
 use denote.Ref.{now}
-use Prim.Native.Nat.{ℕ}
-use mathlib.Core.List.{List}
 use Rattle.dots.specs.declared.Ink.the-variants.{Black}
 use Rattle.dots.specs.Dots.{drawn, cut, frame}
 use borrow.Author.Needs.{needs}

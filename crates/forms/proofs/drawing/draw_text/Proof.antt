@@ -1,7 +1,5 @@
-use mathlib.Core.Path.{_≡_, refl, sym, ap, _∙_}
+use mathlib.Core.Path.{refl, _∙_}
 use denote.Ref.{now}
-use Prim.Native.Nat.{ℕ}
-use mathlib.Core.List.{List}
 use Rattle.font.specs.Text.{textDrawn}
 use Rattle.fields.specs.Data.{elements}
 use Rattle.values.specs.Data.{assembled, valuesIn}

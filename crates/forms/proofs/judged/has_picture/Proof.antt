@@ -1,4 +1,3 @@
-use mathlib.Core.Path.{_≡_, refl, sym, ap, _∙_}
 use Rattle.forms.specs.Form.{hasPicture}
 use borrow.Author.Needs.{needs}
 use Rattle.forms.proofs.judged.has_picture.Statement.{statement}

@@ -1,4 +1,4 @@
-use mathlib.Core.Path.{_≡_, refl, sym, ap, _∙_}
+use mathlib.Core.Path.{ap, _∙_}
 use mathlib.Core.Bool.{Bool}
 use Rattle.forms.specs.declared.Verdict.the-variants.{Taken, Again}
 use Rattle.forms.specs.Judged.{pickVerdict, judged}

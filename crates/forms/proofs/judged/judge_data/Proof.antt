@@ -1,4 +1,3 @@
-use mathlib.Core.Path.{sym, ap, _∙_}
 use borrow.Author.Needs.{needs}
 use Rattle.forms.proofs.judged.judge_data.Statement.{statement}
 use Rattle.forms.proofs.judged.judge_data.Tie as tie

@@ -1,4 +1,4 @@
-use mathlib.Core.Path.{_≡_, refl, sym, ap, _∙_}
+use mathlib.Core.Path.{sym, _∙_}
 use Rattle.forms.specs.Draw.{drawing, drawsLine}
 use Rattle.forms.proofs.Folding.{declaring-holds}
 use borrow.Author.Needs.{needs}

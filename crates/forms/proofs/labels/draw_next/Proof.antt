@@ -1,7 +1,5 @@
-use mathlib.Core.Path.{_≡_, refl, sym, ap, _∙_}
+use mathlib.Core.Path.{_∙_}
 use denote.Ref.{now}
-use Prim.Native.Nat.{ℕ}
-use mathlib.Core.List.{List}
 use Rattle.forms.specs.Draw.{setting}
 use Rattle.forms.proofs.Walking.{walk-less}
 use Rattle.forms.proofs.Showing.{run-next}

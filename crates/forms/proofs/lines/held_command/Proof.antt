@@ -1,4 +1,3 @@
-use mathlib.Core.Path.{_≡_, refl, sym, ap, _∙_}
 use borrow.Author.Needs.{needs}
 use Rattle.forms.proofs.lines.held_command.Statement.{statement}
 use Rattle.forms.proofs.lines.held_command.Tie as tie

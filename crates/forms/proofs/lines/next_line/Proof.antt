@@ -1,4 +1,4 @@
-use mathlib.Core.Path.{_≡_, refl, sym, ap, _∙_}
+use mathlib.Core.Path.{sym, _∙_}
 use Rattle.forms.proofs.Walking.{line-front, line-behind, end-front, end-behind, bad-says}
 use borrow.Author.Needs.{needs}
 use Rattle.forms.proofs.lines.next_line.Statement.{statement}

@@ -1,4 +1,3 @@
-use mathlib.Core.Path.{_≡_, refl, sym, ap, _∙_}
 use borrow.Author.Tests.{lt-ltb, le-ltb}
 use Rattle.store.specs.Content.{portionAfter, placeAfter}
 use borrow.Author.Needs.{needs}

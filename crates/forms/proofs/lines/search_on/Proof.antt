@@ -1,4 +1,4 @@
-use mathlib.Core.Path.{_≡_, refl, sym, ap, _∙_}
+use mathlib.Core.Path.{sym, _∙_}
 use native.Mathlib.Omega.{arith}
 use Rattle.forms.proofs.Walking.{line-behind, end-behind, bad-behind, bad-less}
 use borrow.Author.Needs.{needs}

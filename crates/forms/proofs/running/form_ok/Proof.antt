@@ -1,4 +1,4 @@
-use mathlib.Core.Path.{_≡_, refl, sym, ap, _∙_}
+use mathlib.Core.Path.{_≡_, _∙_}
 use Rattle.store.specs.Content.{content}
 use Rattle.forms.specs.Form.{formOk}
 use Rattle.forms.specs.Walk.{walkOk}

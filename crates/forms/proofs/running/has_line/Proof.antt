@@ -1,4 +1,4 @@
-use mathlib.Core.Path.{_≡_, refl, sym, ap, _∙_}
+use mathlib.Core.Path.{sym, _∙_}
 use borrow.Author.Needs.{needs}
 use Rattle.forms.proofs.running.has_line.Statement.{statement}
 use Rattle.forms.proofs.running.has_line.Tie as tie

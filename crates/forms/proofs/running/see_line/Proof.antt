@@ -1,4 +1,4 @@
-use mathlib.Core.Path.{_≡_, refl, sym, ap, _∙_}
+use mathlib.Core.Path.{refl, sym, ap, _∙_}
 use Rattle.forms.specs.Judged.{isTaken}
 use Rattle.forms.specs.Form.{takes, declaring}
 use borrow.Author.Needs.{needs}

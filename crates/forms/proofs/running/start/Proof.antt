@@ -1,4 +1,3 @@
-use mathlib.Core.Path.{_≡_, refl, sym, ap, _∙_}
 use borrow.Author.Needs.{needs}
 use Rattle.forms.proofs.running.start.Statement.{statement}
 use Rattle.forms.proofs.running.start.Tie as tie

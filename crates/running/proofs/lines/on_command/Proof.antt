@@ -1,5 +1,5 @@
 use Rattle.session.specs.Answers.{answerOf, isTaken, numberOf}
-use borrow.Author.Tests.{lt-ltb, le-ltb, eq-eqb, ne-eqb, not-true, not-false}
+use borrow.Author.Tests.{lt-ltb, le-ltb}
 use Rattle.running.proofs.Ends.{record-in}
 use borrow.Author.Needs.{needs}
 use Rattle.running.proofs.lines.on_command.Statement.{statement}

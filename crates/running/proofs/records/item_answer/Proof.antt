@@ -1,4 +1,4 @@
-use Rattle.session.specs.Answers.{answerOf, isTaken, numberOf}
+use Rattle.session.specs.Answers.{answerOf}
 use borrow.Author.Needs.{needs}
 use Rattle.running.proofs.records.item_answer.Statement.{statement}
 use Rattle.running.proofs.records.item_answer.Tie as tie

@@ -1,5 +1,5 @@
 use Rattle.written.specs.Written.{normal}
-use mathlib.Core.Path.{_≡_, refl, sym, ap, _∙_, subst}
+use mathlib.Core.Path.{ap, _∙_}
 use native.Mathlib.Omega.{arith}
 use Rattle.moves.specs.Grow.{appended}
 use Rattle.running.proofs.Arms.{inMemory, refused-by, taken-by, kept-line, wrote-length}

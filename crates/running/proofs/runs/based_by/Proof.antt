@@ -1,5 +1,5 @@
 use native.Mathlib.Omega.{arith}
-use mathlib.Core.Path.{_≡_, refl, sym, ap, _∙_, subst}
+use mathlib.Core.Path.{subst}
 use Rattle.running.specs.Running.{limitedItem}
 use borrow.Author.Needs.{needs}
 use Rattle.running.proofs.runs.based_by.Statement.{statement}

@@ -1,4 +1,4 @@
-use mathlib.Core.Path.{_≡_, refl, sym, ap, _∙_, subst}
+use mathlib.Core.Path.{refl}
 use Rattle.running.proofs.Arms.{refused-by, taken-by}
 use borrow.Author.Needs.{needs}
 use Rattle.running.proofs.runs.enter_counter.Statement.{statement}

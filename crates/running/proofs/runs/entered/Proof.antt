@@ -1,4 +1,4 @@
-use Rattle.session.specs.Answers.{answerOf, isTaken, numberOf}
+use Rattle.session.specs.Answers.{answerOf}
 use borrow.Author.Needs.{needs}
 use Rattle.running.proofs.runs.entered.Statement.{statement}
 use Rattle.running.proofs.runs.entered.Tie as tie

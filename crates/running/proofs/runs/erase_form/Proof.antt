@@ -1,7 +1,7 @@
-use mathlib.Core.Bool.{true, false}
-use mathlib.Core.Path.{_≡_, refl, sym, ap, _∙_, subst}
+use mathlib.Core.Bool.{false}
+use mathlib.Core.Path.{ap}
 use Rattle.session.specs.Answers.{answerOf, isTaken, numberOf}
-use borrow.Author.Tests.{lt-ltb, le-ltb, eq-eqb, ne-eqb, not-true, not-false}
+use borrow.Author.Tests.{eq-eqb, ne-eqb}
 use Rattle.running.proofs.Arms.{inMemory, inWorld, place-in, erased-by, erased-unset}
 use borrow.Author.Needs.{needs}
 use Rattle.running.proofs.runs.erase_form.Statement.{statement}

@@ -1,4 +1,4 @@
-use mathlib.Core.Path.{_≡_, refl, sym, ap, _∙_, subst}
+use mathlib.Core.Path.{ap}
 use mathlib.Core.List.{[]}
 use Rattle.moves.specs.Memory.{Memory}
 use Rattle.session.specs.Lent.{world}

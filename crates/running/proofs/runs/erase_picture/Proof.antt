@@ -1,5 +1,5 @@
-use mathlib.Core.Bool.{true, false}
-use mathlib.Core.Path.{_≡_, refl, sym, ap, _∙_, subst}
+use mathlib.Core.Bool.{true}
+use mathlib.Core.Path.{ap}
 use Rattle.session.specs.Answers.{answerOf, isTaken, numberOf}
 use Rattle.running.proofs.Arms.{inMemory, inWorld, erased-by}
 use borrow.Author.Needs.{needs}

@@ -1,5 +1,5 @@
 use Rattle.session.specs.Answers.{answerOf, isTaken, numberOf}
-use borrow.Author.Tests.{lt-ltb, le-ltb, eq-eqb, ne-eqb, not-true, not-false}
+use borrow.Author.Tests.{lt-ltb, le-ltb}
 use borrow.Author.Needs.{needs}
 use Rattle.running.proofs.runs.list_names.Statement.{statement}
 use Rattle.running.proofs.runs.list_names.Tie as tie

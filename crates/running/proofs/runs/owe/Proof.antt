@@ -1,6 +1,6 @@
 use native.Mathlib.Omega.{arith}
 use Rattle.session.specs.Answers.{answerOf, isTaken, numberOf}
-use borrow.Author.Tests.{lt-ltb, le-ltb, eq-eqb, ne-eqb, not-true, not-false}
+use borrow.Author.Tests.{not-true, not-false}
 use borrow.Author.Needs.{needs}
 use Rattle.running.proofs.runs.owe.Statement.{statement}
 use Rattle.running.proofs.runs.owe.Tie as tie

@@ -1,5 +1,5 @@
 use native.Mathlib.Omega.{arith}
-use mathlib.Core.Path.{_≡_, refl, sym, ap, _∙_, subst}
+use mathlib.Core.Path.{subst}
 use Prim.Native.Nat.{_<_}
 use Rattle.store.specs.declared.Found.{Found}
 use Rattle.running.specs.World.{placeOf}

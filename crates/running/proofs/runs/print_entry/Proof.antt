@@ -1,6 +1,5 @@
-use mathlib.Core.Path.{_≡_, refl, sym, ap, _∙_, subst}
 use Rattle.session.specs.Answers.{answerOf, isTaken, numberOf}
-use borrow.Author.Tests.{lt-ltb, le-ltb, eq-eqb, ne-eqb, not-true, not-false}
+use borrow.Author.Tests.{lt-ltb, le-ltb}
 use Rattle.running.proofs.Arms.{reader-left}
 use borrow.Author.Needs.{needs}
 use Rattle.running.proofs.runs.print_entry.Statement.{statement}

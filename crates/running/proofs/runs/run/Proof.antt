@@ -1,5 +1,5 @@
 use Rattle.session.specs.Answers.{answerOf, isTaken, numberOf}
-use Rattle.running.proofs.Arms.{onBackground, onMemory, onValues, onForms, onPage, onNothing, inOutput, lifted, numbers-at, erase-form-run, erase-picture-run, print-run}
+use Rattle.running.proofs.Arms.{onBackground, onMemory, onValues, onPage, onNothing, inOutput, lifted, numbers-at, erase-form-run, erase-picture-run, print-run}
 use borrow.Author.Needs.{needs}
 use Rattle.running.proofs.runs.run.Statement.{statement}
 use Rattle.running.proofs.runs.run.Tie as tie

@@ -1,4 +1,4 @@
-use mathlib.Core.Path.{_≡_, refl, sym, ap, _∙_, subst}
+use mathlib.Core.Path.{refl}
 use Rattle.session.specs.Answers.{answerOf, isTaken, numberOf}
 use Rattle.running.proofs.Arms.{item-after, refused-by, taken-by}
 use borrow.Author.Needs.{needs}

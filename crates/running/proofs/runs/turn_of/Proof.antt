@@ -1,4 +1,3 @@
-use borrow.Author.Needs.{needs}
 use Rattle.running.proofs.runs.turn_of.Statement.{statement}
 use Rattle.running.proofs.runs.turn_of.Tie as tie
 

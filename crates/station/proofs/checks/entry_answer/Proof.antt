@@ -1,5 +1,5 @@
-use Rattle.session.specs.Answers.{answerOf, isTaken, numberOf}
-use borrow.Author.Tests.{lt-ltb, le-ltb, eq-eqb, ne-eqb, not-true, not-false}
+use Rattle.session.specs.Answers.{answerOf}
+use borrow.Author.Tests.{not-true, not-false}
 use borrow.Author.Needs.{needs}
 use Rattle.station.proofs.checks.entry_answer.Statement.{statement}
 use Rattle.station.proofs.checks.entry_answer.Tie as tie

@@ -1,4 +1,4 @@
-use mathlib.Core.Path.{_≡_, refl, sym, ap, _∙_, subst}
+use mathlib.Core.Path.{sym, _∙_}
 use Rattle.station.proofs.Marked.{entry-right}
 use Rattle.station.proofs.Calls.{command-refused, command-passed, front-short, front-long, front-idle, line-short, front-line}
 use borrow.Author.Needs.{needs}

@@ -1,4 +1,4 @@
-use mathlib.Core.Path.{_≡_, refl, sym, ap, _∙_, subst}
+use mathlib.Core.Path.{_∙_}
 use Rattle.station.proofs.Marked.{label-refused, label-taken, page-made, session-in}
 use borrow.Author.Needs.{needs}
 use Rattle.station.proofs.labels.label.Statement.{statement}

@@ -1,4 +1,4 @@
-use mathlib.Core.Path.{_≡_, refl, sym, ap, _∙_}
+use mathlib.Core.Path.{sym, _∙_}
 use native.Mathlib.Omega.{arith}
 use Rattle.running.proofs.Answers.{page-bound}
 use Rattle.station.proofs.Cleared.{opened-wrong, opened-uneven, opened-good}
