@@ -1,7 +1,7 @@
 -- "A refusal leaves session and all lent memory unchanged": the image byte for byte, and every lent list; a command stores its counts.
 -- "a refused opening returns zeros": 65 of them.
-use mathlib.Core.Path.{_≡_, refl, sym, ap, _∙_}
-use mathlib.Core.Bool.{Bool, true, false, cond, _||_, true≢false}
+use mathlib.Core.Path.{_≡_, refl}
+use mathlib.Core.Bool.{Bool, true, false, cond, _||_}
 use mathlib.Core.List.{List}
 use Prim.Native.Nat.{ℕ, _<_}
 use lib.ListN.{length, getD, replicate}
@@ -9,8 +9,8 @@ use lib.Dec.{eqb}
 use borrow.Author.Tests.{eq-eqb, eqb-true, not-false}
 use Rattle.session.specs.declared.Session.{Session}
 use Rattle.session.specs.declared.answers.Answer.{Answer}
-use Rattle.session.specs.declared.answers.Answer.the-variants.{Taken, Lengths}
-use Rattle.session.specs.Answers.{isTaken, numberOf, answerOf}
+use Rattle.session.specs.declared.answers.Answer.the-variants.{Lengths}
+use Rattle.session.specs.Answers.{isTaken, numberOf}
 use Rattle.session.specs.Session.{none}
 use Rattle.session.specs.Lent.{World}
 use Rattle.station.specs.Outcomes.{After, after, outcome, Drawn, drawnBy, labelled}
