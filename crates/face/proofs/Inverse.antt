@@ -27,7 +27,7 @@ unfolding numberAt bytesOf
 number-bytes zero x l h = omega arith
 number-bytes (suc w) x l h =
     let e : numberAt w ((x % 256) ∷ (bytesOf w (x / 256) ++ l)) 1 ≡ x / 256
-        = number-drop w ((x % 256) ∷ (bytesOf w (x / 256) ++ l)) 1 0 ∙ number-bytes w (x / 256) l (omega (arith, pow-succ' 256 w)) in
+    = number-drop w ((x % 256) ∷ (bytesOf w (x / 256) ++ l)) 1 0 ∙ number-bytes w (x / 256) l (omega (arith, pow-succ' 256 w)) in
     rw e (omega arith)
 
 -- w bytes from a place on are the bytes of the number that they are read as
@@ -65,7 +65,7 @@ module _ (b : List ℕ) (small : (k : ℕ) → getD b k 0 < 256) where
       let s : getD (everyFive 1 10 b 15) k 0 ≡ getD b (15 + 5 * k) 0 = five-at 1 10 15 k (omega arith) ∙ byte-number b (15 + 5 * k) in
       let v : getD (everyFive 4 10 b 16) k 0 ≡ numberAt 4 b (16 + 5 * k) = five-at 4 10 16 k (omega arith) in
       let i : counterBytes n (suc k) (counters (everyFive 1 10 b 15) (everyFive 4 10 b 16)) ≡ drop (16 + 5 * k + 4) b
-          = counters-again n (suc k) (omega arith) e ∙ ap (λ (m : ℕ). drop m b) (let d : 15 + 5 * suc k ≡ 16 + 5 * k + 4 = omega arith in d) in
+      = counters-again n (suc k) (omega arith) e ∙ ap (λ (m : ℕ). drop m b) (let d : 15 + 5 * suc k ≡ 16 + 5 * k + 4 = omega arith in d) in
       let d : suc (15 + 5 * k) ≡ 16 + 5 * k = omega arith in
       rw (s, v) (ap (λ (l : List ℕ). getD b (15 + 5 * k) 0 ∷ l) (field 4 (16 + 5 * k) _ (omega arith) i) ∙ sym (rw d at (drop-cons b (15 + 5 * k) 0 (omega arith))))
 
@@ -113,7 +113,7 @@ module _ (b : List ℕ) (small : (k : ℕ) → getD b k 0 < 256) where
     drawn = number-small 2 13;
     tenSet = five-length 1 10 15;
     tenValues = five-length 4 10 16;
-    values = five-small 10 16
+    values = five-small 10 16;
   }
 
 -- ---- from the session
@@ -138,7 +138,7 @@ module _ (c : Counters) where
   values-again zero k h small = sym (drop-of-length-le (c .value) (let d : length (c .value) ≤ k = omega arith in d))
   values-again (suc n) k h small =
       let v : numberAt 4 (counterBytes (suc n) k c) 1 ≡ getD (c .value) k 0
-          = number-drop 4 (counterBytes (suc n) k c) 1 0 ∙ number-bytes 4 (getD (c .value) k 0) (counterBytes n (suc k) c) (small k) in
+      = number-drop 4 (counterBytes (suc n) k c) 1 0 ∙ number-bytes 4 (getD (c .value) k 0) (counterBytes n (suc k) c) (small k) in
       rw (v, five-drop 4 n (counterBytes (suc n) k c) 5 1)
       (ap (λ (l : List ℕ). getD (c .value) k 0 ∷ l) (values-again n (suc k) (omega arith) small) ∙ sym (drop-cons (c .value) k 0 (omega arith)))
 

@@ -61,7 +61,17 @@ pub extern "C" fn station_command(
         return number(Answer::Lengths);
     }
     let before = decode(session);
-    let o = station::command(before, font, background, store, links, directory, values, output, input);
+    let o = station::command(
+        before,
+        font,
+        background,
+        store,
+        links,
+        directory,
+        values,
+        output,
+        input,
+    );
     let after = o.session;
     encode(after, session);
     store_counts(counts, o.read, o.written);
@@ -86,7 +96,16 @@ pub extern "C" fn station_label(
         return number(Answer::Lengths);
     }
     let before = decode(session);
-    let o = station::label(before, font, page, background, store, links, directory, values);
+    let o = station::label(
+        before,
+        font,
+        page,
+        background,
+        store,
+        links,
+        directory,
+        values,
+    );
     let after = o.session;
     encode(after, session);
     let answer = o.answer;

@@ -151,6 +151,10 @@ equal [] (y ∷ ys) = false
 equal (x ∷ xs) [] = false
 equal (x ∷ xs) (y ∷ ys) = eqb x y && equal xs ys
 
+-- at most 255 bytes, and its own normal form
+unfoldable pub isOwn : List ℕ → Bool
+isOwn s = leb (length s) 255 && equal (normal s) s
+
 -- at most 255 bytes, one of the lines that may stand in a form, and its own normal form (no such line depends on the rows of the page)
 unfoldable pub isNormal : List ℕ → Bool
 isNormal s = leb (length s) 255 && (takenItem (readOf 1 s) && equal (normal s) s)

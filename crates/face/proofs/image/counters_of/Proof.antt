@@ -16,7 +16,7 @@ abbrev μ-loop : tie.MeasureT-loop
 
 loop-holds : tie.Need-loop-holds Inv-loop μ-loop
 unfolding everyFive
-loop-holds c = (refl , refl)
+loop-holds c = (refl, refl)
 
 mul-byte : tie.Need-mul-byte Inv-loop μ-loop
 mul-byte c = search needs
@@ -54,9 +54,10 @@ loop-less c = omega arith
 loop-again : tie.Need-loop-again Inv-loop μ-loop
 loop-again c = let l = c .before .before .before .loop in
     let h = c .before .before .loop-test .taken in
-    let b = c .before .before .before .before .before .args .image .now in
-    (rw (c .before .byte .ensures, ← byte-number b (15 + 5 * (l .k))) (sym (fill-next 1 b 15 (l .k) (l .set) h) ∙ l .inv .0) ,
-    rw (c .value-at .ensures) (sym (fill-next 4 b 16 (l .k) (l .value) h) ∙ l .inv .1))
+    let b = c .before .before .before .before .before .args .image .now in (
+      rw (c .before .byte .ensures, ← byte-number b (15 + 5 * (l .k))) (sym (fill-next 1 b 15 (l .k) (l .set) h) ∙ l .inv .0),
+      rw (c .value-at .ensures) (sym (fill-next 4 b 16 (l .k) (l .value) h) ∙ l .inv .1),
+    )
 
 returns : tie.Need-returns Inv-loop μ-loop
 returns c = let l = c .before .loop in let h = c .loop-test .left in let b = c .before .before .before .args .image .now in

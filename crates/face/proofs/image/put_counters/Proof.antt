@@ -15,7 +15,7 @@ abbrev μ-loop : tie.MeasureT-loop
 μ-loop image₀ set value k₀ image k = 10 - k
 
 loop-holds : tie.Need-loop-holds Inv-loop μ-loop
-loop-holds c = (refl , refl)
+loop-holds c = (refl, refl)
 
 mul-put-counter : tie.Need-mul-put-counter Inv-loop μ-loop
 mul-put-counter c = search needs
@@ -45,7 +45,7 @@ loop-again : tie.Need-loop-again Inv-loop μ-loop
 loop-again c = let l = c .before .before .before .before .before .loop in
     let a = c .before .before .before .before .before .before .before .before .before .args in
     let e = c .before .before .put-counter .ensures in
-    (rw e (sym (rest-next (l .image) (l .k) (a .c) (c .before .before .before .before .loop-test .taken)) ∙ l .inv .0) , rw (e, length-sets) (l .inv .1))
+    (rw e (sym (rest-next (l .image) (l .k) (a .c) (c .before .before .before .before .loop-test .taken)) ∙ l .inv .0), rw (e, length-sets) (l .inv .1))
 
 same-length : tie.Need-same-length Inv-loop μ-loop
 same-length c = c .before .loop .inv .1
