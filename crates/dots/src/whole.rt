@@ -66,10 +66,14 @@ fn outside_mask(i: usize, width: usize, length: usize) -> u8
     span_mask(least(width - x, 8), 8)
 }
 
-// Whether byte i of a page, which is b, has no black dot outside width by length.
+// Whether byte i of a page, which is b, has no black dot outside width by length. Most bytes of a page have no black dot, and no place is worked out
+// for them.
 fn white_byte(i: usize, b: u8, width: usize, length: usize) -> bool
     ensures { λ r. ⌜ r ≡ whiteByte width length i b ⌝ }
 {
+    if b == 0 {
+        return true;
+    }
     b & outside_mask(i, width, length) == 0
 }
 

@@ -1,5 +1,6 @@
 pub mod Bytes
 pub mod Folding
+pub mod Standing
 pub mod Walking
 pub mod Showing
 pub mod Growing

@@ -50,10 +50,11 @@ fn held_line(line: &[u8]) -> Stored
     }
 }
 
+// A line that may not stand in a form is read as nothing, so that reading it once tells both.
 pub(crate) fn stored_item(line: &[u8]) -> Stored
     ensures { λ r. ⌜ r ≡ itemIn (now (line .entry)) ⌝ }
 {
-    if !written::is_normal(line) {
+    if !written::is_own(line) {
         return Stored::Nothing;
     }
     held_line(line)

@@ -1,52 +1,29 @@
 -- Laws on the rows of the grammar, and on what reading a row's fields leaves in two arrays.
 use mathlib.Core.Path.{_≡_, _∙_, refl, sym, ap}
-use mathlib.Core.Bool.{Bool, true, false, cond, _&&_, and-false}
+use mathlib.Core.Bool.{Bool, true, false, cond, _&&_}
 use mathlib.Core.List.{List, [], _∷_, _++_}
-use Prim.Native.Nat.{ℕ, zero, suc, _+_, _-_, _*_, _/_, _%_, _≤_, _<_}
-use native.Mathlib.Nat.{add-zero, zero-add, add-suc, suc-add}
+use Prim.Native.Nat.{ℕ, zero, suc, _+_, _-_, _≤_, _<_}
+use native.Mathlib.Nat.{add-zero}
 use native.Mathlib.Numerals.{add-one}
 use native.Mathlib.Omega.{arith}
 use native.Mathlib.Decide.{decLt}
 use lib.Dec.{T, leb, ltb, eqb, leb→le, ltb→lt}
 use lib.ListN.{length, getD, set, take, drop, replicate, length-drop, drop-of-length-le, List·getD-eq-default}
 use lib.Seq.{take-all, drop-cons, drop-drop, getD-drop, sets, sets-eq}
-use borrow.Author.Tests.{le-ltb, lt-ltb}
 use Rattle.fit.specs.Bytes.{between}
 use Rattle.fields.specs.declared.Field.{Field}
 use Rattle.fields.specs.declared.Field.the-variants.{Is, Not}
-use Rattle.fields.specs.declared.Limits.{Limits}
 use Rattle.fields.specs.declared.Limits.the-variants.{Within, Outside}
 use Rattle.fields.proofs.Laws.{and-T}
-use Rattle.read.specs.Grammar.{
-  Form,
-  forms,
-  none,
-  rowOf,
-  boundsOf,
-  spread,
-  limited,
-  free,
-  fieldAt,
-  fieldsFrom,
-  Got,
-  good,
-  bad,
-  next,
-  ahead,
-  Filled,
-  fieldLimits,
-  firstOf,
-  limitsFrom,
-  isNumber,
-}
+use Rattle.read.specs.Grammar.{Form, forms, none, rowOf, boundsOf, spread, free, fieldAt, fieldsFrom, Got, good, bad, next, ahead, Filled, fieldLimits, firstOf, limitsFrom, isNumber}
 use Rattle.read.specs.Front.{sizeOf}
-use Rattle.read.specs.Codes.{bound, boundBy, codes, codeAt}
+use Rattle.read.specs.Codes.{bound, boundBy, codes, codeAt, formOf, codesOf}
 use Rattle.read.specs.Commands.{judged, decided, commandOf, itemOf, orderOf}
 use Rattle.read.specs.declared.Bounds.{Bounds}
 use Rattle.read.specs.declared.Fields.{Fields}
 use Rattle.read.specs.declared.Fields.the-variants.{All, Bad}
-use Rattle.read.specs.declared.Fault.the-variants.{Form as form, Limit}
-use Rattle.read.specs.declared.Read.the-variants.{Taken, Refused}
+use Rattle.read.specs.declared.Fault.the-variants.{Form as form}
+use Rattle.read.specs.declared.Read.the-variants.{Refused}
 
 -- ---- tables
 
@@ -54,32 +31,47 @@ use Rattle.read.specs.declared.Read.the-variants.{Taken, Refused}
 pub no-row : (row : ℕ) → 28 ≤ row → rowOf row ≡ none
 no-row row h = List·getD-eq-default forms none h
 
--- a table of n entries that f fills
-abbrev pub build : {A : Type 0} → (ℕ → A) → ℕ → ℕ → List A
-build f lo zero = []
-build f lo (suc n) = f lo ∷ build f (suc lo) n
-
-build-at : {A : Type 0} (f : ℕ → A) (n lo k : ℕ) (d : A) → k < n → getD (build f lo n) k d ≡ f (lo + k)
-build-at f zero lo k d h = absurd (omega arith)
-build-at f (suc n) lo zero d h = rw add-zero
-build-at f (suc n) lo (suc k) d h = build-at f n (suc lo) k d (omega arith) ∙ ap f (suc-add lo k ∙ sym (add-suc lo k))
-
--- a table of eighteen entries a row
-pub table-at : {A : Type 0} (f : ℕ → ℕ → A) (d : A) (rows row i : ℕ) → row < rows → i < 18
-    → getD (build (λ k. f (k / 18) (k % 18)) 0 (rows * 18)) (row * 18 + i) d ≡ f row i
-table-at f d rows row i h l =
-    let e : (row * 18 + i) / 18 ≡ row = omega arith in
-    let m : (row * 18 + i) % 18 ≡ i = omega arith in
-    build-at (λ k. f (k / 18) (k % 18)) (rows * 18) 0 (row * 18 + i) d (omega arith) ∙ rw (zero-add, e, m)
-
-abbrev mapped : {A : Type 0} → (ℕ → A) → List ℕ → List A
+abbrev mapped : {A B : Type 0} → (A → B) → List A → List B
 mapped g [] = []
 mapped g (x ∷ xs) = g x ∷ mapped g xs
 
-mapped-at : {A : Type 0} (g : ℕ → A) (l : List ℕ) (k d : ℕ) → getD (mapped g l) k (g d) ≡ g (getD l k d)
+mapped-at : {A B : Type 0} (g : A → B) (l : List A) (k : ℕ) (d : A) → getD (mapped g l) k (g d) ≡ g (getD l k d)
 mapped-at g [] k d = refl
 mapped-at g (x ∷ xs) zero d = refl
 mapped-at g (x ∷ xs) (suc k) d = mapped-at g xs k d
+
+-- what a row is filled up with stands wherever it has ended
+pub filled-up : (b d : ℕ) (l : List ℕ) (n m k : ℕ) → k < n → n ≤ length l + m → getD (take n (l ++ replicate m b)) k d ≡ getD l k b
+filled-up b d l zero m k h e = absurd (omega arith)
+filled-up b d [] (suc n) zero k h e = absurd (omega arith)
+filled-up b d [] (suc n) (suc m) zero h e = refl
+filled-up b d [] (suc n) (suc m) (suc k) h e = filled-up b d [] n m k (omega arith) (omega arith)
+filled-up b d (x ∷ xs) (suc n) m zero h e = refl
+filled-up b d (x ∷ xs) (suc n) m (suc k) h e = filled-up b d xs n m k (omega arith) (omega arith)
+
+pub form-at : (row k : ℕ) (l : List ℕ) → l ≡ formOf row → k < 18 → getD l k 0 ≡ getD (rowOf row .fields) k 32
+unfolding formOf
+form-at row k l e h = rw e (filled-up 32 0 (rowOf row .fields) 18 18 k h (omega arith))
+
+code-at : (row k : ℕ) (l : List ℕ) → l ≡ codesOf row → k < 18 → getD l k 0 ≡ codeAt row k
+unfolding codesOf
+code-at row k l e h = rw e (filled-up 45 0 (getD codes row []) 18 18 k h (omega arith))
+
+-- past the last row there is no form and no bounds
+pub above : (row n : ℕ) → n ≤ row → (row ≡ n → ⊥) → suc n ≤ row
+above row n h k = go (decLt n row)
+  where
+    go : Dec (n < row) → suc n ≤ row
+    go (yes j) = omega arith
+    go (no j) = absurd (k (omega arith))
+
+pub no-form : (row : ℕ) → 28 ≤ row → formOf row ≡ replicate 18 32
+unfolding formOf
+no-form row h = rw (no-row row h)
+
+pub no-codes : (row : ℕ) → 28 ≤ row → codesOf row ≡ replicate 18 45
+unfolding codesOf
+no-codes row h = rw (List·getD-eq-default codes [] h)
 
 -- what holds of each form and of none holds of each row
 every : (Form → Bool) → List Form → Bool
@@ -128,39 +120,31 @@ in-row row i f h e = go (decLt i (length (rowOf row .fields)))
 
 -- ---- bounds
 
-spread-length : (fs : List ℕ) (ls : List (ℕ × ℕ)) → length (spread fs ls) ≡ length fs
-unfolding spread
-spread-length [] ls = refl
-spread-length (f ∷ fs) [] = ap suc (spread-length fs [])
-spread-length (f ∷ fs) (l ∷ ls) = go (limited f) (spread-length fs ls) (spread-length fs (l ∷ ls))
-  where
-    go : (t : Bool) → length (spread fs ls) ≡ length fs → length (spread fs (l ∷ ls)) ≡ length fs
-        → length (cond t (l ∷ spread fs ls) (free ∷ spread fs (l ∷ ls))) ≡ suc (length fs)
-    go true a b = ap suc a
-    go false a b = ap suc b
-
 abbrev boundOf : ℕ × ℕ → Bounds
 boundOf l = bound (l .0) (l .1)
 
-codes-right : (rows : ℕ) → mapped (λ c. boundBy c rows) codes ≡ build (λ k. boundOf (getD (boundsOf (k / 18) rows) (k % 18) free)) 0 504
+abbrev boundsBy : ℕ → Form → List Bounds
+boundsBy rows f = mapped boundOf (spread (f .fields) (f .bounds rows))
+
+codes-right : (rows : ℕ) → mapped (mapped (λ c. boundBy c rows)) codes ≡ mapped (boundsBy rows) forms
 unfolding boundBy spread
 codes-right rows = refl
 
-pub bound-right : (row i rows : ℕ) → boundBy (codeAt row i) rows ≡ boundOf (getD (boundsOf row rows) i free)
-unfolding codeAt
-bound-right row i rows = go (decLt row 28) (decLt i 18)
-  where
-    go : Dec (row < 28) → Dec (i < 18)
-        → boundBy (cond (ltb row 28 && ltb i 18) (getD codes (row * 18 + i) 0) 45) rows ≡ boundOf (getD (boundsOf row rows) i free)
-    go (yes h) (yes k) =
-        rw (lt-ltb row 28 h, lt-ltb i 18 k)
-        (sym (mapped-at (λ c. boundBy c rows) codes (row * 18 + i) 0)
-        ∙ ap (λ (l : List Bounds). getD l (row * 18 + i) (boundBy 0 rows)) (codes-right rows)
-        ∙ table-at (λ row i. boundOf (getD (boundsOf row rows) i free)) (boundBy 0 rows) 28 row i h k)
-    go (yes h) (no k) =
-        let l : length (boundsOf row rows) ≤ i = omega (arith, spread-length (rowOf row .fields) (rowOf row .bounds rows), row-short row) in
-        rw (le-ltb i 18 (omega arith), List·getD-eq-default (boundsOf row rows) free l) (simp and-false (unfold boundBy in refl))
-    go (no h) d = rw (le-ltb row 28 (omega arith), no-row row (omega arith)) (unfold boundBy spread in refl)
+bound-right : (row i rows : ℕ) → boundBy (codeAt row i) rows ≡ boundOf (getD (boundsOf row rows) i free)
+unfolding boundBy spread
+bound-right row i rows =
+    sym (mapped-at (λ c. boundBy c rows) (getD codes row []) i 45)
+    ∙ ap (λ (l : List Bounds). getD l i (bound 0 0)) (sym (mapped-at (mapped (λ c. boundBy c rows)) codes row [])
+    ∙ ap (λ (t : List (List Bounds)). getD t row []) (codes-right rows)
+    ∙ mapped-at (boundsBy rows) forms row none)
+    ∙ mapped-at boundOf (boundsOf row rows) i free
+
+-- the bounds that the letters of a row give
+pub bounds-at : (row i rows : ℕ) (l : List ℕ) (b : Bounds) → l ≡ codesOf row → i < 18 → b ≡ boundBy (getD l i 0) rows
+    → (b .low ≡ getD (boundsOf row rows) i free .0) × (b .high ≡ getD (boundsOf row rows) i free .1)
+bounds-at row i rows l b e h k =
+    let m = k ∙ ap (λ c. boundBy c rows) (code-at row i l e h) ∙ bound-right row i rows in
+    (ap (λ (x : Bounds). x .low) m, ap (λ (x : Bounds). x .high) m)
 
 -- ---- the fields of a row, one at a time
 

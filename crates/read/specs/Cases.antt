@@ -1,22 +1,19 @@
 -- Lines of paper 01, and what reading them gives: antt computes each.
 -- Assumes nothing.
-use Prim.Native.Nat.{ℕ}
 use mathlib.Core.Path.{_≡_, refl}
 use mathlib.Core.Bool.{true, false}
-use mathlib.Core.List.{List, [], _∷_, _++_}
 use lib.ListN.{replicate}
 use Rattle.fit.specs.Bytes.{between}
 use Rattle.fit.specs.declared.Kind.the-variants.{Ean13}
 use Rattle.fields.specs.Text.{bytes}
 use Rattle.fields.specs.Bytes.{run, valueFrom}
-use Rattle.fields.specs.Field.{numberAt, textAt, signedAt, byteAt, letterAt, typeAt, kindFrom}
+use Rattle.fields.specs.Field.{numberAt, textAt, signedAt, byteAt, typeAt, kindFrom}
 use Rattle.fields.specs.Data.{modifierAt, heldAt, elementAt, elementsFrom, elements, total, dataAt, limits}
 use Rattle.read.specs.Grammar.{headOf, find, fieldAt, fieldsFrom, spread, beyond, fieldLimits, limitsFrom}
 use Rattle.read.specs.Commands.{readOf, headed, judged, itemOf, orderOf}
 use Rattle.read.specs.Front.{frontOf, lineFront, askedBy, sizeOf}
-use Rattle.read.specs.declared.Ink.the-variants.{Black}
-use Rattle.read.specs.declared.Item.the-variants.{Origin, Variable, Counter, Text, Bars, Box, Frame, Picture}
-use Rattle.read.specs.declared.Command.the-variants.{Item as item, Width, EraseForm, Store}
+use Rattle.read.specs.declared.Item.the-variants.{Counter, Bars}
+use Rattle.read.specs.declared.Command.the-variants.{Item as item, Width, EraseForm}
 use Rattle.read.specs.declared.Fault.the-variants.{Form as form, Limit}
 use Rattle.read.specs.declared.Front.the-variants.{Short, Long, Idle, Line}
 use Rattle.read.specs.declared.Read.the-variants.{Taken, Refused}

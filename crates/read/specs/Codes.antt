@@ -1,11 +1,13 @@
--- The letters by which the code keeps the bounds of fields. No public contract cites them: `bounds` is proved to answer by the table `forms`.
+-- The rows of the table `forms` as the code keeps them, and the letters by which it keeps the bounds of fields. `row_limits` is proved to answer by
+-- the table `forms`.
 -- Assumes nothing.
-use Prim.Native.Nat.{ℕ, _+_, _*_}
-use mathlib.Core.Bool.{cond, _&&_}
-use mathlib.Core.List.{List}
-use lib.ListN.{getD}
-use lib.Dec.{eqb, ltb}
+use Prim.Native.Nat.{ℕ}
+use mathlib.Core.Bool.{cond}
+use mathlib.Core.List.{List, [], _∷_, _++_}
+use lib.ListN.{getD, take, replicate}
+use lib.Dec.{eqb}
 use Rattle.fields.specs.Text.{bytes}
+use Rattle.read.specs.Grammar.{rowOf}
 use Rattle.read.specs.declared.Bounds.{Bounds}
 
 abbrev pub bound : ℕ → ℕ → Bounds
@@ -37,10 +39,48 @@ boundBy code rows =
     (cond (eqb code 118) (bound 0 999999999)
     (bound 0 0))))))))))))))))))))))
 
-abbrev pub codes : List ℕ
+-- a letter for each byte of each form of the table `forms`
+abbrev pub codes : List (List ℕ)
 codes =
-    bytes
-    "-N-l---------------m-----------------j-k----------------------------------------------------a-a-b-b-----------a-a-b-b-----------a-a-b-b----------a-c-d-a-c---------a-c-e-f-g---------a-c-e---f-h-i------a-c-q-------------q-----------------------------------q-----------------q-----------------q-----------------------------------------------------q-----------------q-r--------------------------------n-o---p-----------n-g-s-p------------n-----------------n-v--------------t----------------------------------"
+    bytes "-N-l"
+    ∷ bytes "-m"
+    ∷ bytes "-j-k"
+    ∷ bytes "--"
+    ∷ bytes "--"
+    ∷ bytes "--a-a-b-b"
+    ∷ bytes "--a-a-b-b"
+    ∷ bytes "--a-a-b-b"
+    ∷ bytes "-a-c-d-a-c"
+    ∷ bytes "-a-c-e-f-g----"
+    ∷ bytes "-a-c-e---f-h-i----"
+    ∷ bytes "--a-c-q"
+    ∷ bytes "--q"
+    ∷ bytes "--"
+    ∷ bytes "--q"
+    ∷ bytes "--q"
+    ∷ bytes "--q"
+    ∷ bytes "--"
+    ∷ bytes "--"
+    ∷ bytes "--q"
+    ∷ bytes "--q-r"
+    ∷ bytes "--"
+    ∷ bytes "-n-o---p"
+    ∷ bytes "-n-g-s-p"
+    ∷ bytes "--n--"
+    ∷ bytes "--n-v"
+    ∷ bytes "-t"
+    ∷ bytes "-"
+    ∷ []
 
-unfoldable pub codeAt : ℕ → ℕ → ℕ
-codeAt row i = cond (ltb row 28 && ltb i 18) (getD codes (row * 18 + i) 0) 45
+abbrev pub codeAt : ℕ → ℕ → ℕ
+codeAt row i = getD (getD codes row []) i 45
+
+-- a row as the code keeps it: eighteen bytes, filled up with one that stands for no field and no bounds
+abbrev pub filledUp : ℕ → List ℕ → List ℕ
+filledUp b l = take 18 (l ++ replicate 18 b)
+
+unfoldable pub formOf : ℕ → List ℕ
+formOf row = filledUp 32 (rowOf row .fields)
+
+unfoldable pub codesOf : ℕ → List ℕ
+codesOf row = filledUp 45 (getD codes row [])

@@ -9,7 +9,7 @@ use Rattle.fit.specs.Bytes.{between}
 use Rattle.fields.specs.Field.{kindFrom, nought}
 use Rattle.fields.specs.declared.Limits.{Limits}
 use Rattle.fields.specs.declared.Limits.the-variants.{Within, Outside}
-use Rattle.read.specs.Grammar.{Form, Got, good, bad, rowOf, boundsOf, headOf, fieldsFrom, limitsFrom, starred}
+use Rattle.read.specs.Grammar.{Got, good, bad, rowOf, boundsOf, headOf, fieldsFrom, limitsFrom, starred}
 use Rattle.read.specs.declared.Head.{Head}
 use Rattle.read.specs.declared.Head.the-variants.{Row, Unknown}
 use Rattle.read.specs.declared.Ink.{Ink}

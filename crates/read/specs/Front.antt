@@ -1,14 +1,14 @@
 -- Paper 01, "Reading a command": the line at the front of the input, and how much of the input a call reads.
 -- Assumes nothing.
 use Prim.Native.Nat.{ℕ, _+_}
-use mathlib.Core.Bool.{Bool, cond, _||_}
+use mathlib.Core.Bool.{cond, _||_}
 use mathlib.Core.List.{List}
 use lib.ListN.{length, getD, take}
 use lib.Dec.{leb, ltb, eqb}
 use Rattle.fit.specs.Bytes.{between}
 use Rattle.fields.specs.Bytes.{run}
 use Rattle.fields.specs.declared.Class.the-variants.{Inside}
-use Rattle.read.specs.Grammar.{Form, Got, good, bad, rowOf, headOf, fieldsFrom}
+use Rattle.read.specs.Grammar.{Got, good, bad, rowOf, headOf, fieldsFrom}
 use Rattle.read.specs.declared.Head.{Head}
 use Rattle.read.specs.declared.Head.the-variants.{Row, Unknown}
 use Rattle.read.specs.declared.Front.{Front}

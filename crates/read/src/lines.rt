@@ -7,7 +7,7 @@ use crate::Fields;
 use crate::Read;
 use crate::check::row_limits;
 use crate::orders::command_of;
-use crate::table::shape;
+use crate::table::form_of;
 use fields::Class;
 use fields::Field;
 use fields::Limits;
@@ -36,10 +36,11 @@ fn field_at(line: &[u8], f: u8, at: usize) -> Field
 pub fn read_fields(line: &[u8], row: usize, vs: &mut [usize; 18], ps: &mut [usize; 18]) -> Fields
     ensures { λ r. ⌜ Filled (fieldsFrom (rowOf row .fields) (now (line .entry)) 0) (now (vs .entry)) (now (ps .entry)) r (now (vs .exit)) (now (ps .exit)) ⌝ }
 {
+    let form = form_of(row);
     let mut at = 0;
     let mut i = 0;
     while i < 18 {
-        let f = shape(row, i);
+        let f = form[i];
         if f == 32 {
             break;
         }

@@ -1,96 +1,85 @@
-// The grammar as the code reads it: a row of eighteen bytes for each command, and beside it a letter for the bounds of each field.
+// The grammar as the code reads it: a row of eighteen bytes for each command, and beside it a letter for the bounds of each field. A row is read
+// once for a line: its eighteen bytes are quickly at hand, and a whole table would be copied each time.
 ghost use mathlib.Core.Path.{_≡_};
-ghost use lib.ListN.{getD};
-ghost use Rattle.read.specs.Grammar.{rowOf, Form, boundsOf, free};
-ghost use Rattle.read.specs.Codes.{codeAt, boundBy};
+ghost use Rattle.read.specs.Codes.{formOf, codesOf, boundBy};
 use crate::Bounds;
 
-const SHAPES: [u8; 504] = *b"\
-    Qn,n              \
-    qn                \
-    Rn,n              \
-    ZT                \
-    ZB                \
-    LOn,n,n,n         \
-    LEn,n,n,n         \
-    LWn,n,n,n         \
-    Xn,n,n,n,n        \
-    An,n,n,n,n,m,d    \
-    Bn,n,n,k,n,w,n,N,d\
-    GGn,n,a           \
-    FSa               \
-    FE                \
-    FRa               \
-    FKz               \
-    GKz               \
-    FI                \
-    GI                \
-    FPa               \
-    GMa,n             \
-    VC                \
-    Vn,n,j,t          \
-    Cn,n,s,t          \
-    ?Vn,u             \
-    ?Cn,n             \
-    Pn                \
-    N                 ";
-
-const BOUNDS: [u8; 504] = *b"\
-    -N-l--------------\
-    -m----------------\
-    -j-k--------------\
-    ------------------\
-    ------------------\
-    --a-a-b-b---------\
-    --a-a-b-b---------\
-    --a-a-b-b---------\
-    -a-c-d-a-c--------\
-    -a-c-e-f-g--------\
-    -a-c-e---f-h-i----\
-    --a-c-q-----------\
-    --q---------------\
-    ------------------\
-    --q---------------\
-    --q---------------\
-    --q---------------\
-    ------------------\
-    ------------------\
-    --q---------------\
-    --q-r-------------\
-    ------------------\
-    -n-o---p----------\
-    -n-g-s-p----------\
-    --n---------------\
-    --n-v-------------\
-    -t----------------\
-    ------------------";
-
-// The byte of a row's form at i; a space past its end.
-pub fn shape(row: usize, i: usize) -> u8
-    ensures { λ r. ⌜ r ≡ getD (rowOf row .fields) i 32 ⌝ }
+// The form of a row, and spaces past its end.
+pub fn form_of(row: usize) -> [u8; 18]
+    ensures { λ r. ⌜ r ≡ formOf row ⌝ }
 {
-    if 28 <= row {
-        return 32;
+    match row {
+        0 => *b"Qn,n              ",
+        1 => *b"qn                ",
+        2 => *b"Rn,n              ",
+        3 => *b"ZT                ",
+        4 => *b"ZB                ",
+        5 => *b"LOn,n,n,n         ",
+        6 => *b"LEn,n,n,n         ",
+        7 => *b"LWn,n,n,n         ",
+        8 => *b"Xn,n,n,n,n        ",
+        9 => *b"An,n,n,n,n,m,d    ",
+        10 => *b"Bn,n,n,k,n,w,n,N,d",
+        11 => *b"GGn,n,a           ",
+        12 => *b"FSa               ",
+        13 => *b"FE                ",
+        14 => *b"FRa               ",
+        15 => *b"FKz               ",
+        16 => *b"GKz               ",
+        17 => *b"FI                ",
+        18 => *b"GI                ",
+        19 => *b"FPa               ",
+        20 => *b"GMa,n             ",
+        21 => *b"VC                ",
+        22 => *b"Vn,n,j,t          ",
+        23 => *b"Cn,n,s,t          ",
+        24 => *b"?Vn,u             ",
+        25 => *b"?Cn,n             ",
+        26 => *b"Pn                ",
+        27 => *b"N                 ",
+        _ => *b"                  ",
     }
-    if 18 <= i {
-        return 32;
-    }
-    SHAPES[row * 18 + i]
 }
 
-fn bound_code(row: usize, i: usize) -> u8
-    ensures { λ r. ⌜ r ≡ codeAt row i ⌝ }
+// The letters of a row's bounds.
+pub(crate) fn codes_of(row: usize) -> [u8; 18]
+    ensures { λ r. ⌜ r ≡ codesOf row ⌝ }
 {
-    if 28 <= row {
-        return b'-';
+    match row {
+        0 => *b"-N-l--------------",
+        1 => *b"-m----------------",
+        2 => *b"-j-k--------------",
+        3 => *b"------------------",
+        4 => *b"------------------",
+        5 => *b"--a-a-b-b---------",
+        6 => *b"--a-a-b-b---------",
+        7 => *b"--a-a-b-b---------",
+        8 => *b"-a-c-d-a-c--------",
+        9 => *b"-a-c-e-f-g--------",
+        10 => *b"-a-c-e---f-h-i----",
+        11 => *b"--a-c-q-----------",
+        12 => *b"--q---------------",
+        13 => *b"------------------",
+        14 => *b"--q---------------",
+        15 => *b"--q---------------",
+        16 => *b"--q---------------",
+        17 => *b"------------------",
+        18 => *b"------------------",
+        19 => *b"--q---------------",
+        20 => *b"--q-r-------------",
+        21 => *b"------------------",
+        22 => *b"-n-o---p----------",
+        23 => *b"-n-g-s-p----------",
+        24 => *b"--n---------------",
+        25 => *b"--n-v-------------",
+        26 => *b"-t----------------",
+        27 => *b"------------------",
+        _ => *b"------------------",
     }
-    if 18 <= i {
-        return b'-';
-    }
-    BOUNDS[row * 18 + i]
 }
 
-fn bound_by(code: u8, rows: usize) -> Bounds
+// The bounds that a letter stands for, on a page of so many rows.
+pub(crate) fn bound_by(code: u8, rows: usize) -> Bounds
     ensures { λ r. ⌜ r ≡ boundBy code rows ⌝ }
 {
     match code {
@@ -133,11 +122,4 @@ fn bound_by(code: u8, rows: usize) -> Bounds
         },
         _ => Bounds { low: 0, high: 0 },
     }
-}
-
-// The bounds of a row's field at i, on a page of so many rows.
-pub fn bounds(row: usize, i: usize, rows: usize) -> Bounds
-    ensures { λ r. ⌜ (r .low ≡ getD (boundsOf row rows) i free .0) × (r .high ≡ getD (boundsOf row rows) i free .1) ⌝ }
-{
-    bound_by(bound_code(row, i), rows)
 }

@@ -1,27 +1,26 @@
 -- Each field of a line, written: reading it gives its value back, and writing it again gives the same bytes.
 use mathlib.Core.Path.{_≡_, _∙_, refl, sym, ap}
-use mathlib.Core.Bool.{Bool, true, false, cond, _&&_, _||_, not, false≢true, and-false}
+use mathlib.Core.Bool.{Bool, true, false, cond, _&&_, false≢true, and-false}
 use mathlib.Core.List.{List, [], _∷_, _++_, append-assoc}
 use Prim.Native.Nat.{ℕ, zero, suc, _+_, _-_, _*_, _/_, _%_, _^_, _≤_, _<_}
-use native.Mathlib.Nat.{add-zero, zero-add, add-suc, suc-add}
 use native.Mathlib.Numerals.{add-one}
 use native.Mathlib.Omega.{arith}
 use native.Mathlib.Decide.{decLt}
-use lib.Dec.{T, leb, ltb, eqb, lit<}
+use lib.Dec.{T, ltb, eqb}
 use lib.ListN.{length, getD, take, drop, length-append, length-take, length-drop}
 use lib.Seq.{take-append-seam, drop-append-seam, getD-append-seam, getD-append-add, drop-append-add, drop-cons, take-suc, getD-drop}
 use borrow.Author.Tests.{lt-ltb, le-ltb, lt-leb, eq-eqb, eqb-true, ltb-true}
 use Rattle.fit.specs.Bytes.{between}
 use Rattle.fields.specs.declared.Class.{Class}
-use Rattle.fields.specs.declared.Class.the-variants.{Digit, Quoted, Named, Mode, Side}
+use Rattle.fields.specs.declared.Class.the-variants.{Digit, Quoted, Named}
 use Rattle.fields.specs.declared.Field.{Field}
 use Rattle.fields.specs.declared.Field.the-variants.{Is, Not}
 use Rattle.fields.specs.Bytes.{inClass, run, digitOf, valueFrom}
-use Rattle.fields.specs.Field.{part, runAt, numberAt, textAt, textFault, signedAt, plus, minus, letterAt, typeAt, byteAt, nought, Small}
+use Rattle.fields.specs.Field.{runAt, numberAt, textAt, textFault, signedAt, plus, minus, letterAt, byteAt, nought, Small}
 use Rattle.fields.proofs.Laws.{in-range, above-range, number-is, number-small, text-is, inside, and-T}
 use Rattle.read.specs.Names.{capital}
 use Rattle.written.specs.Written.{digits, decimal, signed, kept, cased}
-use Rattle.written.proofs.Writes.{digits-room, digits-less, digits-last, cased-append, cased-kept}
+use Rattle.written.proofs.Writes.{digits-room, digits-less, cased-append}
 
 -- ---- runs
 

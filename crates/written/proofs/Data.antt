@@ -1,22 +1,20 @@
 -- Data, written: reading it gives the same elements back, and writing them again gives the same bytes.
 use mathlib.Core.Path.{_≡_, _∙_, refl, sym, ap}
-use mathlib.Core.Bool.{Bool, true, false, cond, _&&_, _||_}
-use mathlib.Core.List.{List, [], _∷_, _++_, append-assoc, append-nil}
+use mathlib.Core.Bool.{Bool, true, false, cond, _&&_}
+use mathlib.Core.List.{List, [], _∷_, _++_, append-assoc}
 use Prim.Native.Nat.{ℕ, zero, suc, _+_, _-_, _≤_, _<_}
 use native.Mathlib.Nat.{add-zero}
-use native.Mathlib.Numerals.{add-one}
 use native.Mathlib.Omega.{arith}
-use lib.Dec.{T, ltb, eqb}
-use lib.ListN.{length, getD, take, drop, length-append}
+use lib.Dec.{ltb, eqb}
+use lib.ListN.{length, getD, length-append}
 use lib.Seq.{getD-append-seam, getD-append-add}
 use borrow.Author.Tests.{lt-ltb, ltb-true, eq-eqb, eqb-true}
 use Rattle.fit.specs.Bytes.{between}
-use Rattle.fields.specs.declared.Class.the-variants.{Digit, Quoted}
+use Rattle.fields.specs.declared.Class.the-variants.{Digit}
 use Rattle.fields.specs.declared.Field.{Field}
 use Rattle.fields.specs.declared.Field.the-variants.{Is, Not}
 use Rattle.fields.specs.declared.Part.{Part}
 use Rattle.fields.specs.declared.Part.the-variants.{Whole, First, Last, Middle}
-use Rattle.fields.specs.declared.What.{What}
 use Rattle.fields.specs.declared.What.the-variants.{Text, Variable, Counter}
 use Rattle.fields.specs.declared.Element.{Element}
 use Rattle.fields.specs.declared.Step.{Step}
@@ -29,10 +27,10 @@ use Rattle.fields.specs.Field.{numberAt, textAt, byteAt, Small}
 use Rattle.fields.specs.Data.{first, last, middle, middle-dot, middle-n, modifierAt, quotedFrom, heldFrom, modified, heldAt, elementAt, pointed, after, elements, total, stopped, dataAt, whatGood, limits}
 use Rattle.fields.proofs.Laws.{in-range, digit-small, number-small}
 use Rattle.fields.proofs.Steps.{element-past, elements-next, elements-stop, total-next, Took, element-took}
-use Rattle.written.specs.Written.{decimal, digits, kept, partWritten, whatWritten, elementWritten, dataWritten}
+use Rattle.written.specs.Written.{decimal, kept, partWritten, whatWritten, elementWritten, dataWritten}
 use Rattle.written.specs.Contents.{pieces}
 use Rattle.written.proofs.Writes.{digits-last}
-use Rattle.written.proofs.Back.{allIn, number-back, text-back, byte-back, number-fits, Quotes, text-fits, kept-back}
+use Rattle.written.proofs.Back.{number-back, text-back, byte-back, text-fits, kept-back}
 
 -- ---- what an element that was read is
 

@@ -2,55 +2,29 @@
 use mathlib.Core.Path.{_≡_, _∙_, refl, sym, ap}
 use mathlib.Core.Bool.{Bool, true, false, cond, _&&_, _||_}
 use mathlib.Core.List.{List, [], _∷_, _++_, append-assoc, append-nil}
-use Prim.Native.Nat.{ℕ, zero, suc, _+_, _-_, _≤_, _<_}
-use native.Mathlib.Numerals.{add-one}
+use Prim.Native.Nat.{ℕ, suc, _+_, _-_, _<_}
 use native.Mathlib.Omega.{arith}
 use native.Mathlib.Decide.{ℕ-discrete}
 use lib.Dec.{T, ltb, eqb}
 use lib.ListN.{length, getD, take, drop, length-append}
 use lib.Seq.{getD-append-seam, getD-append-add, drop-append-add, drop-cons, take-append-seam}
-use borrow.Author.Tests.{lt-ltb, eq-eqb, ne-eqb, eqb-true}
+use borrow.Author.Tests.{eq-eqb, ne-eqb, eqb-true}
 use Rattle.fit.specs.Bytes.{between}
-use Rattle.fields.specs.declared.Class.{Class}
-use Rattle.fields.specs.declared.Class.the-variants.{Digit, Quoted, Named, Mode, Side}
-use Rattle.fields.specs.declared.Field.{Field}
+use Rattle.fields.specs.declared.Class.the-variants.{Digit, Named, Mode, Side}
 use Rattle.fields.specs.declared.Field.the-variants.{Is, Not}
 use Rattle.fields.specs.declared.What.the-variants.{Text as Quote}
-use Rattle.fields.specs.declared.Limits.{Limits}
 use Rattle.fields.specs.declared.Limits.the-variants.{Within, Outside}
-use Rattle.fields.specs.Bytes.{inClass, run}
-use Rattle.fields.specs.Field.{runAt, numberAt, textAt, signedAt, letterAt, typeAt, byteAt}
-use Rattle.fields.specs.Data.{dataAt, elements, limits}
+use Rattle.fields.specs.Bytes.{inClass}
+use Rattle.fields.specs.Field.{runAt, textAt, typeAt, byteAt}
+use Rattle.fields.specs.Data.{elements}
 use Rattle.fields.proofs.Laws.{inside}
 use Rattle.read.specs.Grammar.{fieldAt, named, starred, beyond, fieldLimits}
 use Rattle.read.specs.Names.{capital}
-use Rattle.written.specs.Written.{decimal, signed, kept, cased, dataWritten, writtenField}
-use Rattle.written.specs.Contents.{held, pieces}
+use Rattle.written.specs.Written.{kept, cased, dataWritten, writtenField}
+use Rattle.written.specs.Contents.{held}
 use Rattle.written.proofs.Writes.{cased-kept}
-use Rattle.written.proofs.Back.{
-  allIn,
-  run-all,
-  run-in,
-  T-true,
-  number-back,
-  text-back,
-  byte-back,
-  letter-back,
-  signed-back,
-  kept-back,
-  number-fits,
-  signed-fits,
-  byte-fits,
-  letter-fits,
-  Quotes,
-  text-fits,
-  cased-quoted,
-  cased-named,
-  cased-length,
-  cased-twice,
-  cased-quotes,
-}
-use Rattle.written.proofs.Data.{chain-of, data-inside, elements-back, data-back, data-again, limits-back, pieces-back, moved}
+use Rattle.written.proofs.Back.{allIn, run-all, run-in, number-back, text-back, byte-back, letter-back, signed-back, kept-back, number-fits, signed-fits, byte-fits, letter-fits, text-fits, cased-quoted, cased-named, cased-length, cased-twice, cased-quotes}
+use Rattle.written.proofs.Data.{chain-of, data-inside, elements-back, data-back, data-again, limits-back, pieces-back}
 
 -- a byte that stands for itself
 pub record Plain (f : ℕ) : Type 0 where

@@ -6,7 +6,7 @@ use Prim.Native.Nat.{ℕ, zero, suc, _+_, _-_, _≤_, _<_}
 use native.Mathlib.Nat.{zero-add}
 use native.Mathlib.Omega.{arith}
 use native.Mathlib.Decide.{ℕ-discrete, decLt}
-use lib.Dec.{T, leb, eqb}
+use lib.Dec.{T, eqb}
 use lib.ListN.{length, getD, drop, length-append}
 use borrow.Author.Tests.{eq-eqb, ne-eqb, eqb-true, lt-leb}
 use Rattle.fit.specs.Bytes.{between}
@@ -60,12 +60,12 @@ use Rattle.read.specs.declared.Command.the-variants.{
   Print,
   White as Whiten,
 }
-use Rattle.read.specs.declared.Read.the-variants.{Taken, Refused}
+use Rattle.read.specs.declared.Read.the-variants.{Taken}
 use Rattle.read.specs.declared.Head.{Head}
 use Rattle.read.specs.declared.Head.the-variants.{Row, Unknown}
 use Rattle.read.proofs.Rows.{Split, fields-split}
-use Rattle.written.specs.Written.{digits, decimal, writtenField, writtenFrom, writtenOf, headWritten, normal}
-use Rattle.written.specs.Contents.{unplaced, held, heldBy, contentsOf, headContents, contents}
+use Rattle.written.specs.Written.{decimal, writtenField, writtenFrom, writtenOf, headWritten, normal}
+use Rattle.written.specs.Contents.{unplaced, heldBy, contentsOf, headContents, contents}
 use Rattle.written.proofs.Back.{allIn, T-true, number-fits, digits-class, digits-count}
 use Rattle.written.proofs.Fields.{Letter, letter-of, a-number, a-wide, a-step, a-prompt, a-text, a-name, a-star, a-mode, a-side, a-type, some-data, itself, After, Moved, field-moved, Plain, plain-written}
 

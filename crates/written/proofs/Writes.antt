@@ -2,12 +2,11 @@
 use mathlib.Core.Path.{_≡_, _∙_, refl, sym, ap}
 use mathlib.Core.Bool.{Bool, true, false, cond, and-false}
 use mathlib.Core.List.{List, [], _∷_, _++_}
-use Prim.Native.Nat.{ℕ, zero, suc, _+_, _-_, _*_, _/_, _%_, _^_, _≤_, _<_, min}
+use Prim.Native.Nat.{ℕ, zero, suc, _+_, _-_, _*_, _/_, _%_, _^_, _≤_, _<_}
 use native.Mathlib.Nat.{add-zero, pow-suc}
 use native.Mathlib.Numerals.{add-one}
 use native.Mathlib.Omega.{arith}
 use native.Mathlib.Decide.{decLt}
-use lib.Dec.{ltb}
 use lib.ListN.{length, getD, set, take, drop, length-append, length-set, length-take, length-drop, drop-of-length-le}
 use lib.Seq.{sets, sets-eq, length-sets, take-append-seam, take-all, drop-cons, drop-drop, getD-drop, drop-set-lt, getD-set-same, take-suc, set-out}
 use borrow.Author.Tests.{lt-ltb, le-ltb, eq-eqb, ne-eqb}
@@ -15,7 +14,7 @@ use Rattle.fields.specs.Data.{elementAt, elements, after}
 use Rattle.fields.specs.declared.Element.{Element}
 use Rattle.fields.specs.declared.Step.the-variants.{Next, Stop}
 use Rattle.fields.proofs.Steps.{elements-next, elements-stop}
-use Rattle.read.specs.Grammar.{Form, Got, good, bad, rowOf, fieldsFrom, Filled}
+use Rattle.read.specs.Grammar.{Got, good, bad, rowOf, fieldsFrom, Filled}
 use Rattle.read.specs.Names.{capital}
 use Rattle.read.specs.declared.Fields.{Fields}
 use Rattle.read.specs.declared.Fields.the-variants.{All, Bad}

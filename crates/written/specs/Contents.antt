@@ -1,7 +1,7 @@
 -- What a line says, apart from where its bytes stand.
 -- Assumes nothing.
 use Prim.Native.Nat.{ℕ, _+_}
-use mathlib.Core.Bool.{Bool, true, false, cond, _||_}
+use mathlib.Core.Bool.{true, false, cond, _||_}
 use mathlib.Core.List.{List, [], _∷_, _++_}
 use lib.ListN.{getD, drop}
 use lib.Dec.{eqb}
@@ -9,7 +9,7 @@ use Rattle.fields.specs.Data.{elements}
 use Rattle.fields.specs.declared.What.{What}
 use Rattle.fields.specs.declared.What.the-variants.{Text as Quote}
 use Rattle.fields.specs.declared.Element.{Element}
-use Rattle.read.specs.Grammar.{Form, Got, good, bad, rowOf, headOf, fieldsFrom}
+use Rattle.read.specs.Grammar.{Got, good, bad, rowOf, headOf, fieldsFrom}
 use Rattle.read.specs.declared.Head.{Head}
 use Rattle.read.specs.declared.Head.the-variants.{Row, Unknown}
 use Rattle.read.specs.declared.Item.{Item}

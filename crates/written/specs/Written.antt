@@ -15,7 +15,7 @@ use Rattle.fields.specs.declared.Part.the-variants.{Whole, First, Last, Middle}
 use Rattle.fields.specs.declared.What.{What}
 use Rattle.fields.specs.declared.What.the-variants.{Text, Variable, Counter}
 use Rattle.fields.specs.declared.Element.{Element}
-use Rattle.read.specs.Grammar.{Form, Got, good, bad, rowOf, headOf, fieldsFrom}
+use Rattle.read.specs.Grammar.{Got, good, bad, rowOf, headOf, fieldsFrom}
 use Rattle.read.specs.Names.{capital}
 use Rattle.read.specs.Commands.{readOf}
 use Rattle.read.specs.declared.Command.{Command}
@@ -150,6 +150,10 @@ equal [] [] = true
 equal [] (y ∷ ys) = false
 equal (x ∷ xs) [] = false
 equal (x ∷ xs) (y ∷ ys) = eqb x y && equal xs ys
+
+-- at most 255 bytes, and its own normal form
+unfoldable pub isOwn : List ℕ → Bool
+isOwn s = leb (length s) 255 && equal (normal s) s
 
 -- at most 255 bytes, one of the lines that may stand in a form, and its own normal form (no such line depends on the rows of the page)
 unfoldable pub isNormal : List ℕ → Bool

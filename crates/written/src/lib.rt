@@ -1,7 +1,7 @@
 // The normal form of a line, as a form keeps it.
 //
 // Paper 01 keeps a recorded line with leading zeros dropped, names in capitals and signs written. `write` writes the normal form of a line
-// into lent memory, and `is_normal` tells whether a line is its own normal form and may stand in a form. The main theorem
+// into lent memory, and `is_own` tells whether a line is its own normal form. The main theorem
 // (proofs/Round.antt): reading the normal form of any line that is taken gives the same command with the same contents, and its normal form
 // is itself, and no longer than a line may be. What a form does with its lines is said in the crates above.
 ghost use mathlib.Core.Path.{_≡_};
@@ -12,24 +12,20 @@ ghost use lib.ListN.{length, getD};
 ghost use lib.Dec.{eqb};
 ghost use Rattle.fields.specs.Data.{elements};
 ghost use Rattle.read.specs.Names.{capital};
-ghost use Rattle.read.specs.Commands.{readOf};
 ghost use Rattle.read.specs.Grammar.{rowOf, Form};
-ghost use Rattle.written.specs.Written.{Wrote, decimal, digits, signed, cased, kept, partWritten, whatWritten, elementWritten, dataWritten, writtenField, writtenFrom, normal, isItem, takenItem, equal, isNormal};
+ghost use Rattle.written.specs.Written.{Wrote, decimal, digits, signed, cased, kept, partWritten, whatWritten, elementWritten, dataWritten, writtenField, writtenFrom, normal, equal, isOwn};
 use fields::Part;
 use fields::Step;
 use fields::What;
 use fields::element_at;
-use read::Command;
 use read::Fields;
 use read::Head;
-use read::Read;
 use read::heads::head_of;
 use read::input::first;
 use read::input::rest;
 use read::lines::read_fields;
 use read::names::folded;
-use read::read_line;
-use read::table::shape;
+use read::table::form_of;
 
 // Stores a byte, if there is room, and answers the place after it.
 fn put(out: &mut [u8], at: usize, b: u8) -> usize
@@ -215,10 +211,11 @@ fn put_field(line: &[u8], f: u8, v: usize, p: usize, out: &mut [u8], at: usize) 
 fn put_row(line: &[u8], row: usize, vs: [usize; 18], ps: [usize; 18], out: &mut [u8]) -> usize
     ensures { λ r. ⌜ Wrote (now (out .entry)) 0 (writtenFrom (rowOf row .fields) (now (line .entry)) vs ps) r (now (out .exit)) ⌝ }
 {
+    let form = form_of(row);
     let mut place = 0;
     let mut i = 0;
     while i < 18 {
-        let f = shape(row, i);
+        let f = form[i];
         if f == 32 {
             return place;
         }
@@ -271,51 +268,14 @@ fn same(a: &[u8], b: &[u8]) -> bool
     true
 }
 
-fn is_item(command: Command) -> bool
-    ensures { λ r. ⌜ r ≡ isItem command ⌝ }
-{
-    match command {
-        Command::Item(_) => true,
-        Command::Length(_) => false,
-        Command::Width(_) => false,
-        Command::Turn(_) => false,
-        Command::Start(_) => false,
-        Command::End => false,
-        Command::Retrieve(_) => false,
-        Command::EraseForm(_) => false,
-        Command::ListForms => false,
-        Command::PrintForm(_) => false,
-        Command::Store(_) => false,
-        Command::ListPictures => false,
-        Command::ErasePicture(_) => false,
-        Command::SetVariable(_) => false,
-        Command::SetCounter(_) => false,
-        Command::Clear => false,
-        Command::Print(_) => false,
-        Command::White => false,
-    }
-}
-
-fn is_taken(line: &[u8]) -> bool
-    ensures { λ r. ⌜ r ≡ takenItem (readOf 1 (now (line .entry))) ⌝ }
-{
-    let Read::Taken(command) = read_line(line, 1) else {
-        return false;
-    };
-    is_item(command)
-}
-
-// Whether a line may stand in a form as it is: one of at most 255 bytes that may be recorded, and its own normal form.
-pub fn is_normal(line: &[u8]) -> bool
-    ensures { λ r. ⌜ r ≡ isNormal (now (line .entry)) ⌝ }
+// Whether a line has at most 255 bytes and is its own normal form. Which lines may stand in a form, whoever reads the line knows.
+pub fn is_own(line: &[u8]) -> bool
+    ensures { λ r. ⌜ r ≡ isOwn (now (line .entry)) ⌝ }
 {
     if 255 < line.len() {
         return false;
     }
-    if is_taken(line) {
-        let mut out = [0u8; 256];
-        let n = write(line, &mut out);
-        return same(first(&out, n), line);
-    }
-    false
+    let mut out = [0u8; 256];
+    let n = write(line, &mut out);
+    same(first(&out, n), line)
 }

@@ -1,10 +1,10 @@
-use Prim.Native.Nat.{_+_, _-_, _≤_}
-use mathlib.Core.Path.{_≡_, _∙_, refl, sym}
+use Prim.Native.Nat.{_-_}
+use mathlib.Core.Path.{_∙_, sym}
 use native.Mathlib.Omega.{arith}
 use denote.Ref.{now}
 use lib.ListN.{length}
 use Rattle.fields.specs.Data.{elements}
-use Rattle.fields.proofs.Steps.{Took, element-took, element-past}
+use Rattle.fields.proofs.Steps.{element-took, element-past}
 use Rattle.written.specs.Written.{dataWritten}
 use Rattle.written.proofs.Writes.{Rest, rest-start, rest-step, rest-done, rest-same, wrote-length, data-next, data-stop}
 use borrow.Author.Needs.{needs}

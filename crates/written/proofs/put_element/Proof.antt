@@ -1,7 +1,6 @@
 use mathlib.Core.Path.{_∙_, ap}
-use mathlib.Core.Bool.{false}
 use lib.ListN.{take}
-use Rattle.written.specs.Written.{whatWritten, cased}
+use Rattle.written.specs.Written.{whatWritten}
 use Rattle.written.proofs.Writes.{wrote-same, cased-kept}
 use borrow.Author.Needs.{needs}
 use Rattle.written.proofs.put_element.Statement.{statement}

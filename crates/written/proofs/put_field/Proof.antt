@@ -2,7 +2,6 @@ use borrow.Author.Tests.{ne-eqb}
 use mathlib.Core.Path.{_∙_, ap}
 use mathlib.Core.Bool.{false}
 use lib.ListN.{take}
-use Prim.Native.Nat.{_+_}
 use Rattle.written.specs.Written.{writtenField, cased}
 use Rattle.written.proofs.Writes.{wrote-same}
 use borrow.Author.Needs.{needs}

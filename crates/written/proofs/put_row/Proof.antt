@@ -1,37 +1,41 @@
-use Prim.Native.Nat.{_+_, _-_, _≤_}
-use mathlib.Core.Path.{_≡_, _∙_, sym}
+use Prim.Native.Nat.{_-_}
 use native.Mathlib.Omega.{arith}
 use denote.Ref.{now}
-use lib.ListN.{length, drop, getD}
-use Rattle.read.specs.Grammar.{rowOf, Form}
-use Rattle.read.proofs.Rows.{in-row, out-row, row-short}
-use Rattle.written.specs.Written.{writtenFrom, writtenField}
+use lib.ListN.{drop, getD}
+use Rattle.read.specs.Grammar.{rowOf}
+use Rattle.read.proofs.Rows.{form-at, in-row, out-row, row-short}
+use Rattle.written.specs.Written.{writtenFrom}
 use Rattle.written.proofs.Writes.{Rest, rest-start, rest-step, rest-done, rest-same, wrote-length, written-more, written-done}
 use borrow.Author.Needs.{needs}
 use Rattle.written.proofs.put_row.Statement.{statement}
 use Rattle.written.proofs.put_row.Tie as tie
 
 abbrev Inv-loop : tie.InvT-loop
-Inv-loop line row out₀ vs ps place₀ i₀ out place i = Rest out₀ 0 (writtenFrom (rowOf row .fields) line vs ps) out place (writtenFrom (drop i (rowOf row .fields)) line (drop i vs) (drop i ps))
+Inv-loop line row out₀ vs ps form place₀ i₀ out place i = Rest out₀ 0 (writtenFrom (rowOf row .fields) line vs ps) out place (writtenFrom (drop i (rowOf row .fields)) line (drop i vs) (drop i ps))
 
 abbrev μ-loop : tie.MeasureT-loop
-μ-loop line row out₀ vs ps place₀ i₀ out place i = 18 - i
+μ-loop line row out₀ vs ps form place₀ i₀ out place i = 18 - i
+
+form-of-requires : tie.Need-form-of-requires Inv-loop μ-loop
+form-of-requires c κs = search needs
 
 loop-holds : tie.Need-loop-holds Inv-loop μ-loop
 loop-holds c = rest-start (omega arith)
 
-shape-requires : tie.Need-shape-requires Inv-loop μ-loop
-shape-requires c κs = search needs
+array-read-f : tie.Need-array-read-f Inv-loop μ-loop
+array-read-f c = search needs
 
 same-length : tie.Need-same-length Inv-loop μ-loop
 same-length c = let a = c .before .before .before .before .before .before .args in
-    let l = c .before .before .before .loop in
-    wrote-length (rest-done (rest-same (l .inv) (written-done (rowOf (a .row) .fields) (now (a .line)) (a .t3) (a .t4) (l .i) (out-row (a .row) (l .i) (c .before .shape .result) (c .before .shape .ensures) (c .if1 .taken)))))
+    let g = c .before .before .before .form-of in
+    let l = c .before .before .loop in
+    wrote-length (rest-done (rest-same (l .inv) (written-done (rowOf (a .row) .fields) (now (a .line)) (a .t3) (a .t4) (l .i) (out-row (a .row) (l .i) (getD (g .result) (l .i) 0) (form-at (a .row) (l .i) (g .result) (g .ensures) (c .before .loop-test .taken)) (c .if1 .taken)))))
 
 returns : tie.Need-returns Inv-loop μ-loop
 returns c = let a = c .before .before .before .before .before .before .args in
-    let l = c .before .before .before .loop in
-    rest-done (rest-same (l .inv) (written-done (rowOf (a .row) .fields) (now (a .line)) (a .t3) (a .t4) (l .i) (out-row (a .row) (l .i) (c .before .shape .result) (c .before .shape .ensures) (c .if1 .taken))))
+    let g = c .before .before .before .form-of in
+    let l = c .before .before .loop in
+    rest-done (rest-same (l .inv) (written-done (rowOf (a .row) .fields) (now (a .line)) (a .t3) (a .t4) (l .i) (out-row (a .row) (l .i) (getD (g .result) (l .i) 0) (form-at (a .row) (l .i) (g .result) (g .ensures) (c .before .loop-test .taken)) (c .if1 .taken))))
 
 mul-v : tie.Need-mul-v Inv-loop μ-loop
 mul-v c = search needs
@@ -46,7 +50,7 @@ array-read-p : tie.Need-array-read-p Inv-loop μ-loop
 array-read-p c = search needs
 
 put-field-requires : tie.Need-put-field-requires Inv-loop μ-loop
-put-field-requires c κs = c .before .before .before .before .loop .inv .room
+put-field-requires c κs = c .before .before .before .loop .inv .room
 
 add-i : tie.Need-add-i Inv-loop μ-loop
 add-i c = search needs
@@ -56,17 +60,19 @@ loop-less c = search needs
 
 loop-again : tie.Need-loop-again Inv-loop μ-loop
 loop-again c = let a = c .before .before .before .before .before .before .before .before .before .before .args in
-    let l = c .before .before .before .before .before .before .before .loop in
-    let n = in-row (a .row) (l .i) (c .before .before .before .before .before .shape .result) (c .before .before .before .before .before .shape .ensures) (c .before .before .before .before .if1 .left) in
-    rest-step (rest-same (l .inv) (written-more (rowOf (a .row) .fields) (now (a .line)) (a .t3) (a .t4) (l .i) n)) (rw (c .before .before .before .before .before .shape .ensures) at (c .before .before .put-field .ensures))
+    let g = c .before .before .before .before .before .before .before .form-of in
+    let l = c .before .before .before .before .before .before .loop in
+    let f = form-at (a .row) (l .i) (g .result) (g .ensures) (c .before .before .before .before .before .loop-test .taken) in
+    let n = in-row (a .row) (l .i) (getD (g .result) (l .i) 0) f (c .before .before .before .before .if1 .left) in
+    rest-step (rest-same (l .inv) (written-more (rowOf (a .row) .fields) (now (a .line)) (a .t3) (a .t4) (l .i) n)) (rw f at (c .before .before .put-field .ensures))
 
 same-length-2 : tie.Need-same-length-2 Inv-loop μ-loop
-same-length-2 c = let a = c .before .before .before .before .args in
+same-length-2 c = let a = c .before .before .before .before .before .args in
     let l = c .before .loop in
     wrote-length (rest-done (rest-same (l .inv) (written-done (rowOf (a .row) .fields) (now (a .line)) (a .t3) (a .t4) (l .i) (omega (arith, row-short (a .row))))))
 
 returns-2 : tie.Need-returns-2 Inv-loop μ-loop
-returns-2 c = let a = c .before .before .before .before .args in
+returns-2 c = let a = c .before .before .before .before .before .args in
     let l = c .before .loop in
     rest-done (rest-same (l .inv) (written-done (rowOf (a .row) .fields) (now (a .line)) (a .t3) (a .t4) (l .i) (omega (arith, row-short (a .row)))))
 
@@ -76,8 +82,9 @@ put-row-spec =
     (tie.spec
     Inv-loop
     μ-loop
+    form-of-requires
     loop-holds
-    shape-requires
+    array-read-f
     same-length
     returns
     mul-v

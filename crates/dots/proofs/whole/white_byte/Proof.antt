@@ -10,13 +10,16 @@ use borrow.Author.Needs.{needs}
 use Rattle.dots.proofs.whole.white_byte.Statement.{statement}
 use Rattle.dots.proofs.whole.white_byte.Tie as tie
 
+returns : tie.Need-returns
+returns c = rw (c .if1 .taken)
+
 outside-mask-requires : tie.Need-outside-mask-requires
 outside-mask-requires c κs = search needs
 
-returns : tie.Need-returns
-returns c = let a = c .before .args in
+returns-2 : tie.Need-returns-2
+returns-2 c = let a = c .before .before .args in
     ap (λ (n : ℕ). eqb n 0)
     (white-and (a .b) (c .outside-mask .result) (λ k. outside (a .width) (a .length) (a .i % 76 * 8 + k) (a .i / 76)) (omega arith) (c .outside-mask .ensures))
 
 pub white-byte-spec : {M : Type 1} → statement M
-white-byte-spec = tie.close (tie.spec outside-mask-requires returns)
+white-byte-spec = tie.close (tie.spec returns outside-mask-requires returns-2)

@@ -1,4 +1,3 @@
-use mathlib.Core.Bool.{and-false}
 use borrow.Author.Tests.{ne-eqb, eq-eqb}
 use Rattle.read.specs.Grammar.{fieldLimits}
 use borrow.Author.Needs.{needs}

@@ -2,7 +2,6 @@ use denote.Ref.{now}
 use Prim.Native.Nat.{_+_, _-_}
 use mathlib.Core.Path.{_≡_}
 use native.Mathlib.Omega.{arith}
-use lib.Dec.{eqb}
 use Rattle.fields.specs.Field.{runAt}
 use Rattle.fields.specs.declared.Class.the-variants.{Named}
 use Rattle.fields.proofs.Laws.{run-end, eqb-comm}

@@ -1,9 +1,6 @@
-use mathlib.Core.Path.{_≡_, _∙_, sym}
+use mathlib.Core.Path.{_∙_, sym}
 use native.Mathlib.Nat.{zero-add}
-use native.Mathlib.Omega.{arith}
 use borrow.Author.Tests.{le-ltb, lt-ltb}
-use Rattle.fields.specs.Bytes.{run}
-use Rattle.fields.specs.declared.Class.the-variants.{Inside}
 use Rattle.read.specs.Front.{frontOf}
 use borrow.Author.Needs.{needs}
 use Rattle.read.proofs.input.front.Statement.{statement}

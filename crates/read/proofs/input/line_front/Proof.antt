@@ -1,7 +1,6 @@
 use native.Mathlib.Omega.{arith}
 use lib.ListN.{length-take}
 use borrow.Author.Tests.{eq-eqb, ne-eqb, le-leb, lt-leb}
-use mathlib.Core.Bool.{true, _||_}
 use Rattle.read.specs.Front.{lineFront}
 use borrow.Author.Needs.{needs}
 use Rattle.read.proofs.input.line_front.Statement.{statement}

@@ -1,4 +1,4 @@
-use mathlib.Core.Path.{_≡_, _∙_, sym}
+use mathlib.Core.Path.{_∙_, sym}
 use native.Mathlib.Omega.{arith}
 use denote.Ref.{now}
 use Rattle.fields.proofs.Laws.{in-range, below-range, above-range}

@@ -1,4 +1,4 @@
-use mathlib.Core.Path.{_≡_, _∙_, sym}
+use mathlib.Core.Path.{_∙_, sym}
 use denote.Ref.{now}
 use Rattle.read.proofs.Rows.{judged-bad, judged-good}
 use borrow.Author.Needs.{needs}

@@ -1,28 +1,33 @@
-use Prim.Native.Nat.{ℕ, _+_, _-_, _≤_, _<_}
+use Prim.Native.Nat.{ℕ, _-_, _≤_, _<_}
+use mathlib.Core.List.{List}
 use mathlib.Core.Path.{_≡_, _∙_, refl, sym, ap}
-use mathlib.Core.Bool.{Bool, cond}
+use mathlib.Core.Bool.{cond}
 use mathlib.Core.Logic.{⊎-elim}
 use native.Mathlib.Omega.{arith}
-use lib.ListN.{length, getD, set, drop}
+use lib.ListN.{length, getD, drop}
 use denote.Ref.{now}
 use borrow.Author.Tests.{eq-eqb, ne-eqb}
-use Rattle.read.specs.Grammar.{rowOf, Form, good, bad}
-use Rattle.read.proofs.Rows.{row-short, in-row, out-row, filled, filled-more, filled-stop, filled-done, filled-good, filled-bad}
+use Rattle.read.specs.Grammar.{rowOf, good, bad}
+use Rattle.read.specs.Codes.{formOf}
+use Rattle.read.proofs.Rows.{row-short, form-at, in-row, out-row, filled, filled-more, filled-stop, filled-done, filled-good, filled-bad}
 use borrow.Author.Needs.{needs}
 use Rattle.read.proofs.lines.read_fields.Statement.{statement}
 use Rattle.read.proofs.lines.read_fields.Tie as tie
 
 abbrev Inv-loop : tie.InvT-loop
-Inv-loop line row vs₀ ps₀ at₀ i₀ vs ps at i = filled (drop i (rowOf row .fields)) line at i vs ps ≡ filled (rowOf row .fields) line 0 0 vs₀ ps₀
+Inv-loop line row vs₀ ps₀ form at₀ i₀ vs ps at i = filled (drop i (rowOf row .fields)) line at i vs ps ≡ filled (rowOf row .fields) line 0 0 vs₀ ps₀
 
 abbrev μ-loop : tie.MeasureT-loop
-μ-loop line row vs₀ ps₀ at₀ i₀ vs ps at i = 18 - i
+μ-loop line row vs₀ ps₀ form at₀ i₀ vs ps at i = 18 - i
+
+form-of-requires : tie.Need-form-of-requires Inv-loop μ-loop
+form-of-requires c κs = search needs
 
 loop-holds : tie.Need-loop-holds Inv-loop μ-loop
 loop-holds c = refl
 
-shape-requires : tie.Need-shape-requires Inv-loop μ-loop
-shape-requires c κs = search needs
+array-read-f : tie.Need-array-read-f Inv-loop μ-loop
+array-read-f c = search needs
 
 field-at-requires : tie.Need-field-at-requires Inv-loop μ-loop
 field-at-requires c κs = search needs
@@ -48,33 +53,42 @@ add-i c = search needs
 loop-less : tie.Need-loop-less Inv-loop μ-loop
 loop-less c = search needs
 
+-- the byte of the form that the loop reads
+byte-of : (row i : ℕ) (form : List ℕ) → form ≡ formOf row → i < 18 → (getD form i 0 ≡ 32 → ⊥) → i < length (rowOf row .fields)
+byte-of row i form e h n = in-row row i (getD form i 0) (form-at row i form e h) n
+
 loop-again : tie.Need-loop-again Inv-loop μ-loop
 loop-again c = let a = c .before .before .before .before .before .before .before .before .before .args in
-    let l = c .before .before .before .before .before .before .before .loop in
-    sym (filled-more (rowOf (a .row) .fields) (now (a .line)) (l .at) (l .i) (l .vs) (l .ps) (c .before .v .given .0 .0) (c .before .v .given .0 .1 .0) (in-row (a .row) (l .i) (c .before .before .before .before .before .shape .result) (c .before .before .before .before .before .shape .ensures) (c .before .before .before .before .if1 .left)) (rw (← c .before .before .before .before .before .shape .ensures, ← c .before .before .before .field-at .ensures) (c .before .v .given .1))) ∙ l .inv
+    let g = c .before .before .before .before .before .before .before .form-of in
+    let l = c .before .before .before .before .before .before .loop in
+    let t = c .before .before .before .before .before .loop-test .taken in
+    sym (filled-more (rowOf (a .row) .fields) (now (a .line)) (l .at) (l .i) (l .vs) (l .ps) (c .before .v .given .0 .0) (c .before .v .given .0 .1 .0) (byte-of (a .row) (l .i) (g .result) (g .ensures) t (c .before .before .before .before .if1 .left)) (rw (← form-at (a .row) (l .i) (g .result) (g .ensures) t, ← c .before .before .before .field-at .ensures) (c .before .v .given .1))) ∙ l .inv
 
 enum-known-fault : tie.Need-enum-known-fault Inv-loop μ-loop
 enum-known-fault c = search needs
 
 returns : tie.Need-returns Inv-loop μ-loop
 returns c = let a = c .before .before .before .before .before .before .before .before .before .args in
-    let l = c .before .before .before .before .before .before .before .loop in
-    filled-bad (rowOf (a .row) .fields) (now (a .line)) _ _ _ _ _ (sym (l .inv) ∙ filled-stop (rowOf (a .row) .fields) (now (a .line)) (l .at) (l .i) (l .vs) (l .ps) (c .before .fault .given .0 .0) (in-row (a .row) (l .i) (c .before .before .before .before .before .shape .result) (c .before .before .before .before .before .shape .ensures) (c .before .before .before .before .if1 .left)) (rw (← c .before .before .before .before .before .shape .ensures, ← c .before .before .before .field-at .ensures) (c .before .fault .given .1)))
+    let g = c .before .before .before .before .before .before .before .form-of in
+    let l = c .before .before .before .before .before .before .loop in
+    let t = c .before .before .before .before .before .loop-test .taken in
+    filled-bad (rowOf (a .row) .fields) (now (a .line)) _ _ _ _ _ (sym (l .inv) ∙ filled-stop (rowOf (a .row) .fields) (now (a .line)) (l .at) (l .i) (l .vs) (l .ps) (c .before .fault .given .0 .0) (byte-of (a .row) (l .i) (g .result) (g .ensures) t (c .before .before .before .before .if1 .left)) (rw (← form-at (a .row) (l .i) (g .result) (g .ensures) t, ← c .before .before .before .field-at .ensures) (c .before .fault .given .1)))
 
 -- where the loop is left the row has no more
-ended : (c : tie.Left-loop Inv-loop μ-loop) → length (rowOf (c .before .before .before .args .row) .fields) ≤ c .before .loop .i
+ended : (c : tie.Left-loop Inv-loop μ-loop) → length (rowOf (c .before .before .before .before .args .row) .fields) ≤ c .before .loop .i
 ended c =
-    let row = c .before .before .before .args .row in
+    let row = c .before .before .before .before .args .row in
+    let g = c .before .before .form-of in
     let i = c .before .loop .i in
-    ⊎-elim (λ w. omega (arith, row-short row)) (λ w. out-row row i (w .1 .result) (w .1 .ensures) (w .2 .taken)) (c .loop-test .came)
+    ⊎-elim (λ w. omega (arith, row-short row)) (λ w. out-row row i (getD (g .result) i 0) (form-at row i (g .result) (g .ensures) (w .0 .taken)) (w .1 .taken)) (c .loop-test .came)
 
 returns-2 : tie.Need-returns-2 Inv-loop μ-loop
-returns-2 c = let a = c .before .before .before .before .args in
+returns-2 c = let a = c .before .before .before .before .before .args in
     let l = c .before .before .loop in
     filled-good (rowOf (a .row) .fields) (now (a .line)) _ _ _ _ (sym (l .inv) ∙ filled-done (rowOf (a .row) .fields) (now (a .line)) (l .at) (l .i) (l .vs) (l .ps) (ended (c .before)) ∙ ap (λ b. cond b (good (l .vs) (l .ps)) (bad (l .at))) (eq-eqb (l .at) (length (now (a .line))) (c .if2 .taken)))
 
 returns-3 : tie.Need-returns-3 Inv-loop μ-loop
-returns-3 c = let a = c .before .before .before .before .args in
+returns-3 c = let a = c .before .before .before .before .before .args in
     let l = c .before .before .loop in
     filled-bad (rowOf (a .row) .fields) (now (a .line)) _ _ _ _ _ (sym (l .inv) ∙ filled-done (rowOf (a .row) .fields) (now (a .line)) (l .at) (l .i) (l .vs) (l .ps) (ended (c .before)) ∙ ap (λ b. cond b (good (l .vs) (l .ps)) (bad (l .at))) (ne-eqb (l .at) (length (now (a .line))) (c .if2 .left)))
 
@@ -84,8 +98,9 @@ read-fields-spec =
     (tie.spec
     Inv-loop
     μ-loop
+    form-of-requires
     loop-holds
-    shape-requires
+    array-read-f
     field-at-requires
     enum-known-v
     mul-vs

@@ -1,8 +1,8 @@
 use lib.Seq.{take-nil}
 use Prim.Native.Nat.{_+_, _≤_}
-use mathlib.Core.Path.{_≡_, _∙_, sym, ap}
+use mathlib.Core.Path.{_∙_, sym, ap}
 use native.Mathlib.Omega.{arith}
-use lib.ListN.{take, drop, length, drop-of-length-le}
+use lib.ListN.{take, length, drop-of-length-le}
 use denote.Ref.{now}
 use borrow.Author.Needs.{needs}
 use Rattle.read.proofs.names.inside.Statement.{statement}
