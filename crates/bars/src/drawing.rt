@@ -74,7 +74,8 @@ fn width_at(kind: Kind, e: u8, f: u8, ws: &[u8], k: usize) -> usize
     0
 }
 
-pub fn total(kind: Kind, e: u8, f: u8, ws: &[u8]) -> usize
+// `place` of the crate asks, with at most 1,299 elements.
+pub(crate) fn total(kind: Kind, e: u8, f: u8, ws: &[u8]) -> usize
     requires { ⌜ length (now ws) ≤ 1300 ⌝ }
     ensures { λ r. ⌜ r ≡ sum (map (dotsOf kind e f) (now (ws .entry))) ⌝ }
 {
@@ -88,7 +89,7 @@ pub fn total(kind: Kind, e: u8, f: u8, ws: &[u8]) -> usize
 }
 
 // Draws the bars of elements whose widths come to w, in a box of w by g dots.
-pub fn strokes(
+pub(crate) fn strokes(
     page: &mut [u8],
     width: usize,
     length: usize,

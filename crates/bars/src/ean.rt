@@ -88,7 +88,8 @@ fn half(s: &[u8], c: u8, which: &[u8], q: usize, out: &mut [u8], at: usize)
     }
 }
 
-pub fn fill(s: &[u8], out: &mut [u8]) -> usize
+// Asked for by `fill` of the crate alone, whose data is fit: twelve digits.
+pub(crate) fn fill(s: &[u8], out: &mut [u8]) -> usize
     requires { ⌜ length (now s) ≡ 12 ⌝ }
     ensures { λ r. ⌜ (Put (elementsEan (now (s .entry))) 0 (now (out .entry)) (now (out .exit)) r) × (r ≤ 1299) ⌝ }
 {

@@ -49,7 +49,8 @@ fn body(s: &[u8], out: &mut [u8])
     }
 }
 
-pub fn fill(s: &[u8], out: &mut [u8]) -> usize
+// Asked for by `fill` of the crate alone, whose data is fit: an even number of digits, at most 128.
+pub(crate) fn fill(s: &[u8], out: &mut [u8]) -> usize
     requires { ⌜ (length (now s) ≤ 128) × (length (now s) % 2 ≡ 0) ⌝ }
     ensures { λ r. ⌜ (Put (elements25 (now (s .entry))) 0 (now (out .entry)) (now (out .exit)) r) × (r ≤ 1299) ⌝ }
 {

@@ -39,8 +39,8 @@ fn last_digit(row: usize) -> u8
     (row % 10) as u8
 }
 
-// Writes the n digits of a row at a place, and answers the place after them.
-pub fn put(out: &mut [u8], at: usize, row: usize, n: usize) -> usize
+// Writes the n digits of a row at a place, and answers the place after them. The four types write at most 1,299 of them.
+pub(crate) fn put(out: &mut [u8], at: usize, row: usize, n: usize) -> usize
     requires { ⌜ at + n ≤ 10000 ⌝ }
     ensures { λ r. ⌜ (r ≡ at + n) × (now (out .exit) ≡ sets (now (out .entry)) at (digits n row)) ⌝ }
 {

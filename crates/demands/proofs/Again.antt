@@ -45,9 +45,9 @@ use Rattle.station.specs.Table.{lineOf, moreOf}
 use Rattle.station.specs.Station.{accepted}
 use Rattle.demands.specs.Tables.{noneApplies}
 use Rattle.keeping.specs.Good.{Good}
-use Rattle.keeping.specs.Calls.{Call, after as through}
+use Rattle.keeping.specs.Calls.{Call, through}
 use Rattle.keeping.proofs.Recording.{recording-owes-none}
-use Rattle.keeping.proofs.Always.{GoodState, called-good, after-good}
+use Rattle.keeping.proofs.Always.{GoodState, called-good, through-good}
 use Rattle.demands.specs.Calls.{Asked, answered, commands, stateOf, Says}
 use Rattle.demands.specs.Recorded.{shelfIn, Made, madeBy}
 use Rattle.demands.specs.Relist.{joined, sends, RoomLeft, Legal, Again, Relists}
@@ -216,7 +216,7 @@ module _ (s : Session) (w : World) (g : GoodState (state s w)) (lists starts end
     st₂ = through st₁ calls
 
     good₂ : GoodState st₂
-    good₂ = after-good st₁ calls good₁
+    good₂ = through-good st₁ calls good₁
 
     recorded₂ : recorded (st₂ .world .directory) ≡ At i
     recorded₂ = went-in calls st₁ i good₁ recorded₁ (sent .goes) .still

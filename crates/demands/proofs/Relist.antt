@@ -47,7 +47,7 @@ use Rattle.station.specs.Table.{lineOf, moreOf}
 use Rattle.station.specs.Station.{commanded, accepted}
 use Rattle.keeping.specs.Good.{Good}
 use Rattle.demands.specs.Tables.{noneApplies}
-use Rattle.keeping.specs.Calls.{after as through}
+use Rattle.keeping.specs.Calls.{through}
 use Rattle.keeping.proofs.Recording.{recorded-is, recording-owes-none}
 use Rattle.keeping.proofs.Always.{GoodState, called-good}
 use Rattle.demands.specs.Calls.{Asked, sending, commands, stateOf, Says}

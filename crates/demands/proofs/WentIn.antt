@@ -75,10 +75,10 @@ use Rattle.station.specs.Table.{frontRows, lineOf, moreOf}
 use Rattle.station.specs.Station.{commanded, doesFront}
 use Rattle.keeping.specs.Good.{Good}
 use Rattle.demands.specs.Tables.{noneApplies}
-use Rattle.keeping.specs.Calls.{Call, command, label, called, after as through}
+use Rattle.keeping.specs.Calls.{Call, command, label, called, through}
 use Rattle.keeping.proofs.Titles.{start-title}
 use Rattle.keeping.proofs.Recording.{recorded-is}
-use Rattle.keeping.proofs.Always.{GoodState, called-good, after-good}
+use Rattle.keeping.proofs.Always.{GoodState, called-good, through-good}
 use Rattle.demands.specs.Calls.{Asked, answered, commands, stateOf, Says}
 use Rattle.demands.specs.Recorded.{shelfIn, grownAt, lineKept, keeps, keepsAll, Goes, GoOn, Kept, Made, madeShelf}
 use Rattle.station.proofs.Promises.{command-refusal-keeps}
@@ -326,7 +326,7 @@ made-holds s w g n a calls z m =
       room-says (w .links) (w .directory) 0 (start-room s w (g .good) (a .font) (a .output) (a .input) n (m .opens) (m .started)) .0,
     ) in
     let k = went-in calls st₁ i g₁ (start-recorded s w (g .good) (a .font) (a .output) (a .input) n (m .opens) (m .started)) (m .goes) in
-    end-shelf (through st₁ calls .session) (through st₁ calls .world) (after-good st₁ calls g₁ .good) i (k .still) (z .font) (z .output) (z .input) (m .closes) (m .ended)
+    end-shelf (through st₁ calls .session) (through st₁ calls .world) (through-good st₁ calls g₁ .good) i (k .still) (z .font) (z .output) (z .input) (m .closes) (m .ended)
     ∙ ap (λ (sh : List Held). set sh i (held 1 (getD sh i nothing .name) (getD sh i nothing .bytes)))
     (k .holds ∙ ap (λ (sh : List Held). grownAt sh i (keepsAll calls st₁)) (start-holds s w (g .good) (a .font) (a .output) (a .input) n (m .opens) (m .started)))
     ∙ ended-grown (shelfIn w) i (packedOf (lineOf (a .input) (m .opens .line)) (n .at) (n .length)) (keepsAll calls st₁) b

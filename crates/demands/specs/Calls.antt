@@ -15,7 +15,7 @@ use Rattle.running.specs.World.{State, state}
 use Rattle.station.specs.Outcomes.{After}
 use Rattle.station.specs.Table.{lineOf}
 use Rattle.station.specs.Station.{opened, commanded}
-use Rattle.keeping.specs.Calls.{Call, command, after as through, openedState}
+use Rattle.keeping.specs.Calls.{Call, command, through, openedState}
 
 -- what a command call is lent beside the session and the lists
 pub record Asked : Type 0 where

@@ -21,7 +21,7 @@ use Rattle.session.specs.Lent.{World}
 use Rattle.running.specs.World.{State, memoryOf}
 use Rattle.station.specs.Table.{lineOf}
 use Rattle.station.specs.Station.{commanded}
-use Rattle.keeping.specs.Calls.{Call, command, label, called, after as through}
+use Rattle.keeping.specs.Calls.{Call, command, label, called, through}
 use Rattle.demands.specs.Calls.{Asked, answered, stateOf, Says}
 
 -- what a reader of the lent lists sees of the store: kind, name and bytes of each entry

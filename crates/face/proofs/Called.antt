@@ -18,20 +18,20 @@ use Rattle.station.specs.declared.Labelled.{Labelled}
 use Rattle.station.specs.Outcomes.{after, drawnBy, openedBy}
 use Rattle.station.specs.Station.{opened, commanded, labelledBy}
 use Rattle.face.specs.Image.{bytesOf, counterBytes, sessionOf, imageOf}
-use Rattle.face.specs.Face.{counted, imageWrong, countsWrong, opening, commanding, labelling, openedFace, commandedFace, labelledFace}
+use Rattle.face.specs.Face.{countsStored, imageWrong, countsWrong, opening, commanding, labelling, openedFace, commandedFace, labelledFace}
 
 -- ---- counts
 
-pub counted-two : (l : List ℕ) (r w : ℕ) → length l ≡ 2 → set (set l 0 r) 1 w ≡ counted l r w
-unfolding counted
-counted-two [] r w h = absurd (omega arith)
-counted-two (x ∷ []) r w h = absurd (omega arith)
-counted-two (x ∷ y ∷ []) r w h = refl
-counted-two (x ∷ y ∷ z ∷ l) r w h = absurd (omega arith)
+pub counts-two : (l : List ℕ) (r w : ℕ) → length l ≡ 2 → set (set l 0 r) 1 w ≡ countsStored l r w
+unfolding countsStored
+counts-two [] r w h = absurd (omega arith)
+counts-two (x ∷ []) r w h = absurd (omega arith)
+counts-two (x ∷ y ∷ []) r w h = refl
+counts-two (x ∷ y ∷ z ∷ l) r w h = absurd (omega arith)
 
-pub counted-other : (l : List ℕ) (r w : ℕ) → (length l ≡ 2 → ⊥) → l ≡ counted l r w
-unfolding counted
-counted-other l r w h = rw (ne-eqb (length l) 2 h)
+pub counts-other : (l : List ℕ) (r w : ℕ) → (length l ≡ 2 → ⊥) → l ≡ countsStored l r w
+unfolding countsStored
+counts-other l r w h = rw (ne-eqb (length l) 2 h)
 
 -- ---- the image
 
@@ -70,13 +70,13 @@ neither true b e = e
 neither false b e = refl
 
 module _ (i cs f : List ℕ) (w : World) (out input : List ℕ) (wrong : Bool) (is : wrong ≡ (imageWrong i || countsWrong cs)) where
-  pub command-wrong : (cs' : List ℕ) (r : ℕ) → wrong ≡ true → cs' ≡ counted cs 0 0 → r ≡ numberOf Lengths
+  pub command-wrong : (cs' : List ℕ) (r : ℕ) → wrong ≡ true → cs' ≡ countsStored cs 0 0 → r ≡ numberOf Lengths
       → commanding r i cs' w out ≡ commandedFace i cs f w out input
   unfolding commandedFace
   command-wrong cs' r h d e = rw (← is, h, d, e)
 
   pub command-done : (s : Session) (o : Outcome) (i' cs' : List ℕ) (w' : World) (out' : List ℕ) (r : ℕ) → wrong ≡ false → s ≡ sessionOf i
-      → after o w' out' ≡ commanded s f w out input → i' ≡ sets i 0 (imageOf (o .session)) → cs' ≡ counted cs (o .read) (o .written) → r ≡ numberOf (o .answer)
+      → after o w' out' ≡ commanded s f w out input → i' ≡ sets i 0 (imageOf (o .session)) → cs' ≡ countsStored cs (o .read) (o .written) → r ≡ numberOf (o .answer)
       → commanding r i' cs' w' out' ≡ commandedFace i cs f w out input
   unfolding commandedFace
   command-done s o i' cs' w' out' r h d e q k n =

@@ -52,18 +52,18 @@ abbrev pub commanding : ℕ → List ℕ → List ℕ → World → List ℕ →
 commanding a i c w o = record { answer = a; image = i; counts = c; world = w; output = o }
 
 -- bytes read, bytes written: stored at every answer; counts of another length are left as they are
-unfoldable pub counted : List ℕ → ℕ → ℕ → List ℕ
-counted counts read written = cond (countsWrong counts) counts (read ∷ written ∷ [])
+unfoldable pub countsStored : List ℕ → ℕ → ℕ → List ℕ
+countsStored counts read written = cond (countsWrong counts) counts (read ∷ written ∷ [])
 
 abbrev pub commandingOf : List ℕ → After → CommandedFace
 commandingOf counts o =
-    commanding (numberOf (o .outcome .answer)) (imageOf (o .outcome .session)) (counted counts (o .outcome .read) (o .outcome .written)) (o .world)
+    commanding (numberOf (o .outcome .answer)) (imageOf (o .outcome .session)) (countsStored counts (o .outcome .read) (o .outcome .written)) (o .world)
     (o .output)
 
 unfoldable pub commandedFace : List ℕ → List ℕ → List ℕ → World → List ℕ → List ℕ → CommandedFace
 commandedFace image counts font w output input =
     cond (imageWrong image || countsWrong counts)
-    (commanding (numberOf Lengths) image (counted counts 0 0) w output)
+    (commanding (numberOf Lengths) image (countsStored counts 0 0) w output)
     (commandingOf counts (commanded (sessionOf image) font w output input))
 
 -- ---- a label

@@ -1,7 +1,7 @@
 // The three calls. Each is the station's on the session of the image; an image of another length is [1], and nothing is touched.
 ghost use mathlib.Core.Path.{_≡_};
 ghost use Rattle.session.specs.Lent.{world};
-ghost use Rattle.face.specs.Face.{counted, opening, commanding, labelling, openedFace, commandedFace, labelledFace};
+ghost use Rattle.face.specs.Face.{countsStored, opening, commanding, labelling, openedFace, commandedFace, labelledFace};
 use crate::image::IMAGE;
 use crate::image::decode;
 use crate::image::encode;
@@ -11,7 +11,7 @@ use values::bytes::either;
 
 // Bytes read and bytes written, at every answer; counts of another length are left as they are.
 fn store_counts(counts: &mut [u64], read: usize, written: usize)
-    ensures { λ _. ⌜ now (counts .exit) ≡ counted (now (counts .entry)) read written ⌝ }
+    ensures { λ _. ⌜ now (counts .exit) ≡ countsStored (now (counts .entry)) read written ⌝ }
 {
     if counts.len() == 2 {
         counts[0] = read as u64;

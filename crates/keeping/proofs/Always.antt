@@ -11,7 +11,7 @@ use Rattle.running.specs.World.{State}
 use Rattle.station.specs.Station.{opened, commanded, labelledBy}
 use Rattle.keeping.specs.Good.{Good}
 use Rattle.keeping.specs.Tens.{Tens}
-use Rattle.keeping.specs.Calls.{Call, command, label, called, after, openedState}
+use Rattle.keeping.specs.Calls.{Call, command, label, called, through, openedState}
 use Rattle.keeping.proofs.Layers.{good-sound}
 use Rattle.keeping.proofs.Opening.{opened-good, opened-tens}
 use Rattle.keeping.proofs.Labels.{label-good, label-tens}
@@ -33,16 +33,16 @@ called-good st (label font page) g = record {
   tens = label-tens (st .session) (st .world) (g .good) (g .tens) font page;
 }
 
-pub after-good : (st : State) (cs : List Call) → GoodState st → GoodState (after st cs)
-after-good st [] g = g
-after-good st (c ∷ cs) g = after-good (called st c) cs (called-good st c g)
+pub through-good : (st : State) (cs : List Call) → GoodState st → GoodState (through st cs)
+through-good st [] g = g
+through-good st (c ∷ cs) g = through-good (called st c) cs (called-good st c g)
 
 module _ (page : List ℕ) (w : World) (taken : opened page w .outcome .answer ≡ Taken) (cs : List Call) where
   abbrev then : State
-  then = after (openedState page w) cs
+  then = through (openedState page w) cs
 
   pub always-good : GoodState then
-  always-good = after-good (openedState page w) cs (record { good = opened-good page w taken; tens = opened-tens page w })
+  always-good = through-good (openedState page w) cs (record { good = opened-good page w taken; tens = opened-tens page w })
 
   pub always-sound : sound (then .session) (then .world) ≡ true
   always-sound = good-sound (then .session) (then .world) (always-good .good)

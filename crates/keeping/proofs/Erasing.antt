@@ -85,10 +85,10 @@ module _ (s : Session) (w : World) (g : Good s w) (z : s .owed ≡ 0) where
       go (eqb (s .active) i) refl (good-ended s w g z (erasedAt (memoryOf w) i) (v .sound) (v .long-directory) c)
       (λ ne. good-moved s w g z (erasedAt (memoryOf w) i) i nothing v (a .0) refl (λ q k. ne q))
     where
-      go : (b : Bool) → eqb (s .active) i ≡ b → Good (inactive s (erasedNamed w false (At i)) .session) (inactive s (erasedNamed w false (At i)) .world)
-          → ((s .active ≡ i → ⊥) → Good s (erasedNamed w false (At i)))
-          → Good (pickState b (inactive s (erasedNamed w false (At i))) (state s (erasedNamed w false (At i))) .session)
-          (pickState b (inactive s (erasedNamed w false (At i))) (state s (erasedNamed w false (At i))) .world)
+      go : (b : Bool) → eqb (s .active) i ≡ b → Good (inactive s (erasedNamed w (At i)) .session) (inactive s (erasedNamed w (At i)) .world)
+          → ((s .active ≡ i → ⊥) → Good s (erasedNamed w (At i)))
+          → Good (pickState b (inactive s (erasedNamed w (At i))) (state s (erasedNamed w (At i))) .session)
+          (pickState b (inactive s (erasedNamed w (At i))) (state s (erasedNamed w (At i))) .world)
       go true q x y = x
       go false q x y = y (eqb-false (s .active) i q)
   erased-form n Nothing e = go (eqb (s .active) 65535) (good-ended s w g z (memoryOf w) (g .store) refl (g .contents))
@@ -113,7 +113,7 @@ module _ (s : Session) (w : World) (g : Good s w) (z : s .owed ≡ 0) where
       go true = erased-forms
       go false = erased-form (packedOf line (n .at) (n .length)) (named w false line n) refl
 
-  erased-picture : (n : List ℕ) (f : Found) → titledAt (w .directory) true n ≡ f → Good s (erasedNamed w true f)
+  erased-picture : (n : List ℕ) (f : Found) → titledAt (w .directory) true n ≡ f → Good s (erasedNamed w f)
   erased-picture n (At i) e =
       let a = named-is (w .directory) true n i e in
       let v = erasedAt-moved s w g i (a .0) (some-kind true (kind (entry (w .directory) i)) (a .1)) in
@@ -131,6 +131,6 @@ module _ (s : Session) (w : World) (g : Good s w) (z : s .owed ≡ 0) where
       → Good (runs font w s line more (ErasePicture n) .session) (runs font w s line more (ErasePicture n) .world)
   keeps-erase-picture font line more n = go (n .all)
     where
-      go : (b : Bool) → Good s (cond b (erasedEvery w true) (erasedNamed w true (named w true line n)))
+      go : (b : Bool) → Good s (cond b (erasedEvery w true) (erasedNamed w (named w true line n)))
       go true = erased-pictures
       go false = erased-picture (packedOf line (n .at) (n .length)) (named w true line n) refl

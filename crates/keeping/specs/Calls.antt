@@ -16,9 +16,10 @@ called st (command font output input) =
     state (commanded (st .session) font (st .world) output input .outcome .session) (commanded (st .session) font (st .world) output input .world)
 called st (label font page) = state (labelledBy (st .session) font (st .world) page .outcome .session) (st .world)
 
-abbrev pub after : State → List Call → State
-after st [] = st
-after st (c ∷ cs) = after (called st c) cs
+-- what calls leave, one after another
+abbrev pub through : State → List Call → State
+through st [] = st
+through st (c ∷ cs) = through (called st c) cs
 
 -- what opening leaves
 abbrev pub openedState : List ℕ → World → State

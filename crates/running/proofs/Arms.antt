@@ -192,17 +192,17 @@ place-in f d picture t h e =
 -- ---- erasing
 
 pub erased-by :
-    (f : Found) (p : Bool) (b v s l d s' l' d' : List ℕ) →
-    world [] s' l' d' [] ≡ erasedNamed (world [] s l d []) false f → world b s' l' d' v ≡ erasedNamed (world b s l d v) p f
-erased-by (At i) p b v s l d s' l' d' e = ap (λ (w : World). world b (w .store) (w .links) (w .directory) v) e
-erased-by Nothing p b v s l d s' l' d' e = ap (λ (w : World). world b (w .store) (w .links) (w .directory) v) e
+    (f : Found) (b v s l d s' l' d' : List ℕ) →
+    world [] s' l' d' [] ≡ erasedNamed (world [] s l d []) f → world b s' l' d' v ≡ erasedNamed (world b s l d v) f
+erased-by (At i) b v s l d s' l' d' e = ap (λ (w : World). world b (w .store) (w .links) (w .directory) v) e
+erased-by Nothing b v s l d s' l' d' e = ap (λ (w : World). world b (w .store) (w .links) (w .directory) v) e
 
 pub erased-unset :
-    (f : Found) (p : Bool) (b v s l d s' l' d' : List ℕ) →
-    world [] s' l' d' [] ≡ erasedNamed (world [] s l d []) false f →
-    world b s' l' d' (unset v) ≡ unsetIn (erasedNamed (world b s l d v) p f)
-erased-unset (At i) p b v s l d s' l' d' e = ap (λ (w : World). world b (w .store) (w .links) (w .directory) (unset v)) e
-erased-unset Nothing p b v s l d s' l' d' e = ap (λ (w : World). world b (w .store) (w .links) (w .directory) (unset v)) e
+    (f : Found) (b v s l d s' l' d' : List ℕ) →
+    world [] s' l' d' [] ≡ erasedNamed (world [] s l d []) f →
+    world b s' l' d' (unset v) ≡ unsetIn (erasedNamed (world b s l d v) f)
+erased-unset (At i) b v s l d s' l' d' e = ap (λ (w : World). world b (w .store) (w .links) (w .directory) (unset v)) e
+erased-unset Nothing b v s l d s' l' d' e = ap (λ (w : World). world b (w .store) (w .links) (w .directory) (unset v)) e
 
 -- an erasure and a print in a memory are those in the lists around it
 pub erase-form-in :
@@ -210,20 +210,20 @@ pub erase-form-in :
     onForms b o
     (ranBy a s (world [] st l d v) []
     (pickState p (inactive s (erasedEvery (world [] st l d v) false))
-    (pickState q (inactive s (erasedNamed (world [] st l d v) false f)) (state s (erasedNamed (world [] st l d v) false f)))) [])
+    (pickState q (inactive s (erasedNamed (world [] st l d v) f)) (state s (erasedNamed (world [] st l d v) f)))) [])
     ≡ ranBy a s (world b st l d v) o
     (pickState p (inactive s (erasedEvery (world b st l d v) false))
-    (pickState q (inactive s (erasedNamed (world b st l d v) false f)) (state s (erasedNamed (world b st l d v) false f)))) []
+    (pickState q (inactive s (erasedNamed (world b st l d v) f)) (state s (erasedNamed (world b st l d v) f)))) []
 erase-form-in a true q f s b st l d v o =
     cond-map (onForms b o) (isTaken a) (ran (done Taken (activated s 65535) 0) (unsetIn (erasedEvery (world [] st l d v) false)) [])
     (ran (done a s 0) (world [] st l d v) [])
 erase-form-in a false true (At i) s b st l d v o =
-    cond-map (onForms b o) (isTaken a) (ran (done Taken (activated s 65535) 0) (unsetIn (erasedNamed (world [] st l d v) false (At i))) [])
+    cond-map (onForms b o) (isTaken a) (ran (done Taken (activated s 65535) 0) (unsetIn (erasedNamed (world [] st l d v) (At i))) [])
     (ran (done a s 0) (world [] st l d v) [])
 erase-form-in a false true Nothing s b st l d v o =
     cond-map (onForms b o) (isTaken a) (ran (done Taken (activated s 65535) 0) (unsetIn (world [] st l d v)) []) (ran (done a s 0) (world [] st l d v) [])
 erase-form-in a false false (At i) s b st l d v o =
-    cond-map (onForms b o) (isTaken a) (ran (done Taken s 0) (erasedNamed (world [] st l d v) false (At i)) []) (ran (done a s 0) (world [] st l d v) [])
+    cond-map (onForms b o) (isTaken a) (ran (done Taken s 0) (erasedNamed (world [] st l d v) (At i)) []) (ran (done a s 0) (world [] st l d v) [])
 erase-form-in a false false Nothing s b st l d v o =
     cond-map (onForms b o) (isTaken a) (ran (done Taken s 0) (world [] st l d v) []) (ran (done a s 0) (world [] st l d v) [])
 
@@ -231,13 +231,13 @@ pub erase-picture-in :
     (a : Answer) (p : Bool) (f : Found) (s : Session) (b st l d v o : List ℕ) →
     onMemory b v o
     (ranBy a s (world [] st l d []) []
-    (state s (cond p (erasedEvery (world [] st l d []) true) (erasedNamed (world [] st l d []) true f))) [])
+    (state s (cond p (erasedEvery (world [] st l d []) true) (erasedNamed (world [] st l d []) f))) [])
     ≡ ranBy a s (world b st l d v) o
-    (state s (cond p (erasedEvery (world b st l d v) true) (erasedNamed (world b st l d v) true f))) []
+    (state s (cond p (erasedEvery (world b st l d v) true) (erasedNamed (world b st l d v) f))) []
 erase-picture-in a true f s b st l d v o =
     cond-map (onMemory b v o) (isTaken a) (ran (done Taken s 0) (erasedEvery (world [] st l d []) true) []) (ran (done a s 0) (world [] st l d []) [])
 erase-picture-in a false (At i) s b st l d v o =
-    cond-map (onMemory b v o) (isTaken a) (ran (done Taken s 0) (erasedNamed (world [] st l d []) true (At i)) []) (ran (done a s 0) (world [] st l d []) [])
+    cond-map (onMemory b v o) (isTaken a) (ran (done Taken s 0) (erasedNamed (world [] st l d []) (At i)) []) (ran (done a s 0) (world [] st l d []) [])
 erase-picture-in a false Nothing s b st l d v o =
     cond-map (onMemory b v o) (isTaken a) (ran (done Taken s 0) (world [] st l d []) []) (ran (done a s 0) (world [] st l d []) [])
 

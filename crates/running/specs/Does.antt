@@ -83,9 +83,9 @@ abbrev pub endedAt : World → ℕ → World
 endedAt w i = world (w .background) (w .store) (w .links) (finished (w .directory) i) (w .values)
 
 -- ---- FK and GK
-abbrev pub erasedNamed : World → Bool → Found → World
-erasedNamed w picture (At i) = withMemory w (erasedAt (memoryOf w) i)
-erasedNamed w picture Nothing = w
+abbrev pub erasedNamed : World → Found → World
+erasedNamed w (At i) = withMemory w (erasedAt (memoryOf w) i)
+erasedNamed w Nothing = w
 
 abbrev pub erasedEvery : World → Bool → World
 erasedEvery w picture = withMemory w (erasedAll picture (memoryOf w))
@@ -99,7 +99,7 @@ abbrev pub inactive : Session → World → State
 inactive s w = state (activated s 65535) (unsetIn w)
 
 abbrev pub erasedForm : Session → World → Found → State
-erasedForm s w found = pickState (eqb (s .active) (placeOf found)) (inactive s (erasedNamed w false found)) (state s (erasedNamed w false found))
+erasedForm s w found = pickState (eqb (s .active) (placeOf found)) (inactive s (erasedNamed w found)) (state s (erasedNamed w found))
 
 -- ---- while the form of entry i is recorded
 abbrev pub records : World → Session → List ℕ → ℕ → Command → State
@@ -138,7 +138,7 @@ runs font w s line more (PrintForm n) = state s w
 runs font w s line more (Store p) = state s (withMemory w (kept (memoryOf w) 2 (packedOf line (p .at) (p .length)) more))
 runs font w s line more ListPictures = state s w
 runs font w s line more (ErasePicture n) =
-    state s (cond (n .all) (erasedEvery w true) (erasedNamed w true (named w true line n)))
+    state s (cond (n .all) (erasedEvery w true) (erasedNamed w (named w true line n)))
 runs font w s line more (SetVariable v) =
     state s (withValues w (variableEntered (activeDeclared w s) (v .n) (textOf line (v .at) (v .length)) (w .values) .values))
 runs font w s line more (SetCounter c) =

@@ -126,8 +126,8 @@ fn end_form(session: Session, directory: &mut [u8], i: usize) -> Done
     taken(session)
 }
 
-// A command while the form of entry i is recorded.
-pub fn record(
+// A command while the form of entry i is recorded. `on_command` asks, for a command that was read from this line, whose normal form is short.
+pub(crate) fn record(
     session: Session,
     command: Command,
     line: &[u8],

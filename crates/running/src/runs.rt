@@ -233,7 +233,7 @@ fn retrieve(session: Session, line: &[u8], n: Named, directory: &[u8], values: &
 
 // The memory without an entry that was found.
 fn erase_found(store: &mut [u8], links: &mut [u16], directory: &mut [u8], found: Found)
-    ensures { λ _. ⌜ world [] (now (store .exit)) (now (links .exit)) (now (directory .exit)) [] ≡ erasedNamed (world [] (now (store .entry)) (now (links .entry)) (now (directory .entry)) []) false found ⌝ }
+    ensures { λ _. ⌜ world [] (now (store .exit)) (now (links .exit)) (now (directory .exit)) [] ≡ erasedNamed (world [] (now (store .entry)) (now (links .entry)) (now (directory .entry)) []) found ⌝ }
 {
     match found {
         Found::At(i) => {
@@ -494,7 +494,8 @@ fn whiten(session: Session, background: &mut [u8], values: &mut [u8]) -> Done
 
 // ---- a command
 
-pub fn run(
+// `on_command` asks, for a command that was read from this line, so that its numbers are within their limits.
+pub(crate) fn run(
     session: Session,
     command: Command,
     font: &[u8],

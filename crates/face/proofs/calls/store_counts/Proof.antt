@@ -1,4 +1,4 @@
-use Rattle.face.proofs.Called.{counted-two, counted-other}
+use Rattle.face.proofs.Called.{counts-two, counts-other}
 use borrow.Author.Needs.{needs}
 use Rattle.face.proofs.calls.store_counts.Statement.{statement}
 use Rattle.face.proofs.calls.store_counts.Tie as tie
@@ -13,10 +13,10 @@ same-length : tie.Need-same-length
 same-length c = search needs
 
 returns : tie.Need-returns
-returns c = counted-two _ _ _ (c .if1 .taken)
+returns c = counts-two _ _ _ (c .if1 .taken)
 
 returns-2 : tie.Need-returns-2
-returns-2 c = counted-other _ _ _ (c .if1 .left)
+returns-2 c = counts-other _ _ _ (c .if1 .left)
 
 pub store-counts-spec : {M : Type 1} → statement M
 store-counts-spec =

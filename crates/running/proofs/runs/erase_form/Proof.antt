@@ -80,7 +80,7 @@ returns-3 c = rw (
   eq-eqb _ _ (c .before .before .before .before .if3 .taken),
 )
     (ap (inWorld _ _)
-    (erased-unset (c .before .before .before .before .before .before .before .before .before .before .before .before .before .before .before .before .before .before .before .entry-of .result) false _ _ (c .before .before .before .before .before .before .before .before .before .before .before .before .before .before .before .before .before .before .before .before .before .before .before .before .before .before .args .store .now) (c .before .before .before .before .before .before .before .before .before .before .before .before .before .before .before .before .before .before .before .before .before .before .before .before .before .before .args .links .now) (c .before .before .before .before .before .before .before .before .before .before .before .before .before .before .before .before .before .before .before .before .before .before .before .before .before .before .args .directory .now) _ _ _ (c .before .before .before .before .before .before .before .before .before .before .before .erase-found .ensures)))
+    (erased-unset (c .before .before .before .before .before .before .before .before .before .before .before .before .before .before .before .before .before .before .before .entry-of .result) _ _ (c .before .before .before .before .before .before .before .before .before .before .before .before .before .before .before .before .before .before .before .before .before .before .before .before .before .before .args .store .now) (c .before .before .before .before .before .before .before .before .before .before .before .before .before .before .before .before .before .before .before .before .before .before .before .before .before .before .args .links .now) (c .before .before .before .before .before .before .before .before .before .before .before .before .before .before .before .before .before .before .before .before .before .before .before .before .before .before .args .directory .now) _ _ _ (c .before .before .before .before .before .before .before .before .before .before .before .erase-found .ensures)))
 
 taken-requires : tie.Need-taken-requires
 taken-requires c κs = search needs
@@ -98,7 +98,7 @@ returns-4 : tie.Need-returns-4
 unfolding answerOf isTaken numberOf
 returns-4 c = rw (c .taken .ensures, ← c .before .before .before .before .before .before .before .before .before .before .before .before .before .before .before .before .entry-of .ensures, ← c .before .before .before .before .before .before .before .before .before .before .before .before .before .before .before .is-missing .ensures, c .before .before .before .before .before .before .before .before .before .before .before .before .before .before .if1 .left, c .before .before .before .before .before .before .before .before .before .before .before .before .before .if2 .left, ← c .before .before .before .before .before .before .before .before .before .before .before .before .place-of .ensures, ne-eqb _ _ (c .before .if3 .left))
     (ap (inWorld _ _)
-    (erased-by (c .before .before .before .before .before .before .before .before .before .before .before .before .before .before .before .before .entry-of .result) false _ _ (c .before .before .before .before .before .before .before .before .before .before .before .before .before .before .before .before .before .before .before .before .before .before .before .args .store .now) (c .before .before .before .before .before .before .before .before .before .before .before .before .before .before .before .before .before .before .before .before .before .before .before .args .links .now) (c .before .before .before .before .before .before .before .before .before .before .before .before .before .before .before .before .before .before .before .before .before .before .before .args .directory .now) _ _ _ (c .before .before .before .before .before .before .before .before .erase-found .ensures)))
+    (erased-by (c .before .before .before .before .before .before .before .before .before .before .before .before .before .before .before .before .entry-of .result) _ _ (c .before .before .before .before .before .before .before .before .before .before .before .before .before .before .before .before .before .before .before .before .before .before .before .args .store .now) (c .before .before .before .before .before .before .before .before .before .before .before .before .before .before .before .before .before .before .before .before .before .before .before .args .links .now) (c .before .before .before .before .before .before .before .before .before .before .before .before .before .before .before .before .before .before .before .before .before .before .before .args .directory .now) _ _ _ (c .before .before .before .before .before .before .before .before .erase-found .ensures)))
 
 pub erase-form-spec : {M : Type 1} → statement M
 erase-form-spec = tie.close (tie.spec entry-of-requires is-missing-requires answered-requires same-length returns erase-all-requires activate-requires same-length-2 same-length-3 same-length-4 same-length-5 returns-2 place-of-requires erase-found-requires activate-requires-2 same-length-6 same-length-7 same-length-8 same-length-9 returns-3 taken-requires same-length-10 same-length-11 same-length-12 returns-4)

@@ -60,7 +60,7 @@ returns-3 : tie.Need-returns-3
 unfolding answerOf isTaken numberOf
 returns-3 c = rw (c .taken2 .ensures, ← c .before .before .before .before .before .before .before .before .before .before .before .before .before .before .entry-of .ensures, ← c .before .before .before .before .before .before .before .before .before .before .before .before .before .is-missing .ensures, c .before .before .before .before .before .before .before .before .before .before .before .before .if1 .left, c .before .before .before .before .before .before .before .before .before .before .before .if2 .left)
     (ap (inWorld _ _)
-    (erased-by (c .before .before .before .before .before .before .before .before .before .before .before .before .before .before .entry-of .result) true _ _ (c .before .before .before .before .before .before .before .before .before .before .before .before .before .before .before .before .before .before .before .before .args .store .now) (c .before .before .before .before .before .before .before .before .before .before .before .before .before .before .before .before .before .before .before .before .args .links .now) (c .before .before .before .before .before .before .before .before .before .before .before .before .before .before .before .before .before .before .before .before .args .directory .now) _ _ _ (c .before .before .before .before .before .before .before .erase-found .ensures)))
+    (erased-by (c .before .before .before .before .before .before .before .before .before .before .before .before .before .before .entry-of .result) _ _ (c .before .before .before .before .before .before .before .before .before .before .before .before .before .before .before .before .before .before .before .before .args .store .now) (c .before .before .before .before .before .before .before .before .before .before .before .before .before .before .before .before .before .before .before .before .args .links .now) (c .before .before .before .before .before .before .before .before .before .before .before .before .before .before .before .before .before .before .before .before .args .directory .now) _ _ _ (c .before .before .before .before .before .before .before .erase-found .ensures)))
 
 pub erase-picture-spec : {M : Type 1} → statement M
 erase-picture-spec = tie.close (tie.spec entry-of-requires is-missing-requires answered-requires same-length returns erase-all-requires taken-requires same-length-2 same-length-3 same-length-4 returns-2 erase-found-requires taken-requires-2 same-length-5 same-length-6 same-length-7 returns-3)
