@@ -1,6 +1,11 @@
 -- A line that may not stand in a form holds nothing, so that whether it may need not be asked before it is read.
-use mathlib.Core.Path.{_≡_, refl}
-use mathlib.Core.Bool.{Bool, true, false, _&&_}
+use mathlib.Core.Path.{_≡_, _∙_, refl}
+use mathlib.Core.Bool.{Bool, true, false, cond, _&&_}
+use mathlib.Core.List.{List}
+use Prim.Native.Nat.{ℕ}
+use lib.ListN.{length}
+use lib.Dec.{leb}
+use Rattle.read.specs.Commands.{readOf}
 use Rattle.read.specs.declared.Command.the-variants.{
   Item as item,
   Length,
@@ -21,11 +26,13 @@ use Rattle.read.specs.declared.Command.the-variants.{
   Print,
   White,
 }
+use Rattle.read.specs.declared.Fault.{Fault}
+use Rattle.read.specs.declared.Fault.the-variants.{Form as form}
 use Rattle.read.specs.declared.Read.{Read}
 use Rattle.read.specs.declared.Read.the-variants.{Taken, Refused}
-use Rattle.written.specs.Written.{takenItem}
+use Rattle.written.specs.Written.{takenItem, isNormal, isOwn, ownRead, equal, normal}
 use Rattle.forms.specs.declared.Stored.the-variants.{Nothing}
-use Rattle.forms.specs.Form.{heldRead, pickStored}
+use Rattle.forms.specs.Form.{itemIn, heldRead, pickStored}
 
 neither : (b : Bool) → Nothing ≡ pickStored b Nothing Nothing
 neither true = refl
@@ -52,6 +59,16 @@ own-read b (Taken (Print x)) = neither b
 own-read b (Taken White) = neither b
 own-read b (Refused f) = neither b
 
-pub standing : (l b : Bool) (r : Read) → pickStored (l && (takenItem r && b)) (heldRead r) Nothing ≡ pickStored (l && b) (heldRead r) Nothing
+standing : (l b : Bool) (r : Read) → pickStored (l && (takenItem r && b)) (heldRead r) Nothing ≡ pickStored (l && b) (heldRead r) Nothing
 standing true b r = own-read b r
 standing false b r = refl
+
+held-own : (b : Bool) (r : Read) (f : Fault) → pickStored b (heldRead r) Nothing ≡ heldRead (cond b r (Refused f))
+held-own true r f = refl
+held-own false r f = refl
+
+-- what a stored line holds, it holds as it is read where it is its own normal form
+pub item-own : (s : List ℕ) → itemIn s ≡ heldRead (ownRead s)
+unfolding itemIn isNormal ownRead isOwn
+item-own s =
+    standing (leb (length s) 255) (equal (normal s) s) (readOf 1 s) ∙ held-own (leb (length s) 255 && equal (normal s) s) (readOf 1 s) (form 0)

@@ -3,10 +3,9 @@ ghost use mathlib.Core.Path.{_≡_};
 ghost use mathlib.Core.Bool.{cond};
 ghost use Prim.Native.Nat.{suc, _≤_};
 ghost use lib.ListN.{length, take};
-ghost use Rattle.read.specs.Commands.{readOf};
 ghost use Rattle.store.specs.Content.{ahead, onward as onwardOf};
 ghost use Rattle.forms.specs.Walk.{lineIn, behind};
-ghost use Rattle.forms.specs.Form.{heldCommand, heldRead, itemIn};
+ghost use Rattle.forms.specs.Form.{heldCommand, itemIn};
 use crate::Stored;
 use read::Command;
 use read::Read;
@@ -40,24 +39,15 @@ fn held_command(c: Command) -> Stored
     }
 }
 
-fn held_line(line: &[u8]) -> Stored
-    ensures { λ r. ⌜ r ≡ heldRead (readOf 1 (now (line .entry))) ⌝ }
+// What a stored line holds. A line that may not stand in a form is read as nothing, so that reading it once tells both.
+pub(crate) fn stored_item(line: &[u8]) -> Stored
+    ensures { λ r. ⌜ r ≡ itemIn (now (line .entry)) ⌝ }
 {
-    let what = read::read_line(line, 1);
+    let what = written::own_line(line);
     match what {
         Read::Taken(c) => held_command(c),
         Read::Refused(_) => Stored::Nothing,
     }
-}
-
-// A line that may not stand in a form is read as nothing, so that reading it once tells both.
-pub(crate) fn stored_item(line: &[u8]) -> Stored
-    ensures { λ r. ⌜ r ≡ itemIn (now (line .entry)) ⌝ }
-{
-    if !written::is_own(line) {
-        return Stored::Nothing;
-    }
-    held_line(line)
 }
 
 // A reader one byte on.

@@ -8,7 +8,7 @@ use native.Mathlib.Numerals.{add-one}
 use native.Mathlib.Omega.{arith}
 use native.Mathlib.Decide.{decLt}
 use lib.Dec.{T, leb, ltb, eqb, leb→le, ltb→lt}
-use lib.ListN.{length, getD, set, take, drop, replicate, length-drop, drop-of-length-le, List·getD-eq-default}
+use lib.ListN.{length, getD, set, take, drop, replicate, length-append, length-take, length-drop, drop-of-length-le, List·getD-append, List·getD-eq-default}
 use lib.Seq.{take-all, drop-cons, drop-drop, getD-drop, sets, sets-eq}
 use Rattle.fit.specs.Bytes.{between}
 use Rattle.fields.specs.declared.Field.{Field}
@@ -17,8 +17,8 @@ use Rattle.fields.specs.declared.Limits.the-variants.{Within, Outside}
 use Rattle.fields.proofs.Laws.{and-T}
 use Rattle.read.specs.Grammar.{Form, forms, none, rowOf, boundsOf, spread, free, fieldAt, fieldsFrom, Got, good, bad, next, ahead, Filled, fieldLimits, firstOf, limitsFrom, isNumber}
 use Rattle.read.specs.Front.{sizeOf}
-use Rattle.read.specs.Codes.{bound, boundBy, codes, codeAt, formOf, codesOf}
-use Rattle.read.specs.Commands.{judged, decided, commandOf, itemOf, orderOf}
+use Rattle.read.specs.Codes.{bound, boundBy, codes, codeAt, filledUp, lineUp}
+use Rattle.read.specs.Commands.{judged, withinLimits, commandOf, itemOf, orderOf}
 use Rattle.read.specs.declared.Bounds.{Bounds}
 use Rattle.read.specs.declared.Fields.{Fields}
 use Rattle.read.specs.declared.Fields.the-variants.{All, Bad}
@@ -49,13 +49,26 @@ filled-up b d [] (suc n) (suc m) (suc k) h e = filled-up b d [] n m k (omega ari
 filled-up b d (x ∷ xs) (suc n) m zero h e = refl
 filled-up b d (x ∷ xs) (suc n) m (suc k) h e = filled-up b d xs n m k (omega arith) (omega arith)
 
-pub form-at : (row k : ℕ) (l : List ℕ) → l ≡ formOf row → k < 18 → getD l k 0 ≡ getD (rowOf row .fields) k 32
-unfolding formOf
-form-at row k l e h = rw e (filled-up 32 0 (rowOf row .fields) 18 18 k h (omega arith))
+filled-long : (b : ℕ) (l : List ℕ) → length (filledUp b l) ≡ 18
+filled-long b l = let h = length-take 18 (l ++ replicate 18 b) in let k = length-append l (replicate 18 b) in omega arith
 
-code-at : (row k : ℕ) (l : List ℕ) → l ≡ codesOf row → k < 18 → getD l k 0 ≡ codeAt row k
-unfolding codesOf
-code-at row k l e h = rw e (filled-up 45 0 (getD codes row []) 18 18 k h (omega arith))
+behind : (n k : ℕ) (a r : List ℕ) → length a ≡ n → getD (a ++ r) (n + k) 0 ≡ getD r k 0
+behind n k [] r h = let e : n + k ≡ k = omega arith in rw e
+behind n k (x ∷ xs) r h = let e : n + k ≡ suc (length xs + k) = omega arith in rw e (behind (length xs) k xs r refl)
+
+-- the form stands in front, the letters behind it
+pub form-at : (row k : ℕ) (l : List ℕ) → l ≡ lineUp row → k < 18 → getD l k 0 ≡ getD (rowOf row .fields) k 32
+unfolding lineUp
+form-at row k l e h =
+    let n = filled-long 32 (rowOf row .fields) in
+    rw (e, List·getD-append (filledUp 32 (rowOf row .fields)) (filledUp 45 (getD codes row [])) 0 k (omega arith))
+    (filled-up 32 0 (rowOf row .fields) 18 18 k h (omega arith))
+
+code-at : (row k : ℕ) (l : List ℕ) → l ≡ lineUp row → k < 18 → getD l (18 + k) 0 ≡ codeAt row k
+unfolding lineUp
+code-at row k l e h =
+    rw e (behind 18 k (filledUp 32 (rowOf row .fields)) (filledUp 45 (getD codes row [])) (filled-long 32 (rowOf row .fields)))
+    ∙ filled-up 45 0 (getD codes row []) 18 18 k h (omega arith)
 
 -- past the last row there is no form and no bounds
 pub above : (row n : ℕ) → n ≤ row → (row ≡ n → ⊥) → suc n ≤ row
@@ -65,13 +78,9 @@ above row n h k = go (decLt n row)
     go (yes j) = omega arith
     go (no j) = absurd (k (omega arith))
 
-pub no-form : (row : ℕ) → 28 ≤ row → formOf row ≡ replicate 18 32
-unfolding formOf
-no-form row h = rw (no-row row h)
-
-pub no-codes : (row : ℕ) → 28 ≤ row → codesOf row ≡ replicate 18 45
-unfolding codesOf
-no-codes row h = rw (List·getD-eq-default codes [] h)
+pub no-line : (row : ℕ) → 28 ≤ row → lineUp row ≡ replicate 18 32 ++ replicate 18 45
+unfolding lineUp
+no-line row h = rw (no-row row h, List·getD-eq-default codes [] h)
 
 -- what holds of each form and of none holds of each row
 every : (Form → Bool) → List Form → Bool
@@ -140,7 +149,7 @@ bound-right row i rows =
     ∙ mapped-at boundOf (boundsOf row rows) i free
 
 -- the bounds that the letters of a row give
-pub bounds-at : (row i rows : ℕ) (l : List ℕ) (b : Bounds) → l ≡ codesOf row → i < 18 → b ≡ boundBy (getD l i 0) rows
+pub bounds-at : (row i rows : ℕ) (l : List ℕ) (b : Bounds) → l ≡ lineUp row → i < 18 → b ≡ boundBy (getD l (18 + i) 0) rows
     → (b .low ≡ getD (boundsOf row rows) i free .0) × (b .high ≡ getD (boundsOf row rows) i free .1)
 bounds-at row i rows l b e h k =
     let m = k ∙ ap (λ c. boundBy c rows) (code-at row i l e h) ∙ bound-right row i rows in
@@ -299,7 +308,7 @@ judged-bad row rows s (good ws qs) r vs₀ ps₀ vs ps p h e = absurd (let z : _
 
 judged-fields : (row rows : ℕ) (s : List ℕ) (g : Got) (r : Fields) (vs ps : List ℕ) → fieldsFrom (rowOf row .fields) s 0 ≡ g
     → Filled g zeros zeros r vs ps → r ≡ All
-    → judged row rows s g ≡ decided (limitsFrom (rowOf row .fields) (boundsOf row rows) s 0 vs ps) (commandOf row s vs ps)
+    → judged row rows s g ≡ withinLimits row rows s vs ps
 unfolding judged
 judged-fields row rows s (bad q) r vs ps k h e = absurd (let z : _≡_ {A = ℕ} 0 1 = cc in omega arith)
 judged-fields row rows s (good ws qs) r vs ps k h e =
@@ -312,7 +321,7 @@ judged-fields row rows s (good ws qs) r vs ps k h e =
 pub judged-good : (row rows : ℕ) (s : List ℕ) (r : Fields) (vs ps : List ℕ)
     → Filled (fieldsFrom (rowOf row .fields) s 0) zeros zeros r vs ps → r ≡ All
     → judged row rows s (fieldsFrom (rowOf row .fields) s 0)
-    ≡ decided (limitsFrom (rowOf row .fields) (boundsOf row rows) s 0 vs ps) (commandOf row s vs ps)
+    ≡ withinLimits row rows s vs ps
 judged-good row rows s r vs ps h e = judged-fields row rows s (fieldsFrom (rowOf row .fields) s 0) r vs ps refl h e
 
 -- ---- the limits, field by field

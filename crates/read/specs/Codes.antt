@@ -75,12 +75,10 @@ codes =
 abbrev pub codeAt : ℕ → ℕ → ℕ
 codeAt row i = getD (getD codes row []) i 45
 
--- a row as the code keeps it: eighteen bytes, filled up with one that stands for no field and no bounds
+-- eighteen bytes, filled up with one that stands for no field and no bounds
 abbrev pub filledUp : ℕ → List ℕ → List ℕ
 filledUp b l = take 18 (l ++ replicate 18 b)
 
-unfoldable pub formOf : ℕ → List ℕ
-formOf row = filledUp 32 (rowOf row .fields)
-
-unfoldable pub codesOf : ℕ → List ℕ
-codesOf row = filledUp 45 (getD codes row [])
+-- the form of a row and the letters of its bounds, one behind the other
+unfoldable pub lineUp : ℕ → List ℕ
+lineUp row = filledUp 32 (rowOf row .fields) ++ filledUp 45 (getD codes row [])

@@ -141,11 +141,14 @@ abbrev pub decided : Limits → Command → Read
 decided Within c = Taken c
 decided (Outside p) c = Refused (Limit p)
 
+-- a row's fields of values vs at places ps, on a page of so many rows
+abbrev pub withinLimits : ℕ → ℕ → List ℕ → List ℕ → List ℕ → Read
+withinLimits row rows s vs ps = decided (limitsFrom (rowOf row .fields) (boundsOf row rows) s 0 vs ps) (commandOf row s vs ps)
+
 -- "the line has not the written form" comes before "a number, name or prompt outside its limits"
 unfoldable pub judged : ℕ → ℕ → List ℕ → Got → Read
 judged row rows s (bad p) = Refused (form p)
-judged row rows s (good vs ps) =
-    decided (limitsFrom (rowOf row .fields) (boundsOf row rows) s 0 vs ps) (commandOf row s vs ps)
+judged row rows s (good vs ps) = withinLimits row rows s vs ps
 
 unfoldable pub headed : Head → ℕ → List ℕ → Read
 headed Unknown rows s = Refused (form 0)

@@ -4,8 +4,7 @@ ghost use mathlib.Core.Bool.{_||_, cond};
 ghost use Rattle.fit.specs.Bytes.{between};
 ghost use Rattle.read.specs.Grammar.{rowOf, Form, boundsOf, named, starred, limited, isNumber, beyond, fieldLimits, limitsFrom};
 use crate::table::bound_by;
-use crate::table::codes_of;
-use crate::table::form_of;
+use crate::table::line_up;
 use fields::Class;
 use fields::Limits;
 
@@ -117,16 +116,15 @@ fn number_after(f: u8, v: usize, before: usize) -> usize
 pub fn row_limits(line: &[u8], row: usize, rows: usize, vs: [usize; 18], ps: [usize; 18]) -> Limits
     ensures { λ r. ⌜ r ≡ limitsFrom (rowOf row .fields) (boundsOf row rows) (now (line .entry)) 0 vs ps ⌝ }
 {
-    let form = form_of(row);
-    let codes = codes_of(row);
+    let up = line_up(row);
     let mut before: usize = 0;
     let mut i = 0;
     while i < 18 {
-        let f = form[i];
+        let f = up[i];
         if f == 32 {
             return Limits::Within;
         }
-        let b = bound_by(codes[i], rows);
+        let b = bound_by(up[18 + i], rows);
         let v = vs[i];
         let p = ps[i];
         if let Limits::Outside(fault) = field_limits(line, f, b.low, b.high, before, v, p) {

@@ -1,13 +1,13 @@
 // The fields of a line, one after another, and the judgement of the whole line.
 ghost use mathlib.Core.Path.{_≡_};
 ghost use Rattle.read.specs.Grammar.{rowOf, Form, fieldAt, fieldsFrom, Filled};
-ghost use Rattle.read.specs.Commands.{judged};
+ghost use Rattle.read.specs.Commands.{judged, withinLimits};
 use crate::Fault;
 use crate::Fields;
 use crate::Read;
 use crate::check::row_limits;
 use crate::orders::command_of;
-use crate::table::form_of;
+use crate::table::line_up;
 use fields::Class;
 use fields::Field;
 use fields::Limits;
@@ -36,11 +36,11 @@ fn field_at(line: &[u8], f: u8, at: usize) -> Field
 pub fn read_fields(line: &[u8], row: usize, vs: &mut [usize; 18], ps: &mut [usize; 18]) -> Fields
     ensures { λ r. ⌜ Filled (fieldsFrom (rowOf row .fields) (now (line .entry)) 0) (now (vs .entry)) (now (ps .entry)) r (now (vs .exit)) (now (ps .exit)) ⌝ }
 {
-    let form = form_of(row);
+    let up = line_up(row);
     let mut at = 0;
     let mut i = 0;
     while i < 18 {
-        let f = form[i];
+        let f = up[i];
         if f == 32 {
             break;
         }
@@ -63,6 +63,16 @@ pub fn read_fields(line: &[u8], row: usize, vs: &mut [usize; 18], ps: &mut [usiz
     }
 }
 
+// The line of a row whose fields are read: a command, or 7.
+pub fn within(line: &[u8], row: usize, rows: usize, vs: [usize; 18], ps: [usize; 18]) -> Read
+    ensures { λ r. ⌜ r ≡ withinLimits row rows (now (line .entry)) vs ps ⌝ }
+{
+    if let Limits::Outside(fault) = row_limits(line, row, rows, vs, ps) {
+        return Read::Refused(Fault::Limit(fault));
+    }
+    Read::Taken(command_of(line, row, vs, ps))
+}
+
 // The line of a row: the form comes before the limits.
 pub fn judge(line: &[u8], row: usize, rows: usize) -> Read
     ensures { λ r. ⌜ r ≡ judged row rows (now (line .entry)) (fieldsFrom (rowOf row .fields) (now (line .entry)) 0) ⌝ }
@@ -72,8 +82,5 @@ pub fn judge(line: &[u8], row: usize, rows: usize) -> Read
     if let Fields::Bad(fault) = read_fields(line, row, &mut vs, &mut ps) {
         return Read::Refused(Fault::Form(fault));
     }
-    if let Limits::Outside(fault) = row_limits(line, row, rows, vs, ps) {
-        return Read::Refused(Fault::Limit(fault));
-    }
-    Read::Taken(command_of(line, row, vs, ps))
+    within(line, row, rows, vs, ps)
 }

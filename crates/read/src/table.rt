@@ -1,80 +1,43 @@
-// The grammar as the code reads it: a row of eighteen bytes for each command, and beside it a letter for the bounds of each field. A row is read
-// once for a line: its eighteen bytes are quickly at hand, and a whole table would be copied each time.
+// The grammar as the code reads it: for each command the eighteen bytes of its form, and behind them a letter for the bounds of each field. A
+// row is read once for a line: its bytes are quickly at hand, and a whole table would be copied each time.
 ghost use mathlib.Core.Path.{_≡_};
-ghost use Rattle.read.specs.Codes.{formOf, codesOf, boundBy};
+ghost use Rattle.read.specs.Codes.{lineUp, boundBy};
 use crate::Bounds;
 
-// The form of a row, and spaces past its end.
-pub fn form_of(row: usize) -> [u8; 18]
-    ensures { λ r. ⌜ r ≡ formOf row ⌝ }
+// The form of a row, and spaces past its end; then the letters of its bounds.
+pub fn line_up(row: usize) -> [u8; 36]
+    ensures { λ r. ⌜ r ≡ lineUp row ⌝ }
 {
     match row {
-        0 => *b"Qn,n              ",
-        1 => *b"qn                ",
-        2 => *b"Rn,n              ",
-        3 => *b"ZT                ",
-        4 => *b"ZB                ",
-        5 => *b"LOn,n,n,n         ",
-        6 => *b"LEn,n,n,n         ",
-        7 => *b"LWn,n,n,n         ",
-        8 => *b"Xn,n,n,n,n        ",
-        9 => *b"An,n,n,n,n,m,d    ",
-        10 => *b"Bn,n,n,k,n,w,n,N,d",
-        11 => *b"GGn,n,a           ",
-        12 => *b"FSa               ",
-        13 => *b"FE                ",
-        14 => *b"FRa               ",
-        15 => *b"FKz               ",
-        16 => *b"GKz               ",
-        17 => *b"FI                ",
-        18 => *b"GI                ",
-        19 => *b"FPa               ",
-        20 => *b"GMa,n             ",
-        21 => *b"VC                ",
-        22 => *b"Vn,n,j,t          ",
-        23 => *b"Cn,n,s,t          ",
-        24 => *b"?Vn,u             ",
-        25 => *b"?Cn,n             ",
-        26 => *b"Pn                ",
-        27 => *b"N                 ",
-        _ => *b"                  ",
-    }
-}
-
-// The letters of a row's bounds.
-pub(crate) fn codes_of(row: usize) -> [u8; 18]
-    ensures { λ r. ⌜ r ≡ codesOf row ⌝ }
-{
-    match row {
-        0 => *b"-N-l--------------",
-        1 => *b"-m----------------",
-        2 => *b"-j-k--------------",
-        3 => *b"------------------",
-        4 => *b"------------------",
-        5 => *b"--a-a-b-b---------",
-        6 => *b"--a-a-b-b---------",
-        7 => *b"--a-a-b-b---------",
-        8 => *b"-a-c-d-a-c--------",
-        9 => *b"-a-c-e-f-g--------",
-        10 => *b"-a-c-e---f-h-i----",
-        11 => *b"--a-c-q-----------",
-        12 => *b"--q---------------",
-        13 => *b"------------------",
-        14 => *b"--q---------------",
-        15 => *b"--q---------------",
-        16 => *b"--q---------------",
-        17 => *b"------------------",
-        18 => *b"------------------",
-        19 => *b"--q---------------",
-        20 => *b"--q-r-------------",
-        21 => *b"------------------",
-        22 => *b"-n-o---p----------",
-        23 => *b"-n-g-s-p----------",
-        24 => *b"--n---------------",
-        25 => *b"--n-v-------------",
-        26 => *b"-t----------------",
-        27 => *b"------------------",
-        _ => *b"------------------",
+        0 => *b"Qn,n              -N-l--------------",
+        1 => *b"qn                -m----------------",
+        2 => *b"Rn,n              -j-k--------------",
+        3 => *b"ZT                ------------------",
+        4 => *b"ZB                ------------------",
+        5 => *b"LOn,n,n,n         --a-a-b-b---------",
+        6 => *b"LEn,n,n,n         --a-a-b-b---------",
+        7 => *b"LWn,n,n,n         --a-a-b-b---------",
+        8 => *b"Xn,n,n,n,n        -a-c-d-a-c--------",
+        9 => *b"An,n,n,n,n,m,d    -a-c-e-f-g--------",
+        10 => *b"Bn,n,n,k,n,w,n,N,d-a-c-e---f-h-i----",
+        11 => *b"GGn,n,a           --a-c-q-----------",
+        12 => *b"FSa               --q---------------",
+        13 => *b"FE                ------------------",
+        14 => *b"FRa               --q---------------",
+        15 => *b"FKz               --q---------------",
+        16 => *b"GKz               --q---------------",
+        17 => *b"FI                ------------------",
+        18 => *b"GI                ------------------",
+        19 => *b"FPa               --q---------------",
+        20 => *b"GMa,n             --q-r-------------",
+        21 => *b"VC                ------------------",
+        22 => *b"Vn,n,j,t          -n-o---p----------",
+        23 => *b"Cn,n,s,t          -n-g-s-p----------",
+        24 => *b"?Vn,u             --n---------------",
+        25 => *b"?Cn,n             --n-v-------------",
+        26 => *b"Pn                -t----------------",
+        27 => *b"N                 ------------------",
+        _ => *b"                  ------------------",
     }
 }
 

@@ -1,4 +1,5 @@
 pub mod Writes
+pub mod Own
 pub mod Back
 pub mod Data
 pub mod Fields

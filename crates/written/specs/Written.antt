@@ -39,6 +39,7 @@ use Rattle.read.specs.declared.Command.the-variants.{
   Print,
   White as Whiten,
 }
+use Rattle.read.specs.declared.Fault.the-variants.{Form as form}
 use Rattle.read.specs.declared.Read.{Read}
 use Rattle.read.specs.declared.Read.the-variants.{Taken, Refused}
 use Rattle.read.specs.declared.Head.{Head}
@@ -154,6 +155,10 @@ equal (x ∷ xs) (y ∷ ys) = eqb x y && equal xs ys
 -- at most 255 bytes, and its own normal form
 unfoldable pub isOwn : List ℕ → Bool
 isOwn s = leb (length s) 255 && equal (normal s) s
+
+-- such a line as it is read; any other is refused
+unfoldable pub ownRead : List ℕ → Read
+ownRead s = cond (isOwn s) (readOf 1 s) (Refused (form 0))
 
 -- at most 255 bytes, one of the lines that may stand in a form, and its own normal form (no such line depends on the rows of the page)
 unfoldable pub isNormal : List ℕ → Bool

@@ -1,7 +1,7 @@
 // The normal form of a line, as a form keeps it.
 //
 // Paper 01 keeps a recorded line with leading zeros dropped, names in capitals and signs written. `write` writes the normal form of a line
-// into lent memory, and `is_own` tells whether a line is its own normal form. The main theorem
+// into lent memory, and `own_line` reads a line that is its own normal form. The main theorem
 // (proofs/Round.antt): reading the normal form of any line that is taken gives the same command with the same contents, and its normal form
 // is itself, and no longer than a line may be. What a form does with its lines is said in the crates above.
 ghost use mathlib.Core.Path.{_≡_};
@@ -13,19 +13,22 @@ ghost use lib.Dec.{eqb};
 ghost use Rattle.fields.specs.Data.{elements};
 ghost use Rattle.read.specs.Names.{capital};
 ghost use Rattle.read.specs.Grammar.{rowOf, Form};
-ghost use Rattle.written.specs.Written.{Wrote, decimal, digits, signed, cased, kept, partWritten, whatWritten, elementWritten, dataWritten, writtenField, writtenFrom, normal, equal, isOwn};
+ghost use Rattle.written.specs.Written.{Wrote, decimal, digits, signed, cased, kept, partWritten, whatWritten, elementWritten, dataWritten, writtenField, writtenFrom, normal, equal, ownRead};
 use fields::Part;
 use fields::Step;
 use fields::What;
 use fields::element_at;
+use read::Fault;
 use read::Fields;
 use read::Head;
+use read::Read;
 use read::heads::head_of;
 use read::input::first;
 use read::input::rest;
 use read::lines::read_fields;
+use read::lines::within;
 use read::names::folded;
-use read::table::form_of;
+use read::table::line_up;
 
 // Stores a byte, if there is room, and answers the place after it.
 fn put(out: &mut [u8], at: usize, b: u8) -> usize
@@ -211,11 +214,11 @@ fn put_field(line: &[u8], f: u8, v: usize, p: usize, out: &mut [u8], at: usize) 
 fn put_row(line: &[u8], row: usize, vs: [usize; 18], ps: [usize; 18], out: &mut [u8]) -> usize
     ensures { λ r. ⌜ Wrote (now (out .entry)) 0 (writtenFrom (rowOf row .fields) (now (line .entry)) vs ps) r (now (out .exit)) ⌝ }
 {
-    let form = form_of(row);
+    let up = line_up(row);
     let mut place = 0;
     let mut i = 0;
     while i < 18 {
-        let f = form[i];
+        let f = up[i];
         if f == 32 {
             return place;
         }
@@ -268,14 +271,26 @@ fn same(a: &[u8], b: &[u8]) -> bool
     true
 }
 
-// Whether a line has at most 255 bytes and is its own normal form. Which lines may stand in a form, whoever reads the line knows.
-pub fn is_own(line: &[u8]) -> bool
-    ensures { λ r. ⌜ r ≡ isOwn (now (line .entry)) ⌝ }
+// Reads a line of at most 255 bytes that is its own normal form, and refuses any other; no line that may stand in a form asks for the rows of a
+// page. Its fields are read once: what they hold is written and compared, and then judged.
+pub fn own_line(line: &[u8]) -> Read
+    ensures { λ r. ⌜ r ≡ ownRead (now (line .entry)) ⌝ }
 {
     if 255 < line.len() {
-        return false;
+        return Read::Refused(Fault::Form(0));
+    }
+    let Head::Row(row) = head_of(fields::byte(line, 0), fields::byte(line, 1)) else {
+        return Read::Refused(Fault::Form(0));
+    };
+    let mut vs = [0usize; 18];
+    let mut ps = [0usize; 18];
+    if let Fields::Bad(_) = read_fields(line, row, &mut vs, &mut ps) {
+        return Read::Refused(Fault::Form(0));
     }
     let mut out = [0u8; 256];
-    let n = write(line, &mut out);
-    same(first(&out, n), line)
+    let n = put_row(line, row, vs, ps, &mut out);
+    if same(first(&out, n), line) {
+        return within(line, row, 1, vs, ps);
+    }
+    Read::Refused(Fault::Form(0))
 }

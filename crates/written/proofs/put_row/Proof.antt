@@ -11,13 +11,13 @@ use Rattle.written.proofs.put_row.Statement.{statement}
 use Rattle.written.proofs.put_row.Tie as tie
 
 abbrev Inv-loop : tie.InvT-loop
-Inv-loop line row out₀ vs ps form place₀ i₀ out place i = Rest out₀ 0 (writtenFrom (rowOf row .fields) line vs ps) out place (writtenFrom (drop i (rowOf row .fields)) line (drop i vs) (drop i ps))
+Inv-loop line row out₀ vs ps up place₀ i₀ out place i = Rest out₀ 0 (writtenFrom (rowOf row .fields) line vs ps) out place (writtenFrom (drop i (rowOf row .fields)) line (drop i vs) (drop i ps))
 
 abbrev μ-loop : tie.MeasureT-loop
-μ-loop line row out₀ vs ps form place₀ i₀ out place i = 18 - i
+μ-loop line row out₀ vs ps up place₀ i₀ out place i = 18 - i
 
-form-of-requires : tie.Need-form-of-requires Inv-loop μ-loop
-form-of-requires c κs = search needs
+line-up-requires : tie.Need-line-up-requires Inv-loop μ-loop
+line-up-requires c κs = search needs
 
 loop-holds : tie.Need-loop-holds Inv-loop μ-loop
 loop-holds c = rest-start (omega arith)
@@ -27,13 +27,13 @@ array-read-f c = search needs
 
 same-length : tie.Need-same-length Inv-loop μ-loop
 same-length c = let a = c .before .before .before .before .before .before .args in
-    let g = c .before .before .before .form-of in
+    let g = c .before .before .before .line-up in
     let l = c .before .before .loop in
     wrote-length (rest-done (rest-same (l .inv) (written-done (rowOf (a .row) .fields) (now (a .line)) (a .t3) (a .t4) (l .i) (out-row (a .row) (l .i) (getD (g .result) (l .i) 0) (form-at (a .row) (l .i) (g .result) (g .ensures) (c .before .loop-test .taken)) (c .if1 .taken)))))
 
 returns : tie.Need-returns Inv-loop μ-loop
 returns c = let a = c .before .before .before .before .before .before .args in
-    let g = c .before .before .before .form-of in
+    let g = c .before .before .before .line-up in
     let l = c .before .before .loop in
     rest-done (rest-same (l .inv) (written-done (rowOf (a .row) .fields) (now (a .line)) (a .t3) (a .t4) (l .i) (out-row (a .row) (l .i) (getD (g .result) (l .i) 0) (form-at (a .row) (l .i) (g .result) (g .ensures) (c .before .loop-test .taken)) (c .if1 .taken))))
 
@@ -60,7 +60,7 @@ loop-less c = search needs
 
 loop-again : tie.Need-loop-again Inv-loop μ-loop
 loop-again c = let a = c .before .before .before .before .before .before .before .before .before .before .args in
-    let g = c .before .before .before .before .before .before .before .form-of in
+    let g = c .before .before .before .before .before .before .before .line-up in
     let l = c .before .before .before .before .before .before .loop in
     let f = form-at (a .row) (l .i) (g .result) (g .ensures) (c .before .before .before .before .before .loop-test .taken) in
     let n = in-row (a .row) (l .i) (getD (g .result) (l .i) 0) f (c .before .before .before .before .if1 .left) in
@@ -82,7 +82,7 @@ put-row-spec =
     (tie.spec
     Inv-loop
     μ-loop
-    form-of-requires
+    line-up-requires
     loop-holds
     array-read-f
     same-length

@@ -11,16 +11,13 @@ use Rattle.read.proofs.check.row_limits.Statement.{statement}
 use Rattle.read.proofs.check.row_limits.Tie as tie
 
 abbrev Inv-loop : tie.InvT-loop
-Inv-loop line row rows vs ps form codes before₀ i₀ before i = limitsFrom (drop i (rowOf row .fields)) (drop i (boundsOf row rows)) line before (drop i vs) (drop i ps) ≡ limitsFrom (rowOf row .fields) (boundsOf row rows) line 0 vs ps
+Inv-loop line row rows vs ps up before₀ i₀ before i = limitsFrom (drop i (rowOf row .fields)) (drop i (boundsOf row rows)) line before (drop i vs) (drop i ps) ≡ limitsFrom (rowOf row .fields) (boundsOf row rows) line 0 vs ps
 
 abbrev μ-loop : tie.MeasureT-loop
-μ-loop line row rows vs ps form codes before₀ i₀ before i = 18 - i
+μ-loop line row rows vs ps up before₀ i₀ before i = 18 - i
 
-form-of-requires : tie.Need-form-of-requires Inv-loop μ-loop
-form-of-requires c κs = search needs
-
-codes-of-requires : tie.Need-codes-of-requires Inv-loop μ-loop
-codes-of-requires c κs = search needs
+line-up-requires : tie.Need-line-up-requires Inv-loop μ-loop
+line-up-requires c κs = search needs
 
 loop-holds : tie.Need-loop-holds Inv-loop μ-loop
 loop-holds c = refl
@@ -29,10 +26,13 @@ array-read-f : tie.Need-array-read-f Inv-loop μ-loop
 array-read-f c = search needs
 
 returns : tie.Need-returns Inv-loop μ-loop
-returns c = let a = c .before .before .before .before .before .before .args in
-    let g = c .before .before .before .before .form-of in
+returns c = let a = c .before .before .before .before .before .args in
+    let g = c .before .before .before .line-up in
     let l = c .before .before .loop in
     sym (limits-done (rowOf (a .row) .fields) (boundsOf (a .row) (a .rows)) (now (a .line)) (l .before) (a .t4) (a .t5) (l .i) (out-row (a .row) (l .i) (getD (g .result) (l .i) 0) (form-at (a .row) (l .i) (g .result) (g .ensures) (c .before .loop-test .taken)) (c .if1 .taken))) ∙ l .inv
+
+add-bound-by : tie.Need-add-bound-by Inv-loop μ-loop
+add-bound-by c = search needs
 
 array-read-bound-by : tie.Need-array-read-bound-by Inv-loop μ-loop
 array-read-bound-by c = search needs
@@ -60,13 +60,12 @@ enum-known-fault c = search needs
 
 returns-2 : tie.Need-returns-2 Inv-loop μ-loop
 unfolding fieldLimits
-returns-2 c = let a = c .before .before .before .before .before .before .before .before .before .before .before .args in
-    let g = c .before .before .before .before .before .before .before .before .before .form-of in
-    let k = c .before .before .before .before .before .before .before .before .codes-of in
+returns-2 c = let a = c .before .before .before .before .before .before .before .before .before .before .args in
+    let g = c .before .before .before .before .before .before .before .before .line-up in
     let l = c .before .before .before .before .before .before .before .loop in
     let t = c .before .before .before .before .before .before .loop-test .taken in
     let f = form-at (a .row) (l .i) (g .result) (g .ensures) t in
-    let b = bounds-at (a .row) (l .i) (a .rows) (k .result) (c .before .before .before .before .bound-by .result) (k .ensures) t (c .before .before .before .before .bound-by .ensures) in
+    let b = bounds-at (a .row) (l .i) (a .rows) (g .result) (c .before .before .before .before .bound-by .result) (g .ensures) t (c .before .before .before .before .bound-by .ensures) in
     sym (sym (l .inv) ∙ limits-out (rowOf (a .row) .fields) (boundsOf (a .row) (a .rows)) (now (a .line)) (l .before) (a .t4) (a .t5) (l .i) (in-row (a .row) (l .i) (getD (g .result) (l .i) 0) f (c .before .before .before .before .before .if1 .left)) _ (rw (← f, ← b .0, ← b .1, ← c .before .before .before .field-limits .ensures) (c .before .fault .given .1)))
 
 enum-told : tie.Need-enum-told Inv-loop μ-loop
@@ -83,17 +82,16 @@ loop-less c = search needs
 
 loop-again : tie.Need-loop-again Inv-loop μ-loop
 unfolding fieldLimits
-loop-again c = let a = c .before .before .before .before .before .before .before .before .before .before .before .args in
-    let g = c .before .before .before .before .before .before .before .before .before .form-of in
-    let k = c .before .before .before .before .before .before .before .before .codes-of in
+loop-again c = let a = c .before .before .before .before .before .before .before .before .before .before .args in
+    let g = c .before .before .before .before .before .before .before .before .line-up in
     let l = c .before .before .before .before .before .before .before .loop in
     let t = c .before .before .before .before .before .before .loop-test .taken in
     let f = form-at (a .row) (l .i) (g .result) (g .ensures) t in
-    let b = bounds-at (a .row) (l .i) (a .rows) (k .result) (c .before .before .before .before .bound-by .result) (k .ensures) t (c .before .before .before .before .bound-by .ensures) in
+    let b = bounds-at (a .row) (l .i) (a .rows) (g .result) (c .before .before .before .before .bound-by .result) (g .ensures) t (c .before .before .before .before .bound-by .ensures) in
     rw (c .number-after .ensures, f) (sym (limits-more (rowOf (a .row) .fields) (boundsOf (a .row) (a .rows)) (now (a .line)) (l .before) (a .t4) (a .t5) (l .i) (in-row (a .row) (l .i) (getD (g .result) (l .i) 0) f (c .before .before .before .before .before .if1 .left)) (rw (← f, ← b .0, ← b .1, ← c .before .before .before .field-limits .ensures) (c .before .enum-told .given .1))) ∙ l .inv)
 
 returns-3 : tie.Need-returns-3 Inv-loop μ-loop
-returns-3 c = let a = c .before .before .before .before .before .args in
+returns-3 c = let a = c .before .before .before .before .args in
     let l = c .before .loop in
     sym (limits-done (rowOf (a .row) .fields) (boundsOf (a .row) (a .rows)) (now (a .line)) (l .before) (a .t4) (a .t5) (l .i) (omega (arith, row-short (a .row)))) ∙ l .inv
 
@@ -103,11 +101,11 @@ row-limits-spec =
     (tie.spec
     Inv-loop
     μ-loop
-    form-of-requires
-    codes-of-requires
+    line-up-requires
     loop-holds
     array-read-f
     returns
+    add-bound-by
     array-read-bound-by
     bound-by-requires
     mul-v

@@ -19,39 +19,13 @@ returns c = let a = c .before .before .before .before .before .before .before .a
 enum-told : tie.Need-enum-told
 enum-told c = search needs
 
-row-limits-requires : tie.Need-row-limits-requires
-row-limits-requires c κs = search needs
-
-enum-known-fault-2 : tie.Need-enum-known-fault-2
-enum-known-fault-2 c = search needs
+within-requires : tie.Need-within-requires
+within-requires c κs = search needs
 
 returns-2 : tie.Need-returns-2
-returns-2 c = let a = c .before .before .before .before .before .before .before .before .before .before .args in
-    let f = c .before .before .before .before .before .before .read-fields in
-    sym (judged-good (a .row) (a .rows) (now (a .line)) (f .result) _ _ (f .ensures) (c .before .before .before .before .enum-told .given .1) ∙ rw (← c .before .before .before .row-limits .ensures, c .before .fault2 .given .1))
-
-enum-told-2 : tie.Need-enum-told-2
-enum-told-2 c = search needs
-
-command-of-requires : tie.Need-command-of-requires
-command-of-requires c κs = search needs
-
-returns-3 : tie.Need-returns-3
-returns-3 c = let a = c .before .before .before .before .before .before .before .before .before .before .args in
-    let f = c .before .before .before .before .before .before .read-fields in
-    sym (judged-good (a .row) (a .rows) (now (a .line)) (f .result) _ _ (f .ensures) (c .before .before .before .before .enum-told .given .1) ∙ rw (← c .before .before .before .row-limits .ensures, c .before .enum-told2 .given .1, c .command-of .ensures))
+returns-2 c = let a = c .before .before .before .before .before .before .before .args in
+    let f = c .before .before .before .read-fields in
+    c .within .ensures ∙ sym (judged-good (a .row) (a .rows) (now (a .line)) (f .result) _ _ (f .ensures) (c .before .enum-told .given .1))
 
 pub judge-spec : {M : Type 1} → statement M
-judge-spec =
-    tie.close
-    (tie.spec
-    read-fields-requires
-    enum-known-fault
-    returns
-    enum-told
-    row-limits-requires
-    enum-known-fault-2
-    returns-2
-    enum-told-2
-    command-of-requires
-    returns-3)
+judge-spec = tie.close (tie.spec read-fields-requires enum-known-fault returns enum-told within-requires returns-2)

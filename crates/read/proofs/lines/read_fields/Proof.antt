@@ -8,20 +8,20 @@ use lib.ListN.{length, getD, drop}
 use denote.Ref.{now}
 use borrow.Author.Tests.{eq-eqb, ne-eqb}
 use Rattle.read.specs.Grammar.{rowOf, good, bad}
-use Rattle.read.specs.Codes.{formOf}
+use Rattle.read.specs.Codes.{lineUp}
 use Rattle.read.proofs.Rows.{row-short, form-at, in-row, out-row, filled, filled-more, filled-stop, filled-done, filled-good, filled-bad}
 use borrow.Author.Needs.{needs}
 use Rattle.read.proofs.lines.read_fields.Statement.{statement}
 use Rattle.read.proofs.lines.read_fields.Tie as tie
 
 abbrev Inv-loop : tie.InvT-loop
-Inv-loop line row vs₀ ps₀ form at₀ i₀ vs ps at i = filled (drop i (rowOf row .fields)) line at i vs ps ≡ filled (rowOf row .fields) line 0 0 vs₀ ps₀
+Inv-loop line row vs₀ ps₀ up at₀ i₀ vs ps at i = filled (drop i (rowOf row .fields)) line at i vs ps ≡ filled (rowOf row .fields) line 0 0 vs₀ ps₀
 
 abbrev μ-loop : tie.MeasureT-loop
-μ-loop line row vs₀ ps₀ form at₀ i₀ vs ps at i = 18 - i
+μ-loop line row vs₀ ps₀ up at₀ i₀ vs ps at i = 18 - i
 
-form-of-requires : tie.Need-form-of-requires Inv-loop μ-loop
-form-of-requires c κs = search needs
+line-up-requires : tie.Need-line-up-requires Inv-loop μ-loop
+line-up-requires c κs = search needs
 
 loop-holds : tie.Need-loop-holds Inv-loop μ-loop
 loop-holds c = refl
@@ -54,12 +54,12 @@ loop-less : tie.Need-loop-less Inv-loop μ-loop
 loop-less c = search needs
 
 -- the byte of the form that the loop reads
-byte-of : (row i : ℕ) (form : List ℕ) → form ≡ formOf row → i < 18 → (getD form i 0 ≡ 32 → ⊥) → i < length (rowOf row .fields)
-byte-of row i form e h n = in-row row i (getD form i 0) (form-at row i form e h) n
+byte-of : (row i : ℕ) (up : List ℕ) → up ≡ lineUp row → i < 18 → (getD up i 0 ≡ 32 → ⊥) → i < length (rowOf row .fields)
+byte-of row i up e h n = in-row row i (getD up i 0) (form-at row i up e h) n
 
 loop-again : tie.Need-loop-again Inv-loop μ-loop
 loop-again c = let a = c .before .before .before .before .before .before .before .before .before .args in
-    let g = c .before .before .before .before .before .before .before .form-of in
+    let g = c .before .before .before .before .before .before .before .line-up in
     let l = c .before .before .before .before .before .before .loop in
     let t = c .before .before .before .before .before .loop-test .taken in
     sym (filled-more (rowOf (a .row) .fields) (now (a .line)) (l .at) (l .i) (l .vs) (l .ps) (c .before .v .given .0 .0) (c .before .v .given .0 .1 .0) (byte-of (a .row) (l .i) (g .result) (g .ensures) t (c .before .before .before .before .if1 .left)) (rw (← form-at (a .row) (l .i) (g .result) (g .ensures) t, ← c .before .before .before .field-at .ensures) (c .before .v .given .1))) ∙ l .inv
@@ -69,7 +69,7 @@ enum-known-fault c = search needs
 
 returns : tie.Need-returns Inv-loop μ-loop
 returns c = let a = c .before .before .before .before .before .before .before .before .before .args in
-    let g = c .before .before .before .before .before .before .before .form-of in
+    let g = c .before .before .before .before .before .before .before .line-up in
     let l = c .before .before .before .before .before .before .loop in
     let t = c .before .before .before .before .before .loop-test .taken in
     filled-bad (rowOf (a .row) .fields) (now (a .line)) _ _ _ _ _ (sym (l .inv) ∙ filled-stop (rowOf (a .row) .fields) (now (a .line)) (l .at) (l .i) (l .vs) (l .ps) (c .before .fault .given .0 .0) (byte-of (a .row) (l .i) (g .result) (g .ensures) t (c .before .before .before .before .if1 .left)) (rw (← form-at (a .row) (l .i) (g .result) (g .ensures) t, ← c .before .before .before .field-at .ensures) (c .before .fault .given .1)))
@@ -78,7 +78,7 @@ returns c = let a = c .before .before .before .before .before .before .before .b
 ended : (c : tie.Left-loop Inv-loop μ-loop) → length (rowOf (c .before .before .before .before .args .row) .fields) ≤ c .before .loop .i
 ended c =
     let row = c .before .before .before .before .args .row in
-    let g = c .before .before .form-of in
+    let g = c .before .before .line-up in
     let i = c .before .loop .i in
     ⊎-elim (λ w. omega (arith, row-short row)) (λ w. out-row row i (getD (g .result) i 0) (form-at row i (g .result) (g .ensures) (w .0 .taken)) (w .1 .taken)) (c .loop-test .came)
 
@@ -98,7 +98,7 @@ read-fields-spec =
     (tie.spec
     Inv-loop
     μ-loop
-    form-of-requires
+    line-up-requires
     loop-holds
     array-read-f
     field-at-requires
