@@ -16,7 +16,7 @@ use Rattle.dots.specs.declared.Ink.the-variants.{White}
 use Rattle.dots.specs.Dots.{bitOf, byteOf, dotAt, rows, redrawn, drawn, cut, box}
 use Rattle.dots.specs.Whole.{turnedIn}
 use Rattle.dots.proofs.Bits.{allBelow, all-below, byte-cong, byte-is, byte-lt, byte-by-bits, bit-of-byte, or-bit, not-below}
-use Rattle.dots.proofs.Pages.{Bytes, redrawn-by-bytes, redrawn-redrawn, redrawn-ext, dot-redrawn}
+use Rattle.dots.proofs.Pages.{Bytes, redrawn-by-bytes, redrawn-by-dots, redrawn-redrawn, redrawn-ext, dot-redrawn}
 use Rattle.dots.proofs.Shapes.{cut-box, box-in, not-in-box}
 
 abbrev pub mirrored : ℕ → ℕ
@@ -232,6 +232,11 @@ shifted-step s p q r i S h e = record {
 
 pub shifted-done : (s : ℕ) (p q : List ℕ) (i : ℕ) → Shifted s p q i → rows p * 76 ≤ i → q ≡ redrawn (λ x y o. ltb (x + s) 608 && dotAt p (x + s) y) p
 shifted-done s p q i S h = redrawn-by-bytes _ p q (S .len) (λ k t. S .low k (omega arith)) (λ k t u. S .high k (omega (arith, S .upTo)))
+
+-- shifted by no dot
+pub shifted-none : (s : ℕ) (p : List ℕ) → Bytes p → s ≡ 0 → p ≡ redrawn (λ x y o. ltb (x + s) 608 && dotAt p (x + s) y) p
+shifted-none s p by e =
+    redrawn-by-dots _ p p by refl (λ x y hx hy. let z : x + s ≡ x = omega arith in rw (z, lt-ltb x 608 hx)) (λ i h k. refl)
 
 -- ---- both together
 pub turned-all : (w l n : ℕ) (p q r t : List ℕ) → w ≤ 608 → l ≤ n → n ≡ rows p

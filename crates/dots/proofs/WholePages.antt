@@ -148,37 +148,27 @@ module _ (w l i : ℕ) where
       at k t (yes h) = rw (lt-ltb (i % 76 * 8 + k) w h, lt-ltb (i / 76) l hy, is-false (leb lo k) (λ q. omega (arith, leb-true lo k q)))
       at k t (no h) = rw (le-leb lo k (omega arith), lt-ltb k 8 t, not-below (i % 76 * 8 + k) w (omega arith))
 
-module _ (w l : ℕ) (p : List ℕ) where
-  whole : List ℕ
-  whole = take (rows p * 76) p
+-- bytes that stand at byte i of a page, looked at one after the other
+module _ (w l at : ℕ) (bs : List ℕ) where
+  abbrev pub whiteLeft : ℕ → Bool
+  whiteLeft i = whiteFrom w l (at + i) (drop i bs)
 
-  -- what is left to look at from byte i on
-  pub whiteLeft : ℕ → Bool
-  whiteLeft i = whiteFrom w l i (drop i whole)
+  pub left-start : whiteLeft 0 ≡ whiteFrom w l at bs
+  left-start = let z : at + 0 ≡ at = omega arith in rw z
 
-  pub white-start : whiteLeft 0 ≡ whiteOutside w l p
-  unfolding whiteLeft whole whiteOutside whiteFrom
-  white-start = refl
+  left-is : (i : ℕ) → i < length bs → whiteLeft i ≡ (whiteByte w l (at + i) (getD bs i 0) && whiteLeft (i + 1))
+  unfolding whiteFrom
+  left-is i h = let z : suc (at + i) ≡ at + (i + 1) = omega arith in rw (drop-cons bs i 0 h, z, add-one i)
 
-  cons : (i : ℕ) → i < rows p * 76 → drop i whole ≡ getD p i 0 ∷ drop (suc i) whole
-  unfolding whole
-  cons i h =
-      drop-cons (take (rows p * 76) p) i 0 (rw (length-take (rows p * 76) p) (omega arith))
-      ∙ ap (λ (b : ℕ). b ∷ drop (suc i) (take (rows p * 76) p)) (getD-take (rows p * 76) p i 0 h)
+  pub left-step : (i : ℕ) → i < length bs → whiteByte w l (at + i) (getD bs i 0) ≡ true → whiteLeft (i + 1) ≡ whiteLeft i
+  left-step i h e = sym (left-is i h ∙ rw e)
 
-  pub white-step : (i : ℕ) → i < rows p * 76 → whiteByte w l i (getD p i 0) ≡ true → whiteLeft (i + 1) ≡ whiteLeft i
-  unfolding whiteLeft whiteFrom
-  white-step i h e = rw (cons i h, add-one i, e)
+  pub left-stop : (i : ℕ) → i < length bs → whiteByte w l (at + i) (getD bs i 0) ≡ false → false ≡ whiteLeft i
+  left-stop i h e = sym (left-is i h ∙ rw e)
 
-  pub white-stop : (i : ℕ) → i < rows p * 76 → whiteByte w l i (getD p i 0) ≡ false → whiteLeft i ≡ false
-  unfolding whiteLeft whiteFrom
-  white-stop i h e = rw (cons i h, e)
-
-  pub white-done : (i : ℕ) → rows p * 76 ≤ i → whiteLeft i ≡ true
-  unfolding whiteLeft whole whiteFrom
-  white-done i h =
-      let k : length (take (rows p * 76) p) ≤ i = rw (length-take (rows p * 76) p) (omega arith) in
-      rw (drop-of-length-le (take (rows p * 76) p) k)
+  pub left-done : (i : ℕ) → length bs ≤ i → true ≡ whiteLeft i
+  unfolding whiteFrom
+  left-done i h = rw (drop-of-length-le bs h)
 
 -- a byte is white outside exactly when none of its dots is black there
 white-byte-dot : (w l i b k : ℕ) → k < 8 → whiteByte w l i b ≡ true → outside w l (i % 76 * 8 + k) (i / 76) ≡ true → bitOf b k ≡ false
@@ -196,6 +186,90 @@ dots-white-byte w l i b h = eq-eqb _ 0 (byte-cong _ (λ k. false) (λ k t. both 
     both : (a c : Bool) → (c ≡ true → a ≡ false) → (a && c) ≡ false
     both a true h = rw (h refl)
     both a false h = and-false a
+
+-- a byte all of whose dots lie inside
+inside : (w l i b : ℕ) → i % 76 * 8 + 8 ≤ w → i / 76 < l → whiteByte w l i b ≡ true
+inside w l i b h k =
+    dots-white-byte w l i b
+    (λ n t o. let f : outside w l (i % 76 * 8 + n) (i / 76) ≡ false = rw (lt-ltb (i % 76 * 8 + n) w (omega arith), lt-ltb (i / 76) l k) in
+    let z : _≡_ {A = Bool} false true = sym f ∙ o in cc)
+
+module _ (w l : ℕ) (p : List ℕ) where
+  -- n bytes that are white outside whatever they are need no look
+  skipped : (n m i : ℕ) → i + n ≤ length p → ((j b : ℕ) → i ≤ j → j < i + n → whiteByte w l j b ≡ true)
+      → whiteFrom w l (i + n) (take m (drop (i + n) p)) ≡ whiteFrom w l i (take (n + m) (drop i p))
+  unfolding whiteFrom
+  skipped zero m i h e =
+      let a : i + 0 ≡ i = omega arith in
+      let b : 0 + m ≡ m = omega arith in
+      rw (a, b)
+  skipped (suc n) m i h e =
+      let a : i + suc n ≡ suc i + n = omega arith in
+      let b : suc n + m ≡ suc (n + m) = omega arith in
+      rw (a, b, drop-cons p i 0 (omega arith), e i (getD p i 0) (omega arith) (omega arith))
+      (skipped n m (suc i) (omega arith) (λ j x s t. e j x (omega arith) (omega arith)))
+
+  -- a row, looked at from the first byte on that may have dots outside
+  pub row-from : (y f at end : ℕ) → f ≡ cond (ltb y l) (min (w / 8) 76) 0 → at ≡ y * 76 + f → end ≡ y * 76 + 76 → end ≤ length p
+      → whiteFrom w l at (take (end - at) (drop at p)) ≡ whiteFrom w l (y * 76) (take 76 (drop (y * 76) p))
+  row-from y f at end ef ea ee h = by (decLt y l)
+    where
+      from : f ≤ 76 → ((j b : ℕ) → y * 76 ≤ j → j < y * 76 + f → whiteByte w l j b ≡ true)
+          → whiteFrom w l at (take (end - at) (drop at p)) ≡ whiteFrom w l (y * 76) (take 76 (drop (y * 76) p))
+      from k e =
+          let z : end - at ≡ 76 - f = omega arith in
+          let s : f + (76 - f) ≡ 76 = omega arith in
+          rw (z, ea) (skipped f (76 - f) (y * 76) (omega arith) e ∙ rw s)
+
+      by : Dec (y < l) → whiteFrom w l at (take (end - at) (drop at p)) ≡ whiteFrom w l (y * 76) (take 76 (drop (y * 76) p))
+      by (yes t) =
+          let g : f ≡ min (w / 8) 76 = ef ∙ rw (lt-ltb y l t) in
+          from (omega arith) (λ j b s r. inside w l j b (omega arith) (omega arith))
+      by (no t) =
+          let g : f ≡ 0 = ef ∙ rw (not-below y l (omega arith)) in
+          from (omega arith) (λ j b s r. absurd (omega arith))
+
+  -- the whole rows from byte i on
+  pub rowsLeft : ℕ → Bool
+  rowsLeft i = whiteFrom w l i (drop i (take (rows p * 76) p))
+
+  pub rows-start : rowsLeft 0 ≡ whiteOutside w l p
+  unfolding rowsLeft whiteOutside whiteFrom
+  rows-start = refl
+
+  cons : (i : ℕ) → i < rows p * 76 → drop i (take (rows p * 76) p) ≡ getD p i 0 ∷ drop (suc i) (take (rows p * 76) p)
+  cons i h =
+      drop-cons (take (rows p * 76) p) i 0 (rw (length-take (rows p * 76) p) (omega arith))
+      ∙ ap (λ (b : ℕ). b ∷ drop (suc i) (take (rows p * 76) p)) (getD-take (rows p * 76) p i 0 h)
+
+  -- n bytes of them, and the rest
+  rows-are : (n i : ℕ) → i + n ≤ rows p * 76 → rowsLeft i ≡ (whiteFrom w l i (take n (drop i p)) && rowsLeft (i + n))
+  unfolding rowsLeft whiteFrom
+  rows-are zero i h = let z : i + 0 ≡ i = omega arith in rw z
+  rows-are (suc n) i h =
+      let z : i + suc n ≡ suc i + n = omega arith in
+      rw (cons i (omega arith), drop-cons p i 0 (omega arith), z)
+      (and-rest (whiteByte w l i (getD p i 0)) (whiteFrom w l (suc i) (take n (drop (suc i) p))) _ _ (rows-are n (suc i) (omega arith)))
+    where
+      and-rest : (a b c d : Bool) → d ≡ (b && c) → (a && d) ≡ ((a && b) && c)
+      and-rest true b c d e = e
+      and-rest false b c d e = refl
+
+  module _ (y : ℕ) where
+    row-is : y < rows p → rowsLeft (y * 76) ≡ (whiteFrom w l (y * 76) (take 76 (drop (y * 76) p)) && rowsLeft ((y + 1) * 76))
+    row-is h = let z : (y + 1) * 76 ≡ y * 76 + 76 = omega arith in rw z (rows-are 76 (y * 76) (omega arith))
+
+    pub rows-step : y < rows p → whiteFrom w l (y * 76) (take 76 (drop (y * 76) p)) ≡ true → rowsLeft ((y + 1) * 76) ≡ rowsLeft (y * 76)
+    rows-step h e = sym (row-is h ∙ rw e)
+
+    pub rows-stop : y < rows p → whiteFrom w l (y * 76) (take 76 (drop (y * 76) p)) ≡ false → false ≡ rowsLeft (y * 76)
+    rows-stop h e = sym (row-is h ∙ rw e)
+
+    pub rows-done : rows p ≤ y → true ≡ rowsLeft (y * 76)
+    unfolding rowsLeft whiteFrom
+    rows-done h =
+        let k : length (take (rows p * 76) p) ≤ y * 76 = rw (length-take (rows p * 76) p) (omega arith) in
+        rw (drop-of-length-le (take (rows p * 76) p) k)
 
 white-from-byte : (w l i : ℕ) (bs : List ℕ) (j : ℕ) → j < length bs → whiteFrom w l i bs ≡ true → whiteByte w l (i + j) (getD bs j 0) ≡ true
 unfolding whiteFrom

@@ -67,11 +67,14 @@ fn shift_byte(page: &mut [u8], i: usize, s: usize)
     page[i] = between(a, b, s % 8);
 }
 
-// Shifts each row to the left by s dots.
+// Shifts each row to the left by s dots. Most labels are as wide as their page, and then no byte is touched.
 fn shift_rows(page: &mut [u8], s: usize)
     requires { ⌜ s ≤ 608 ⌝ }
     ensures { λ _. ⌜ now (page .exit) ≡ redrawn (λ x y o. ltb (x + s) 608 && dotAt (now (page .entry)) (x + s) y) (now (page .entry)) ⌝ }
 {
+    if s == 0 {
+        return;
+    }
     let end = page.len() / 76 * 76;
     let mut i = 0;
     while i < end {

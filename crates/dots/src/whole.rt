@@ -1,10 +1,11 @@
 // Whole pages: whitened, copied, counted, and looked over for black dots outside the label.
 ghost use mathlib.Core.Path.{_≡_};
-ghost use mathlib.Core.Bool.{not, _&&_};
-ghost use Prim.Native.Nat.{ℕ, _+_, _*_, _/_, _%_};
-ghost use lib.ListN.{length};
+ghost use mathlib.Core.Bool.{not, cond, _&&_};
+ghost use Prim.Native.Nat.{ℕ, _+_, _*_, _/_, _%_, _^_, _≤_, _<_, min};
+ghost use lib.Dec.{ltb};
+ghost use lib.ListN.{length, take, drop};
 ghost use Rattle.dots.specs.Dots.{byteOf, capped};
-ghost use Rattle.dots.specs.Whole.{white, copied, blackIn, blackDots, outside, whiteByte, whiteOutside};
+ghost use Rattle.dots.specs.Whole.{white, copied, blackIn, blackDots, outside, whiteByte, whiteFrom, whiteOutside};
 use crate::boxes::span_mask;
 use crate::numbers::capped_sum;
 use crate::numbers::least;
@@ -66,8 +67,8 @@ fn outside_mask(i: usize, width: usize, length: usize) -> u8
     span_mask(least(width - x, 8), 8)
 }
 
-// Whether byte i of a page, which is b, has no black dot outside width by length. Most bytes of a page have no black dot, and no place is worked out
-// for them.
+// Whether byte i of a page, which is b, has no black dot outside width by length. Most bytes that are looked at have no black dot, and no place is
+// worked out for them.
 fn white_byte(i: usize, b: u8, width: usize, length: usize) -> bool
     ensures { λ r. ⌜ r ≡ whiteByte width length i b ⌝ }
 {
@@ -77,17 +78,49 @@ fn white_byte(i: usize, b: u8, width: usize, length: usize) -> bool
     b & outside_mask(i, width, length) == 0
 }
 
+// Whether bytes that stand at byte `at` of a page have no black dot outside width by length.
+fn white_bytes(bytes: &[u8], at: usize, width: usize, length: usize) -> bool
+    requires { do ⌜ at + (← ⟦bytes.len()⟧) < 2 ^ 64 ⌝ }
+    ensures { λ r. ⌜ r ≡ whiteFrom width length at (now (bytes .entry)) ⌝ }
+{
+    let mut i = 0;
+    while i < bytes.len() {
+        if !white_byte(at + i, bytes[i], width, length) {
+            return false;
+        }
+        i += 1;
+    }
+    true
+}
+
+// The first byte of row y that may have dots outside width by length: no other has to be looked at.
+fn first_outside(y: usize, width: usize, length: usize) -> usize
+    ensures { λ r. ⌜ (r ≡ cond (ltb y length) (min (width / 8) 76) 0) × (r ≤ 76) ⌝ }
+{
+    if y < length { least(width / 8, 76) } else { 0 }
+}
+
+// Whether row y has no black dot outside width by length.
+fn white_row(page: &[u8], y: usize, width: usize, length: usize) -> bool
+    requires { do ⌜ y * 76 + 76 ≤ (← ⟦page.len()⟧) ⌝ }
+    ensures { λ r. ⌜ r ≡ whiteFrom width length (y * 76) (take 76 (drop (y * 76) (now (page .entry)))) ⌝ }
+{
+    let at = y * 76 + first_outside(y, width, length);
+    let end = y * 76 + 76;
+    white_bytes(&page[at..end], at, width, length)
+}
+
 // Whether no dot of a whole row is black outside width by length. Bytes after the last whole row are not looked at.
 pub fn white_outside(page: &[u8], width: usize, length: usize) -> bool
     ensures { λ r. ⌜ r ≡ whiteOutside width length (now (page .entry)) ⌝ }
 {
-    let end = page.len() / 76 * 76;
-    let mut i = 0;
-    while i < end {
-        if !white_byte(i, page[i], width, length) {
+    let rows = page.len() / 76;
+    let mut y = 0;
+    while y < rows {
+        if !white_row(page, y, width, length) {
             return false;
         }
-        i += 1;
+        y += 1;
     }
     true
 }

@@ -5,7 +5,7 @@ use mathlib.Core.Bool.{Bool, true, false, _&&_, not, cond, and-false}
 use mathlib.Core.Logic.{_⊎_, inl, inr}
 use mathlib.Core.List.{List}
 use Prim.Native.Nat.{ℕ, _+_, _-_, _*_, _/_, _%_, _^_, _≤_, _<_, min}
-use native.Mathlib.Nat.{add-mul, one-mul, mul-zero, mul-le-mul-right, zero-div, div-lt-iff-lt-mul, le-div-iff-mul-le}
+use native.Mathlib.Nat.{add-mul, one-mul, mul-zero, mul-le-mul, mul-le-mul-right, zero-div, div-lt-iff-lt-mul, le-div-iff-mul-le}
 use native.Mathlib.Decide.{decLt, ℕ-discrete}
 use native.Mathlib.Omega.{arith}
 use lib.Dec.{leb}
@@ -18,6 +18,9 @@ use Rattle.figures.specs.Figures.{bitRow, bitmap, rowOf, scaled, shifted
 use Rattle.figures.proofs.Placed.{Joins, guard}
 
 -- ---- edges, capped at the greatest number there is
+pub edge-small : (g m : ℕ) → g < 4294967296 → m < 4294967296 → g * m ≤ 18446744065119617025
+edge-small g m h k = mul-le-mul {n₁ = g} {m₁ = m} {n₂ = 4294967295} {m₂ = 4294967295} (omega arith) (omega arith)
+
 pub edge-none : (most d g : ℕ) → d ≤ most → d ≡ min most (d + g * 0)
 edge-none most d g h = let z : g * 0 ≡ 0 = mul-zero g in rw z (let e : d ≡ min most (d + 0) = omega arith in e)
 

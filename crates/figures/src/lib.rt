@@ -4,6 +4,7 @@
 // Which figures there are, a glyph or the bars of a symbol, is left to the crates above.
 use dots::Ink;
 use dots::capped_sum;
+use dots::greatest;
 use dots::least;
 ghost use mathlib.Core.Path.{_≡_};
 ghost use Prim.Native.Nat.{_+_, _-_, _*_, _<_};
@@ -72,10 +73,13 @@ pub fn ink_part(
     }
 }
 
-// d and g times m, or the greatest number there is.
+// d and g times m, or the greatest number there is. The numbers of a label are small, and are spared the division.
 fn edge(d: usize, g: usize, m: usize) -> usize
     ensures { λ r. ⌜ r ≡ capped (d + g * m) ⌝ }
 {
+    if greatest(d, greatest(g, m)) < 4294967296 {
+        return d + g * m;
+    }
     if m == 0 {
         return d;
     }

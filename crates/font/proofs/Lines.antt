@@ -12,7 +12,6 @@ use Rattle.dots.specs.declared.Ink.{Ink}
 use Rattle.dots.specs.declared.Ink.the-variants.{Black, White}
 use Rattle.dots.specs.Dots.{drawn, box}
 use Rattle.font.specs.declared.text.Spot.{Spot}
-use Rattle.font.specs.Rules.{legal}
 use Rattle.font.specs.Text.{along, down, glyphs, onLabel, spotOf, drawable, inMode, textDrawn}
 use Rattle.dots.proofs.Bits.{and-true}
 use Rattle.dots.proofs.Pages.{Bytes}
@@ -23,10 +22,9 @@ pub record Drawable (h v n : ℕ) : Type 0 where
   pub high : v ≤ 9
   pub short : n ≤ 128
 
-pub drawable-says : (font : List ℕ) (h v : ℕ) (text : List ℕ) → drawable font h v text ≡ true → Drawable h v (length text)
-drawable-says font h v text e =
-    let a = and-true (legal font) (leb h 6 && (leb v 9 && leb (length text) 128)) e in
-    let b = and-true (leb h 6) (leb v 9 && leb (length text) 128) (a .1) in
+pub drawable-says : (h v : ℕ) (text : List ℕ) → drawable h v text ≡ true → Drawable h v (length text)
+drawable-says h v text e =
+    let b = and-true (leb h 6) (leb v 9 && leb (length text) 128) e in
     let d = and-true (leb v 9) (leb (length text) 128) (b .1) in
     record { wide = leb-true h 6 (b .0); high = leb-true v 9 (d .0); short = leb-true (length text) 128 (d .1) }
 
@@ -41,11 +39,11 @@ module _ (s : Spot) (figure : ℕ → ℕ → Bool) (reverse : Bool) (p : List �
   mode-reverse q t e d f = rw e (f ∙ ap (drawn White (onLabel s figure)) d)
 
 module _ (width height x y r h v : ℕ) (reverse : Bool) (font text p : List ℕ) where
-  pub text-none : drawable font h v text ≡ false → p ≡ textDrawn width height x y r h v reverse font text p
+  pub text-none : drawable h v text ≡ false → p ≡ textDrawn width height x y r h v reverse font text p
   unfolding textDrawn
   text-none e = rw e
 
-  pub text-drawn : (s : Spot) (q : List ℕ) → drawable font h v text ≡ true → s ≡ spotOf width height x y r h v font (length text)
+  pub text-drawn : (s : Spot) (q : List ℕ) → drawable h v text ≡ true → s ≡ spotOf width height x y r h v font (length text)
       → q ≡ inMode reverse s (glyphs font h v text) p → q ≡ textDrawn width height x y r h v reverse font text p
   unfolding textDrawn
   text-drawn s q e a d = d ∙ ap (λ (z : Spot). inMode reverse z (glyphs font h v text) p) a ∙ rw e
@@ -53,7 +51,7 @@ module _ (width height x y r h v : ℕ) (reverse : Bool) (font text p : List ℕ
   -- "Text of no bytes draws nothing"
   pub text-empty : Bytes p → text ≡ [] → textDrawn width height x y r h v reverse font text p ≡ p
   unfolding textDrawn inMode
-  text-empty by e = rw e (either (drawable font h v []))
+  text-empty by e = rw e (either (drawable h v []))
     where
       s : Spot
       s = spotOf width height x y r h v font 0

@@ -6,9 +6,10 @@ use mathlib.Core.List.{List}
 use Prim.Native.Nat.{ℕ, zero, suc, _+_, _-_, _*_, _%_, _^_, _≤_, _<_}
 use native.Mathlib.Nat.{one-mul, mod-eq-of-lt, pow-le-pow-right, mul-le-mul}
 use native.Mathlib.Omega.{arith}
-use lib.ListN.{length}
+use lib.Bits.{bitAnd, and-mask}
+use lib.ListN.{length, getD}
 use lib.Dec.{eqb}
-use Rattle.font.specs.Rules.{tagAt, codeAt, nextField, rowBytes, rowClean, rowsClean, isGlyph, glyph, ended, fieldsFrom, placeFrom}
+use Rattle.font.specs.Rules.{tagAt, codeAt, nextField, rowBytes, spareBits, rowClean, rowsClean, isGlyph, glyph, ended, fieldsFrom, placeFrom}
 
 one-less : {A : Type 0} {x : A} (f : ℕ → A) (n : ℕ) → 0 < n → x ≡ f (suc (n - 1)) → x ≡ f n
 one-less f n h e = let z : suc (n - 1) ≡ n = omega arith in e ∙ ap f z
@@ -36,6 +37,14 @@ bytes-product a b h k = mul-le-mul {n₁ = a} {m₁ = b} {n₂ = 255} {m₂ = 25
 
 module _ (font : List ℕ) where
   -- ---- rows
+  -- a row's last byte, masked
+  pub row-masked : (b bytes mask at : ℕ) → bytes ≡ rowBytes font → mask ≡ 2 ^ spareBits font - 1 → b ≡ getD font (at + bytes - 1) 0
+      → eqb (bitAnd b mask) 0 ≡ rowClean font at
+  row-masked b bytes mask at e m d =
+      (λ i. eqb (bitAnd (d i) (m i)) 0)
+      ∙ ap (λ (n : ℕ). eqb n 0) (and-mask (getD font (at + bytes - 1) 0) (spareBits font))
+      ∙ ap (λ (n : ℕ). eqb (getD font (at + n - 1) 0 % 2 ^ spareBits font) 0) e
+
   pub rows-step : (n at : ℕ) → 0 < n → rowClean font at ≡ true → rowsClean font (n - 1) (at + rowBytes font) ≡ rowsClean font n at
   unfolding rowsClean
   rows-step n at h e = one-less (λ (m : ℕ). rowsClean font m at) n h (rw e)

@@ -76,18 +76,18 @@ seen r reverse rows =
 -- .X....XXXXX
 -- .XXXXX..X..
 upright : let p = seen 0 false 2 in getD p 0 0 ∷ getD p 1 0 ∷ getD p 76 0 ∷ getD p 77 0 ∷ [] ≡ 67 ∷ 224 ∷ 124 ∷ 128 ∷ []
-unfolding seen cell glyphL glyphT end headed rowsClean glyph fieldsFrom legal placeFrom rowsOf inMode textDrawn drawn redrawn
+unfolding seen cell glyphL glyphT end placeFrom rowsOf inMode textDrawn drawn redrawn
 upright = refl
 
 -- ..XXXX.....
 -- ......XX.XX
 reversed : let p = seen 0 true 2 in getD p 0 0 ∷ getD p 1 0 ∷ getD p 76 0 ∷ getD p 77 0 ∷ [] ≡ 60 ∷ 0 ∷ 3 ∷ 96 ∷ []
-unfolding seen cell glyphL glyphT end headed rowsClean glyph fieldsFrom legal placeFrom rowsOf inMode textDrawn drawn redrawn
+unfolding seen cell glyphL glyphT end placeFrom rowsOf inMode textDrawn drawn redrawn
 reversed = refl
 
 -- .XX, .X., .X., .X., .X., ..X, ..X, .XX, ..X, and the last row, which the length cuts off
 once : let p = seen 1 false 10 in
     getD p 0 0 ∷ getD p 76 0 ∷ getD p 152 0 ∷ getD p 228 0 ∷ getD p 304 0 ∷ getD p 380 0 ∷ getD p 456 0 ∷ getD p 532 0 ∷ getD p 608 0 ∷ getD p 684 0 ∷ []
     ≡ 96 ∷ 64 ∷ 64 ∷ 64 ∷ 64 ∷ 32 ∷ 32 ∷ 96 ∷ 32 ∷ 0 ∷ []
-unfolding seen cell glyphL glyphT end headed rowsClean glyph fieldsFrom legal placeFrom rowsOf inMode textDrawn drawn redrawn
+unfolding seen cell glyphL glyphT end placeFrom rowsOf inMode textDrawn drawn redrawn
 once = refl

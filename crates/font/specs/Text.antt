@@ -10,7 +10,7 @@ use Rattle.dots.specs.declared.Ink.the-variants.{Black, White}
 use Rattle.dots.specs.Dots.{drawn, cut, box}
 use Rattle.figures.specs.Figures.{bitmap, placed}
 use Rattle.font.specs.declared.text.Spot.{Spot}
-use Rattle.font.specs.Rules.{cellWidth, cellHeight, rowBytes, rowsOf, legal}
+use Rattle.font.specs.Rules.{cellWidth, cellHeight, rowBytes, rowsOf}
 
 -- n cells of m by d dots side by side in one box; dot u, w of cell k is cell k u w
 abbrev pub sideBySide : ℕ → ℕ → ℕ → (ℕ → ℕ → ℕ → Bool) → ℕ → ℕ → Bool
@@ -45,10 +45,10 @@ abbrev pub spotOf : ℕ → ℕ → ℕ → ℕ → ℕ → ℕ → ℕ → List
 spotOf width length x y r h v font n =
     record { width = width; length = length; r = r; x = x; y = y; wide = n * along font h; high = down font v }
 
--- what is drawn: a text of at most 128 bytes, scaled within the limits, in a legal font
-abbrev pub drawable : List ℕ → ℕ → ℕ → List ℕ → Bool
-drawable font h v text = legal font && (leb h 6 && (leb v 9 && leb (length text) 128))
+-- what is drawn: a text of at most 128 bytes, scaled within the limits. Any bytes are drawn from as a font is; a call refuses an illegal font before
+abbrev pub drawable : ℕ → ℕ → List ℕ → Bool
+drawable h v text = leb h 6 && (leb v 9 && leb (length text) 128)
 
 unfoldable pub textDrawn : ℕ → ℕ → ℕ → ℕ → ℕ → ℕ → ℕ → Bool → List ℕ → List ℕ → List ℕ → List ℕ
 textDrawn width height x y r h v reverse font text page =
-    cond (drawable font h v text) (inMode reverse (spotOf width height x y r h v font (length text)) (glyphs font h v text) page) page
+    cond (drawable h v text) (inMode reverse (spotOf width height x y r h v font (length text)) (glyphs font h v text) page) page

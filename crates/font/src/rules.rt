@@ -3,7 +3,7 @@ ghost use mathlib.Core.Path.{_≡_};
 ghost use mathlib.Core.Bool.{_&&_};
 ghost use Prim.Native.Nat.{ℕ, _+_, _-_, _*_, _/_, _%_, _^_, _≤_, _<_};
 ghost use lib.ListN.{length, getD, take, drop};
-ghost use Rattle.font.specs.Rules.{sizeAt, codeAt, nextField, cellWidth, cellHeight, headed, rowBytes};
+ghost use Rattle.font.specs.Rules.{sizeAt, codeAt, nextField, cellWidth, cellHeight, headed, rowBytes, spareBits};
 ghost use Rattle.font.specs.Rules.{rowClean, rowsClean, isGlyph, sized, coded, glyph, ended, fieldsFrom, legal, placeFrom, rowsOf};
 
 pub fn both(a: bool, b: bool) -> bool
@@ -69,13 +69,18 @@ fn headed_ok(font: &[u8]) -> bool
     both(first, both(wide, high))
 }
 
-fn row_clean(font: &[u8], at: usize) -> bool
-    requires { ⌜ (0 < at) × (at < 2 ^ 32) ⌝ }
+// The spare bits of a row's last byte, all set: worked out once for all rows, so that no row costs a division.
+fn spare_mask(font: &[u8]) -> usize
+    ensures { λ r. ⌜ r ≡ 2 ^ spareBits (now (font .entry)) - 1 ⌝ }
+{
+    (1usize << (row_bytes(font) * 8 - cell_width(font))) - 1
+}
+
+fn row_clean(font: &[u8], bytes: usize, mask: usize, at: usize) -> bool
+    requires { ⌜ (bytes ≡ rowBytes (now font)) × (bytes < 256) × (mask ≡ 2 ^ spareBits (now font) - 1) × (0 < at) × (at < 2 ^ 32) ⌝ }
     ensures { λ r. ⌜ r ≡ rowClean (now (font .entry)) at ⌝ }
 {
-    let bytes = row_bytes(font);
-    let unit = 1usize << (bytes * 8 - cell_width(font));
-    byte_at(font, at + bytes - 1) % unit == 0
+    byte_at(font, at + bytes - 1) & mask == 0
 }
 
 // Whether a cell's height of rows from a place on have their spare bits zero.
@@ -84,10 +89,11 @@ fn rows_clean(font: &[u8], at: usize) -> bool
     ensures { λ r. ⌜ r ≡ rowsClean (now (font .entry)) (cellHeight (now (font .entry))) at ⌝ }
 {
     let bytes = row_bytes(font);
+    let mask = spare_mask(font);
     let mut row = at;
     let mut left = cell_height(font);
     while 0 < left {
-        if !row_clean(font, row) {
+        if !row_clean(font, bytes, mask, row) {
             return false;
         }
         row += bytes;

@@ -17,14 +17,11 @@ struct Spot {
     high: usize,
 }
 
-// Whether a text is drawn at all: a legal font, and numbers within their limits.
-fn drawable_ok(font: &[u8], h: usize, v: usize, text: &[u8]) -> bool
-    ensures { λ r. ⌜ r ≡ drawable (now (font .entry)) h v (now (text .entry)) ⌝ }
+// Whether a text is drawn at all. The font is not judged here: who draws has judged it once for all the texts of a label.
+fn drawable_ok(h: usize, v: usize, text: &[u8]) -> bool
+    ensures { λ r. ⌜ r ≡ drawable h v (now (text .entry)) ⌝ }
 {
-    rules::both(
-        rules::is_legal(font),
-        rules::both(h <= 6, rules::both(v <= 9, text.len() <= 128)),
-    )
+    rules::both(h <= 6, rules::both(v <= 9, text.len() <= 128))
 }
 
 // Draws the glyphs of a text.
@@ -113,7 +110,7 @@ pub fn draw(
 )
     ensures { λ _. ⌜ now (page .exit) ≡ textDrawn width length x y r h v reverse (now (font .entry)) (now (text .entry)) (now (page .entry)) ⌝ }
 {
-    if !drawable_ok(font, h, v, text) {
+    if !drawable_ok(h, v, text) {
         return;
     }
     let wide = text.len() * (rules::cell_width(font) * h);

@@ -33,7 +33,7 @@ module _ (p : List ℕ → Type 0) (g : Setting) (dots : (ink : Ink) (s : ℕ �
   pub text-keeps : TextKeeps p g
   unfolding textDrawn
   text-keeps x y r h v reverse s page k =
-      picked (drawable (g .font) h v s) _ page (in-mode reverse x y r h v (length s) (glyphs (g .font) h v s) page k) k
+      picked (drawable h v s) _ page (in-mode reverse x y r h v (length s) (glyphs (g .font) h v s) page k) k
 
   pub bars-keep : BarsKeep p g
   unfolding barsDrawn

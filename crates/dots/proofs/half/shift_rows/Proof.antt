@@ -1,7 +1,8 @@
 -- `dots::half::shift_rows` meets its contract. The loop's invariant is `Shifted`; the measure is what is left of the rows.
 -- Assumes nothing.
 use Prim.Native.Nat.{_-_}
-use Rattle.dots.proofs.Turned.{Shifted, shifted-start, shifted-step, shifted-done}
+use native.Mathlib.Omega.{arith}
+use Rattle.dots.proofs.Turned.{shifted-none, Shifted, shifted-start, shifted-step, shifted-done}
 use borrow.Author.Needs.{needs}
 use Rattle.dots.proofs.half.shift_rows.Statement.{statement}
 use Rattle.dots.proofs.half.shift_rows.Tie as tie
@@ -12,11 +13,15 @@ Inv-loop page₀ s end i₀ page i = Shifted s page₀ page i
 abbrev μ-loop : tie.MeasureT-loop
 μ-loop page₀ s end i₀ page i = end - i
 
+returns : tie.Need-returns Inv-loop μ-loop
+returns c = let s = c .before in let a = s .before .args in
+    shifted-none (a .s) (a .page .now) (λ k. omega (arith, s .slice-known .given k)) (c .if1 .taken)
+
 mul-end : tie.Need-mul-end Inv-loop μ-loop
 mul-end c = search needs
 
 loop-holds : tie.Need-loop-holds Inv-loop μ-loop
-loop-holds c = shifted-start (c .before .args .s) (c .before .args .page .now)
+loop-holds c = let a = c .before .before .args in shifted-start (a .s) (a .page .now)
 
 shift-byte-requires : tie.Need-shift-byte-requires Inv-loop μ-loop
 shift-byte-requires c κs = search needs
@@ -28,15 +33,15 @@ loop-less : tie.Need-loop-less Inv-loop μ-loop
 loop-less c = search needs
 
 loop-again : tie.Need-loop-again Inv-loop μ-loop
-loop-again c = let w = c .before .before in let l = w .before .before .before in let a = l .before .before .args in
+loop-again c = let w = c .before .before in let l = w .before .before .before in let a = l .before .before .before .args in
     shifted-step (a .s) (a .page .now) (l .loop .page) (w .shift-byte .last .0) (l .loop .i) (l .loop .inv)
     (w .before .before .loop-test .taken) (w .shift-byte .ensures)
 
 same-length : tie.Need-same-length Inv-loop μ-loop
 same-length c = search needs
 
-returns : tie.Need-returns Inv-loop μ-loop
-returns c = let a = c .before .before .before .args in
+returns-2 : tie.Need-returns-2 Inv-loop μ-loop
+returns-2 c = let a = c .before .before .before .before .args in
     shifted-done (a .s) (a .page .now) (c .before .loop .page) (c .before .loop .i) (c .before .loop .inv) (c .loop-test .left)
 
 pub shift-rows-spec : {M : Type 1} → statement M
@@ -45,6 +50,7 @@ shift-rows-spec =
     (tie.spec
     Inv-loop
     μ-loop
+    returns
     mul-end
     loop-holds
     shift-byte-requires
@@ -52,4 +58,4 @@ shift-rows-spec =
     loop-less
     loop-again
     same-length
-    returns)
+    returns-2)

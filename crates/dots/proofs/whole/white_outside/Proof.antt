@@ -1,53 +1,47 @@
 -- `dots::whole::white_outside` meets its contract. The loop's invariant: what is left to look at decides. The measure is what is left to the end.
 -- Assumes nothing.
 use mathlib.Core.Path.{_≡_, sym, _∙_}
-use Prim.Native.Nat.{_-_, _≤_}
+use Prim.Native.Nat.{_-_, _*_, _≤_}
 use borrow.Author.Tests.{not-true, not-false}
 use Rattle.dots.specs.Whole.{whiteOutside}
-use Rattle.dots.proofs.WholePages.{whiteLeft, white-start, white-step, white-stop, white-done}
+use Rattle.dots.proofs.WholePages.{rowsLeft, rows-start, rows-step, rows-stop, rows-done}
 use borrow.Author.Needs.{needs}
 use Rattle.dots.proofs.whole.white_outside.Statement.{statement}
 use Rattle.dots.proofs.whole.white_outside.Tie as tie
 
 abbrev Inv-loop : tie.InvT-loop
-Inv-loop page width length end i₀ i = (i ≤ end) × (whiteLeft width length page i ≡ whiteOutside width length page)
+Inv-loop page width length rows y₀ y = (y ≤ rows) × (rowsLeft width length page (y * 76) ≡ whiteOutside width length page)
 
 abbrev μ-loop : tie.MeasureT-loop
-μ-loop page width length end i₀ i = end - i
-
-mul-end : tie.Need-mul-end Inv-loop μ-loop
-mul-end c = search needs
+μ-loop page width length rows y₀ y = rows - y
 
 loop-holds : tie.Need-loop-holds Inv-loop μ-loop
-loop-holds c = let a = c .before .args in (search needs, white-start (a .width) (a .length) (a .page .now))
+loop-holds c = let a = c .before .args in (search needs, rows-start (a .width) (a .length) (a .page .now))
 
-shared-slice-read-white-byte : tie.Need-shared-slice-read-white-byte Inv-loop μ-loop
-shared-slice-read-white-byte c = search needs
-
-white-byte-requires : tie.Need-white-byte-requires Inv-loop μ-loop
-white-byte-requires c κs = search needs
+white-row-requires : tie.Need-white-row-requires Inv-loop μ-loop
+white-row-requires c κs = search needs
 
 returns : tie.Need-returns Inv-loop μ-loop
-returns c = let w = c .before in let l = w .before .before .before in let a = l .before .before .args in
-    sym (white-stop (a .width) (a .length) (a .page .now) (l .loop .i) (w .before .before .loop-test .taken)
-    (sym (w .white-byte .ensures) ∙ not-true (w .white-byte .result) (c .if1 .taken))) ∙ l .loop .inv .1
+returns c = let w = c .before in let l = w .before .before in let a = l .before .before .args in
+    rows-stop (a .width) (a .length) (a .page .now) (l .loop .y) (w .before .loop-test .taken)
+    (sym (w .white-row .ensures) ∙ not-true (w .white-row .result) (c .if1 .taken)) ∙ l .loop .inv .1
 
-add-i : tie.Need-add-i Inv-loop μ-loop
-add-i c = search needs
+add-y : tie.Need-add-y Inv-loop μ-loop
+add-y c = search needs
 
 loop-less : tie.Need-loop-less Inv-loop μ-loop
 loop-less c = search needs
 
 loop-again : tie.Need-loop-again Inv-loop μ-loop
-loop-again c = let w = c .before in let l = w .before .before .before in let a = l .before .before .args in (
+loop-again c = let w = c .before in let l = w .before .before in let a = l .before .before .args in (
   search needs,
-  white-step (a .width) (a .length) (a .page .now) (l .loop .i) (w .before .before .loop-test .taken)
-      (sym (w .white-byte .ensures) ∙ not-false (w .white-byte .result) (c .if1 .left)) ∙ l .loop .inv .1,
+  rows-step (a .width) (a .length) (a .page .now) (l .loop .y) (w .before .loop-test .taken)
+      (sym (w .white-row .ensures) ∙ not-false (w .white-row .result) (c .if1 .left)) ∙ l .loop .inv .1,
 )
 
 returns-2 : tie.Need-returns-2 Inv-loop μ-loop
 returns-2 c = let l = c .before in let a = l .before .before .args in
-    sym (white-done (a .width) (a .length) (a .page .now) (l .loop .i) (c .loop-test .left)) ∙ l .loop .inv .1
+    rows-done (a .width) (a .length) (a .page .now) (l .loop .y) (c .loop-test .left) ∙ l .loop .inv .1
 
 pub white-outside-spec : {M : Type 1} → statement M
 white-outside-spec =
@@ -55,12 +49,10 @@ white-outside-spec =
     (tie.spec
     Inv-loop
     μ-loop
-    mul-end
     loop-holds
-    shared-slice-read-white-byte
-    white-byte-requires
+    white-row-requires
     returns
-    add-i
+    add-y
     loop-less
     loop-again
     returns-2)

@@ -11,14 +11,17 @@ use Rattle.font.proofs.rules.rows_clean.Statement.{statement}
 use Rattle.font.proofs.rules.rows_clean.Tie as tie
 
 abbrev Inv-loop : tie.InvT-loop
-Inv-loop font at bytes row₀ left₀ row left =
+Inv-loop font at bytes mask row₀ left₀ row left =
     (left < 256) × (0 < row) × (row + left * 256 < 2 ^ 31 + 65536) × (rowsClean font left row ≡ rowsClean font (cellHeight font) at)
 
 abbrev μ-loop : tie.MeasureT-loop
-μ-loop font at bytes row₀ left₀ row left = left
+μ-loop font at bytes mask row₀ left₀ row left = left
 
 row-bytes-requires : tie.Need-row-bytes-requires Inv-loop μ-loop
 row-bytes-requires c κs = search needs
+
+spare-mask-requires : tie.Need-spare-mask-requires Inv-loop μ-loop
+spare-mask-requires c κs = search needs
 
 cell-height-requires : tie.Need-cell-height-requires Inv-loop μ-loop
 cell-height-requires c κs = search needs
@@ -28,7 +31,7 @@ loop-holds c = (
   search needs,
   search needs,
   omega arith,
-  ap (λ (n : ℕ). rowsClean (c .before .before .before .args .font .now) n (c .before .before .before .args .at)) (c .cell-height .ensures .0),
+  ap (λ (n : ℕ). rowsClean (c .before .before .before .before .args .font .now) n (c .before .before .before .before .args .at)) (c .cell-height .ensures .0),
 )
 
 row-clean-requires : tie.Need-row-clean-requires Inv-loop μ-loop
@@ -55,8 +58,8 @@ loop-again c =
       search needs,
       search needs,
       omega arith,
-      ap (λ (n : ℕ). rowsClean (c .before .before .before .before .before .before .before .args .font .now) (l .left - 1) (l .row + n))
-          (c .before .before .before .before .before .row-bytes .ensures .0)
+      ap (λ (n : ℕ). rowsClean (c .before .before .before .before .before .before .before .before .args .font .now) (l .left - 1) (l .row + n))
+          (c .before .before .before .before .before .before .row-bytes .ensures .0)
           ∙ rows-step _ (l .left) (l .row) (c .before .before .loop-test .taken) (sym (c .before .row-clean .ensures) ∙ not-false _ (c .if1 .left))
           ∙ l .inv .3,
     )
@@ -71,6 +74,7 @@ rows-clean-spec =
     Inv-loop
     μ-loop
     row-bytes-requires
+    spare-mask-requires
     cell-height-requires
     loop-holds
     row-clean-requires

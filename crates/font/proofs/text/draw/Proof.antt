@@ -25,12 +25,12 @@ cell-width-requires c κs = search needs
 
 mul-wide : tie.Need-mul-wide
 mul-wide c = let k = c .before .before in let a = k .before .before .before .before .args in
-    let d = drawable-says (a .font .now) (a .h) (a .v) (a .text .now) (sym (k .drawable-ok .ensures) ∙ not-false _ (c .before .if1 .left)) in
+    let d = drawable-says (a .h) (a .v) (a .text .now) (sym (k .drawable-ok .ensures) ∙ not-false _ (c .before .if1 .left)) in
     record { fits = omega (arith, byte-times (c .cell-width .result) (a .h) 6 (c .cell-width .ensures .1) (d .wide)) }
 
 mul-wide-2 : tie.Need-mul-wide-2
 mul-wide-2 c = let k = c .before .before in let a = k .before .before .before .before .args in
-    let d = drawable-says (a .font .now) (a .h) (a .v) (a .text .now) (sym (k .drawable-ok .ensures) ∙ not-false _ (c .before .if1 .left)) in
+    let d = drawable-says (a .h) (a .v) (a .text .now) (sym (k .drawable-ok .ensures) ∙ not-false _ (c .before .if1 .left)) in
     let small = byte-times (c .cell-width .result) (a .h) 6 (c .cell-width .ensures .1) (d .wide) in
     record { fits = omega (arith, text-times (length (a .text .now)) (c .cell-width .result * a .h) 1530 (d .short) small) }
 
@@ -39,12 +39,12 @@ cell-height-requires c κs = search needs
 
 mul-high : tie.Need-mul-high
 mul-high c = let k = c .before .before .before in let a = k .before .before .before .before .args in
-    let d = drawable-says (a .font .now) (a .h) (a .v) (a .text .now) (sym (k .drawable-ok .ensures) ∙ not-false _ (c .before .before .if1 .left)) in
+    let d = drawable-says (a .h) (a .v) (a .text .now) (sym (k .drawable-ok .ensures) ∙ not-false _ (c .before .before .if1 .left)) in
     record { fits = omega (arith, byte-times (c .cell-height .result) (a .v) 9 (c .cell-height .ensures .1) (d .high)) }
 
 ink-text-requires : tie.Need-ink-text-requires
 ink-text-requires c κs = let k = c .before .before .before .before in let a = k .before .before .before .before .args in
-    let d = drawable-says (a .font .now) (a .h) (a .v) (a .text .now)
+    let d = drawable-says (a .h) (a .v) (a .text .now)
     (sym (k .drawable-ok .ensures) ∙ not-false _ (c .before .before .before .if1 .left)) in
     (d .wide, d .short)
 

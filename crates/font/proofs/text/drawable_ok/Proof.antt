@@ -4,21 +4,14 @@ use borrow.Author.Needs.{needs}
 use Rattle.font.proofs.text.drawable_ok.Statement.{statement}
 use Rattle.font.proofs.text.drawable_ok.Tie as tie
 
-is-legal-requires : tie.Need-is-legal-requires
-is-legal-requires c κs = search needs
-
 both-requires : tie.Need-both-requires
 both-requires c κs = search needs
 
 both-requires-2 : tie.Need-both-requires-2
 both-requires-2 c κs = search needs
 
-both-requires-3 : tie.Need-both-requires-3
-both-requires-3 c κs = search needs
-
 returns : tie.Need-returns
 returns c = cc
 
 pub drawable-ok-spec : {M : Type 1} → statement M
-drawable-ok-spec =
-    tie.close (tie.spec is-legal-requires both-requires both-requires-2 both-requires-3 returns)
+drawable-ok-spec = tie.close (tie.spec both-requires both-requires-2 returns)
