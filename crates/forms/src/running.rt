@@ -107,9 +107,13 @@ pub fn declared_at(store: &[u8], links: &[u16], directory: &[u8], i: usize) -> D
     w.declared
 }
 
+// Only a line that begins with G can draw a picture, so that no other is read.
 fn has_line(directory: &[u8], line: &[u8]) -> bool
     ensures { λ r. ⌜ r ≡ hasStored (now (directory .entry)) (now (line .entry)) (itemIn (now (line .entry))) ⌝ }
 {
+    if fields::byte(line, 0) != b'G' {
+        return true;
+    }
     let stored = stored_item(line);
     match stored {
         Stored::Holds(item) => has_picture(directory, line, item),

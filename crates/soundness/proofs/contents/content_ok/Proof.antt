@@ -28,10 +28,13 @@ is-of-kind-requires-2 c κs = search needs
 picture-legal-requires : tie.Need-picture-legal-requires
 picture-legal-requires c κs = search needs
 
+same-length : tie.Need-same-length
+same-length c = search needs
+
 returns-2 : tie.Need-returns-2
-returns-2 c = let p = c .before .before in let f = p .before .before in
+returns-2 c = let l = c .before .before in let p = l .before .before .before in let f = p .before .before in
     content-picture _ _ _ _ _ (f .before .kind-at .ensures .0) _ _ _ (f .is-of-kind .ensures) (p .before .if1 .left)
-    (p .is-of-kind2 .ensures) (c .before .if2 .taken) (c .picture-legal .ensures)
+    (p .is-of-kind2 .ensures) (l .before .before .if2 .taken) (l .picture-legal .ensures)
 
 returns-3 : tie.Need-returns-3
 returns-3 c = let p = c .before in let f = p .before .before in
@@ -48,5 +51,6 @@ content-ok-spec =
     returns
     is-of-kind-requires-2
     picture-legal-requires
+    same-length
     returns-2
     returns-3)

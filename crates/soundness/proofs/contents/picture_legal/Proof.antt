@@ -1,9 +1,9 @@
 use Rattle.soundness.proofs.Entries.{picture-long, picture-whole}
 use borrow.Author.Needs.{needs}
-use Rattle.soundness.proofs.contents.legal_by.Statement.{statement}
-use Rattle.soundness.proofs.contents.legal_by.Tie as tie
-use Rattle.soundness.proofs.contents.legal_by.Reads as reads
-use Rattle.soundness.proofs.contents.legal_by.Lts as lts
+use Rattle.soundness.proofs.contents.picture_legal.Statement.{statement}
+use Rattle.soundness.proofs.contents.picture_legal.Tie as tie
+use Rattle.soundness.proofs.contents.picture_legal.Reads as reads
+use Rattle.soundness.proofs.contents.picture_legal.Lts as lts
 use Rattle.picture.proofs.is_legal.Reads as is-legal-reads
 use Rattle.store.proofs.copy_out.Reads as copy-out-reads
 use Rattle.store.proofs.reader.Reads as reader-reads
@@ -32,8 +32,8 @@ returns-2 c = let o = c .before .before .before .before .before in let r = o .be
     picture-whole _ _ _ _ _ (r .reader .ensures) _ _ _ _ _ (r .before .before .before .before .before .pre) (o .before .before .if1 .left)
     (o .copy-out .ensures .0) (o .copy-out .ensures .1) (c .before .front .ensures) (c .is-legal .ensures)
 
-pub legal-by-spec : {M : Type 1} → statement M
-legal-by-spec =
+pub picture-legal-spec : {M : Type 1} → statement M
+picture-legal-spec =
     tie.close
     (tie.spec
     reader-requires

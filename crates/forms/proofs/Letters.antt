@@ -1,0 +1,170 @@
+-- What a line's first letter tells of its item: only a line that begins with G draws a picture, and only one that begins with V or C declares.
+-- Assumes nothing.
+use mathlib.Core.Path.{_≡_, refl, sym, ap, _∙_}
+use mathlib.Core.Bool.{Bool, true, false, not, cond, _&&_, _||_, false≢true}
+use mathlib.Core.List.{List, [], _∷_}
+use Prim.Native.Nat.{ℕ, suc}
+use native.Mathlib.Omega.{arith}
+use lib.ListN.{getD}
+use lib.Dec.{eqb}
+use borrow.Author.Tests.{ne-eqb}
+use Rattle.fit.specs.Bytes.{between}
+use Rattle.fields.specs.declared.Limits.{Limits}
+use Rattle.fields.specs.declared.Limits.the-variants.{Within, Outside}
+use Rattle.values.specs.declared.declarations.Declared.{Declared}
+use Rattle.read.specs.declared.Head.{Head}
+use Rattle.read.specs.declared.Head.the-variants.{Row, Unknown}
+use Rattle.read.specs.declared.Item.{Item}
+use Rattle.read.specs.declared.Command.{Command}
+use Rattle.read.specs.Grammar.{Form, forms, begins, second, find, headOf, Got, good, bad, rowOf, boundsOf, fieldsFrom, limitsFrom}
+use Rattle.read.specs.Commands.{itemOf, orderOf, isItem, commandOf, decided, judged, headed, readOf}
+use Rattle.written.specs.Written.{isNormal}
+use Rattle.forms.specs.declared.Stored.{Stored}
+use Rattle.forms.specs.declared.Stored.the-variants.{Holds, Nothing}
+use Rattle.forms.specs.Judged.{declares}
+use Rattle.forms.specs.Form.{heldCommand, heldRead, pickStored, itemIn, declaring, declaresStored, hasPicture, hasStored}
+
+choice : {A : Type 0} (q : A → Type 0) (b : Bool) {x y : A} → q x → q y → q (cond b x y)
+choice q true f g = f
+choice q false f g = g
+
+-- ---- the rows that a letter can name
+
+-- a row that `ok` does not name begins with another letter than a
+unfoldable others : (ℕ → Bool) → ℕ → List Form → ℕ → Bool
+others ok a [] i = true
+others ok a (f ∷ fs) i = (ok i || not (eqb a (getD (f .fields) 0 0))) && others ok a fs (suc i)
+
+both : (x y : Bool) → (x && y) ≡ true → (x ≡ true) × (y ≡ true)
+both true y h = (refl, h)
+both false y h = absurd (false≢true h)
+
+named : (x o : Bool) → x ≡ true → (o || not x) ≡ true → o ≡ true
+named x true h k = refl
+named true false h k = k
+named false false h k = absurd (false≢true h)
+
+found : (ok : ℕ → Bool) (a b : ℕ) (fs : List Form) (i : ℕ) → others ok a fs i ≡ true → (r : ℕ) → find fs i a b ≡ Row r → ok r ≡ true
+unfolding find others
+found ok a b [] i h r e = absurd (let z : _≡_ {A = ℕ} 0 1 = cc in omega arith)
+found ok a b (f ∷ fs) i h r e = go (begins (f .fields) a b) refl e (found ok a b fs (suc i) (parts .1) r)
+  where
+    parts : ((ok i || not (eqb a (getD (f .fields) 0 0))) ≡ true) × (others ok a fs (suc i) ≡ true)
+    parts = both _ _ h
+
+    go : (x : Bool) → begins (f .fields) a b ≡ x → cond x (Row i) (find fs (suc i) a b) ≡ Row r → (find fs (suc i) a b ≡ Row r → ok r ≡ true) → ok r ≡ true
+    go true begun e₂ rest = let m : i ≡ r = cc in rw m at (named (eqb a (getD (f .fields) 0 0)) (ok i) (both _ _ begun .0) (parts .0))
+    go false begun e₂ rest = rest e₂
+
+-- ---- what a line holds, by its row
+
+-- what is no item is not recorded
+order-none : (r : ℕ) (s v p : List ℕ) → heldCommand (orderOf r s v p) ≡ Nothing
+unfolding orderOf
+order-none r s v p =
+    let q : (Command → Type 0) = λ c. heldCommand c ≡ Nothing in
+    choice q (eqb r 0) refl
+    (choice q (eqb r 1) refl
+    (choice q (eqb r 3) refl
+    (choice q (eqb r 4) refl
+    (choice q (eqb r 12) refl
+    (choice q (eqb r 13) refl
+    (choice q (eqb r 14) refl
+    (choice q (eqb r 15) refl
+    (choice q (eqb r 16) refl
+    (choice q (eqb r 17) refl
+    (choice q (eqb r 18) refl
+    (choice q (eqb r 19) refl
+    (choice q (eqb r 20) refl
+    (choice q (eqb r 21) refl
+    (choice q (eqb r 24) refl
+    (choice q (eqb r 25) refl
+    (choice q (eqb r 26) refl refl))))))))))))))))
+
+-- what holds of nothing and of each item of the rows that `ok` names holds of a line whose letters name no other row
+module _ (q : Stored → Type 0) (none : q Nothing) (ok : ℕ → Bool) (items : (r : ℕ) (v p : List ℕ) → ok r ≡ true → q (Holds (itemOf r v p)))
+    (line : List ℕ) (rows : others ok (getD line 0 0) forms 0 ≡ true) where
+  command-is : (r : ℕ) (v p : List ℕ) → ok r ≡ true → q (heldCommand (commandOf r line v p))
+  command-is r v p h = choice (λ (c : Command). q (heldCommand c)) (isItem r) (items r v p h) (rw (order-none r line v p) none)
+
+  read-is : q (heldRead (readOf 1 line))
+  unfolding readOf headed judged headOf
+  read-is = by (find forms 0 (getD line 0 0) (getD line 1 0)) refl
+    where
+      limited : (l : Limits) (r : ℕ) (v p : List ℕ) → ok r ≡ true → q (heldRead (decided l (commandOf r line v p)))
+      limited Within r v p h = command-is r v p h
+      limited (Outside at) r v p h = none
+
+      fields : (g : Got) (r : ℕ) → ok r ≡ true → q (heldRead (judged r 1 line g))
+      fields (good v p) r h = limited (limitsFrom (rowOf r .fields) (boundsOf r 1) line 0 v p) r v p h
+      fields (bad at) r h = none
+
+      by : (x : Head) → find forms 0 (getD line 0 0) (getD line 1 0) ≡ x → q (heldRead (headed x 1 line))
+      by (Row r) e = fields (fieldsFrom (rowOf r .fields) line 0) r (found ok (getD line 0 0) (getD line 1 0) forms 0 rows r e)
+      by Unknown e = none
+
+  item-is : q (itemIn line)
+  unfolding itemIn
+  item-is = by (isNormal line)
+    where
+      by : (b : Bool) → q (pickStored b (heldRead (readOf 1 line)) Nothing)
+      by true = read-is
+      by false = none
+
+-- ---- the letters of pictures and declarations
+
+pub has-other : (directory line : List ℕ) (a : ℕ) → a ≡ getD line 0 0 → (a ≡ 71 → ⊥) → true ≡ hasStored directory line (itemIn line)
+unfolding itemOf hasPicture others
+has-other directory line a e n =
+    sym (item-is (λ (s : Stored). hasStored directory line s ≡ true) refl other items line rows)
+  where
+    other : ℕ → Bool
+    other r = not (eqb r 11)
+
+    q : Item → Type 0
+    q it = hasPicture directory line it ≡ true
+
+    by : (g : Bool) (r : ℕ) (v p : List ℕ) → eqb r 11 ≡ g → not g ≡ true → q (itemOf r v p)
+    by true r v p e h = absurd (false≢true h)
+    by false r v p e h =
+        choice q (eqb r 2) refl
+        (choice q (eqb r 8) refl
+        (choice q (eqb r 9) refl
+        (choice q (eqb r 10) refl
+        (rw e
+        (choice q (eqb r 22) refl
+        (choice q (eqb r 23) refl refl))))))
+
+    items : (r : ℕ) (v p : List ℕ) → other r ≡ true → q (itemOf r v p)
+    items r v p h = by (eqb r 11) r v p refl h
+
+    rows : others other (getD line 0 0) forms 0 ≡ true
+    rows = rw (← e, ne-eqb a 71 n)
+
+pub declaring-other : (d : Declared) (line : List ℕ) (a : ℕ) → a ≡ getD line 0 0 → (a ≡ 86 → ⊥) → (a ≡ 67 → ⊥) → d ≡ declaring d line
+unfolding itemOf declares declaring others
+declaring-other d line a e n m =
+    sym (item-is (λ (s : Stored). declaresStored d s ≡ d) refl other items line rows)
+  where
+    other : ℕ → Bool
+    other r = not (eqb r 22) && not (eqb r 23)
+
+    q : Item → Type 0
+    q it = declares d it ≡ d
+
+    by : (g k : Bool) (r : ℕ) (v p : List ℕ) → eqb r 22 ≡ g → eqb r 23 ≡ k → (not g && not k) ≡ true → q (itemOf r v p)
+    by true k r v p e f h = absurd (false≢true h)
+    by false true r v p e f h = absurd (false≢true h)
+    by false false r v p e f h =
+        choice q (eqb r 2) refl
+        (choice q (eqb r 8) refl
+        (choice q (eqb r 9) refl
+        (choice q (eqb r 10) refl
+        (choice q (eqb r 11) refl
+        (rw (e, f) refl)))))
+
+    items : (r : ℕ) (v p : List ℕ) → other r ≡ true → q (itemOf r v p)
+    items r v p h = by (eqb r 22) (eqb r 23) r v p refl refl h
+
+    rows : others other (getD line 0 0) forms 0 ≡ true
+    rows = rw (← e, ne-eqb a 86 n, ne-eqb a 67 m)
