@@ -1,16 +1,18 @@
 -- What the tests of one entry, of one portion and of the whole answer.
-use mathlib.Core.Path.{_≡_, sym, ap, _∙_}
+use mathlib.Core.Path.{_≡_, refl, sym, ap, _∙_}
 use mathlib.Core.List.{List, [], _∷_}
 use mathlib.Core.Bool.{Bool, true, false, not, _&&_}
+use mathlib.Core.Logic.{⊎-elim}
 use Prim.Native.Nat.{ℕ, zero, suc, _+_, _-_, _*_, _≤_, _<_, min}
 use native.Mathlib.Omega.{arith}
 use lib.ListN.{length, getD, take, drop, length-drop}
 use lib.Seq.{take-nil, drop-nil, drop-drop, take-all}
 use lib.Dec.{eqb, leb}
+use lib.Bits.{bitOr, or-add-and, and-le-r}
 use borrow.Author.Tests.{eq-eqb, ne-eqb, le-leb, lt-leb, not-true, not-false, leb-true}
 use Rattle.cells.specs.Cell.{cell}
 use Rattle.cells.specs.Count.{allTo, allZero}
-use Rattle.cells.proofs.Counts.{drop-step, drop-none, and-left}
+use Rattle.cells.proofs.Counts.{drop-step, drop-none, and-left, same?}
 use Rattle.store.specs.declared.Found.{Found}
 use Rattle.store.specs.Chain.{needed, portion}
 use Rattle.store.specs.Entry.{entries, entry, kind, nameLength, name, size}
@@ -97,11 +99,16 @@ take-fits n m l e = go (native.Mathlib.Decide.decLe n (length l))
     go (yes h) = ap (λ (k : ℕ). take k l) (let z : m ≡ n = omega arith in z)
     go (no h) = take-all m l (omega arith) ∙ sym (take-all n l (omega arith))
 
-pub zero-step : (l : List ℕ) (i : ℕ) → i < length l → getD l i 0 ≡ 0 → allZero (drop (i + 1) l) ≡ allZero (drop i l)
-zero-step l i h e = sym (rw (drop-step l i h, eq-eqb (getD l i 0) 0 e))
+-- bytes joined by `|`: one more, and all
+pub zero-more : (l : List ℕ) (i any : ℕ) → i < length l → (eqb (bitOr any (getD l i 0)) 0 && allZero (drop (i + 1) l)) ≡ (eqb any 0 && allZero (drop i l))
+zero-more l i any h = rw (drop-step l i h) (⊎-elim
+    (λ (z : any ≡ 0). rw z)
+    (λ (n : any ≡ 0 → ⊥). rw (ne-eqb any 0 n, ne-eqb (bitOr any (getD l i 0)) 0 (λ z. n (omega (arith, or-add-and any (getD l i 0), and-le-r any (getD l i 0))))))
+    (same? any 0))
 
-pub zero-stop : (l : List ℕ) (i : ℕ) → i < length l → (getD l i 0 ≡ 0 → ⊥) → allZero (drop i l) ≡ false
-zero-stop l i h n = rw (drop-step l i h, ne-eqb (getD l i 0) 0 n)
+pub zero-end : (l : List ℕ) (i : ℕ) (b : Bool) → length l ≤ i → b ≡ (b && allZero (drop i l))
+zero-end l i true h = rw (drop-none l i h)
+zero-end l i false h = refl
 
 -- ---- one portion, and the tail of one chain
 

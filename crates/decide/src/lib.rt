@@ -274,17 +274,17 @@ fn least(a: usize, b: usize) -> usize
     if a < b { a } else { b }
 }
 
+// No early exit, so that many bytes go at once.
 fn is_zero(s: &[u8]) -> bool
     ensures { λ r. ⌜ r ≡ allZero (now (s .entry)) ⌝ }
 {
+    let mut any: u8 = 0;
     let mut i = 0;
     while i < s.len() {
-        if s[i] != 0 {
-            return false;
-        }
+        any = any | s[i];
         i += 1;
     }
-    true
+    any == 0
 }
 
 // So many bytes from a place on are zero.
