@@ -1,3 +1,4 @@
+pub mod Back
 pub mod Decimal
 pub mod Line
 pub mod Run

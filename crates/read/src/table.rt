@@ -1,11 +1,13 @@
 // The grammar as the code reads it: for each command the eighteen bytes of its form, and behind them a letter for the bounds of each field. A
 // row is read once for a line: its bytes are quickly at hand, and a whole table would be copied each time.
 ghost use mathlib.Core.Path.{_≡_};
+ghost use Prim.Native.Nat.{_≤_, _<_};
 ghost use Rattle.read.specs.Codes.{lineUp, boundBy};
 use crate::Bounds;
 
-// The form of a row, and spaces past its end; then the letters of its bounds.
-pub fn line_up(row: usize) -> [u8; 36]
+// The page: Q, q, R, ZT, ZB.
+fn page_rows(row: usize) -> [u8; 36]
+    requires { ⌜ row < 5 ⌝ }
     ensures { λ r. ⌜ r ≡ lineUp row ⌝ }
 {
     match row {
@@ -13,14 +15,32 @@ pub fn line_up(row: usize) -> [u8; 36]
         1 => *b"qn                -m----------------",
         2 => *b"Rn,n              -j-k--------------",
         3 => *b"ZT                ------------------",
-        4 => *b"ZB                ------------------",
+        _ => *b"ZB                ------------------",
+    }
+}
+
+// What is drawn: LO, LE, LW, X, A, B, GG.
+fn drawn_rows(row: usize) -> [u8; 36]
+    requires { ⌜ (5 ≤ row) × (row < 12) ⌝ }
+    ensures { λ r. ⌜ r ≡ lineUp row ⌝ }
+{
+    match row {
         5 => *b"LOn,n,n,n         --a-a-b-b---------",
         6 => *b"LEn,n,n,n         --a-a-b-b---------",
         7 => *b"LWn,n,n,n         --a-a-b-b---------",
         8 => *b"Xn,n,n,n,n        -a-c-d-a-c--------",
         9 => *b"An,n,n,n,n,m,d    -a-c-e-f-g--------",
         10 => *b"Bn,n,n,k,n,w,n,N,d-a-c-e---f-h-i----",
-        11 => *b"GGn,n,a           --a-c-q-----------",
+        _ => *b"GGn,n,a           --a-c-q-----------",
+    }
+}
+
+// What is kept: forms and pictures.
+fn kept_rows(row: usize) -> [u8; 36]
+    requires { ⌜ (12 ≤ row) × (row < 21) ⌝ }
+    ensures { λ r. ⌜ r ≡ lineUp row ⌝ }
+{
+    match row {
         12 => *b"FSa               --q---------------",
         13 => *b"FE                ------------------",
         14 => *b"FRa               --q---------------",
@@ -29,7 +49,16 @@ pub fn line_up(row: usize) -> [u8; 36]
         17 => *b"FI                ------------------",
         18 => *b"GI                ------------------",
         19 => *b"FPa               --q---------------",
-        20 => *b"GMa,n             --q-r-------------",
+        _ => *b"GMa,n             --q-r-------------",
+    }
+}
+
+// Values and labels: VC, V, C, ?V, ?C, P, N. Past the last row there is none.
+fn value_rows(row: usize) -> [u8; 36]
+    requires { ⌜ 21 ≤ row ⌝ }
+    ensures { λ r. ⌜ r ≡ lineUp row ⌝ }
+{
+    match row {
         21 => *b"VC                ------------------",
         22 => *b"Vn,n,j,t          -n-o---p----------",
         23 => *b"Cn,n,s,t          -n-g-s-p----------",
@@ -39,6 +68,22 @@ pub fn line_up(row: usize) -> [u8; 36]
         27 => *b"N                 ------------------",
         _ => *b"                  ------------------",
     }
+}
+
+// The form of a row, and spaces past its end; then the letters of its bounds.
+pub fn line_up(row: usize) -> [u8; 36]
+    ensures { λ r. ⌜ r ≡ lineUp row ⌝ }
+{
+    if row < 5 {
+        return page_rows(row);
+    }
+    if row < 12 {
+        return drawn_rows(row);
+    }
+    if row < 21 {
+        return kept_rows(row);
+    }
+    value_rows(row)
 }
 
 // The bounds that a letter stands for, on a page of so many rows.
