@@ -1,14 +1,13 @@
 -- What a line's first letter tells of its item: only a line that begins with G draws a picture, and only one that begins with V or C declares.
 -- Assumes nothing.
-use mathlib.Core.Path.{_≡_, refl, sym, ap, _∙_}
+use mathlib.Core.Path.{_≡_, refl, sym}
 use mathlib.Core.Bool.{Bool, true, false, not, cond, _&&_, _||_, false≢true}
 use mathlib.Core.List.{List, [], _∷_}
 use Prim.Native.Nat.{ℕ, suc}
 use native.Mathlib.Omega.{arith}
 use lib.ListN.{getD}
 use lib.Dec.{eqb}
-use borrow.Author.Tests.{ne-eqb}
-use Rattle.fit.specs.Bytes.{between}
+use borrow.Author.Tests.{ne-eqb, not-true}
 use Rattle.fields.specs.declared.Limits.{Limits}
 use Rattle.fields.specs.declared.Limits.the-variants.{Within, Outside}
 use Rattle.values.specs.declared.declarations.Declared.{Declared}
@@ -16,7 +15,7 @@ use Rattle.read.specs.declared.Head.{Head}
 use Rattle.read.specs.declared.Head.the-variants.{Row, Unknown}
 use Rattle.read.specs.declared.Item.{Item}
 use Rattle.read.specs.declared.Command.{Command}
-use Rattle.read.specs.Grammar.{Form, forms, begins, second, find, headOf, Got, good, bad, rowOf, boundsOf, fieldsFrom, limitsFrom}
+use Rattle.read.specs.Grammar.{Form, forms, begins, find, headOf, Got, good, bad, rowOf, boundsOf, fieldsFrom, limitsFrom}
 use Rattle.read.specs.Commands.{itemOf, orderOf, isItem, commandOf, decided, judged, headed, readOf}
 use Rattle.written.specs.Written.{isNormal}
 use Rattle.forms.specs.declared.Stored.{Stored}
@@ -30,7 +29,7 @@ choice q false f g = g
 
 -- ---- the rows that a letter can name
 
--- a row that `ok` does not name begins with another letter than a
+-- each row that `ok` does not name begins with another letter than a
 unfoldable others : (ℕ → Bool) → ℕ → List Form → ℕ → Bool
 others ok a [] i = true
 others ok a (f ∷ fs) i = (ok i || not (eqb a (getD (f .fields) 0 0))) && others ok a fs (suc i)
@@ -124,19 +123,15 @@ has-other directory line a e n =
     q : Item → Type 0
     q it = hasPicture directory line it ≡ true
 
-    by : (g : Bool) (r : ℕ) (v p : List ℕ) → eqb r 11 ≡ g → not g ≡ true → q (itemOf r v p)
-    by true r v p e h = absurd (false≢true h)
-    by false r v p e h =
+    items : (r : ℕ) (v p : List ℕ) → other r ≡ true → q (itemOf r v p)
+    items r v p h =
         choice q (eqb r 2) refl
         (choice q (eqb r 8) refl
         (choice q (eqb r 9) refl
         (choice q (eqb r 10) refl
-        (rw e
+        (rw (not-true (eqb r 11) h)
         (choice q (eqb r 22) refl
         (choice q (eqb r 23) refl refl))))))
-
-    items : (r : ℕ) (v p : List ℕ) → other r ≡ true → q (itemOf r v p)
-    items r v p h = by (eqb r 11) r v p refl h
 
     rows : others other (getD line 0 0) forms 0 ≡ true
     rows = rw (← e, ne-eqb a 71 n)
@@ -152,19 +147,15 @@ declaring-other d line a e n m =
     q : Item → Type 0
     q it = declares d it ≡ d
 
-    by : (g k : Bool) (r : ℕ) (v p : List ℕ) → eqb r 22 ≡ g → eqb r 23 ≡ k → (not g && not k) ≡ true → q (itemOf r v p)
-    by true k r v p e f h = absurd (false≢true h)
-    by false true r v p e f h = absurd (false≢true h)
-    by false false r v p e f h =
+    items : (r : ℕ) (v p : List ℕ) → other r ≡ true → q (itemOf r v p)
+    items r v p h =
+        let n = both (not (eqb r 22)) (not (eqb r 23)) h in
         choice q (eqb r 2) refl
         (choice q (eqb r 8) refl
         (choice q (eqb r 9) refl
         (choice q (eqb r 10) refl
         (choice q (eqb r 11) refl
-        (rw (e, f) refl)))))
-
-    items : (r : ℕ) (v p : List ℕ) → other r ≡ true → q (itemOf r v p)
-    items r v p h = by (eqb r 22) (eqb r 23) r v p refl refl h
+        (rw (not-true (eqb r 22) (n .0), not-true (eqb r 23) (n .1)))))))
 
     rows : others other (getD line 0 0) forms 0 ≡ true
     rows = rw (← e, ne-eqb a 86 n, ne-eqb a 67 m)

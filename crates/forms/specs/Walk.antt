@@ -8,8 +8,7 @@ use lib.ListN.{length, drop}
 use lib.Dec.{eqb, leb, ltb}
 use Rattle.values.specs.declared.declarations.Declared.{Declared}
 use Rattle.values.specs.Declarations.{nothing}
-use Rattle.store.specs.Entry.{entry, first}
-use Rattle.store.specs.Content.{bytesFrom, extent}
+use Rattle.store.specs.Content.{ahead, cursorAt}
 use Rattle.store.specs.Lines.{linesOf, lineOf}
 use Rattle.forms.specs.Form.{takesAll, declaredBy, hasAll}
 use Rattle.forms.specs.declared.running.Walk.{Walk}
@@ -26,11 +25,10 @@ behind a = drop (suc (length (lineOf a))) a
 
 -- a walk at the start of the form of entry i
 abbrev pub started : List ℕ → List ℕ → ℕ → Walk
-started links directory i =
-    record { portion = first (entry directory i); at = 0; left = extent links (entry directory i); declared = nothing; good = true }
+started links directory i = record { place = cursorAt links directory i; declared = nothing; good = true }
 
 abbrev pub leftOf : List ℕ → List ℕ → Walk → List ℕ
-leftOf store links w = bytesFrom store links (w .portion) (w .at) (w .left)
+leftOf store links w = ahead store links (w .place)
 
 -- whether the rest of a form is good after the declarations d
 unfoldable pub restOk : Declared → List ℕ → Bool

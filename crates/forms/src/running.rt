@@ -18,9 +18,7 @@ use values::bytes::front;
 
 // Where a walk stands, what is declared so far, and whether all was good so far.
 pub struct Walk {
-    pub portion: usize,
-    pub at: usize,
-    pub left: usize,
+    pub place: Cursor,
     pub declared: Declared,
     pub good: bool,
 }
@@ -34,11 +32,8 @@ struct Seen {
 fn start(links: &[u16], directory: &[u8], i: usize) -> Walk
     ensures { λ r. ⌜ r ≡ started (now (links .entry)) (now (directory .entry)) i ⌝ }
 {
-    let c = store::reader(links, directory, i);
     Walk {
-        portion: c.portion,
-        at: c.at,
-        left: c.left,
+        place: store::reader(links, directory, i),
         declared: Declared::none(),
         good: true,
     }
@@ -62,24 +57,18 @@ fn see_line(line: &[u8], d: Declared) -> Seen
 }
 
 fn judge_next(store: &[u8], links: &[u16], w: Walk) -> Walk
-    requires { ⌜ 0 < w .left ⌝ }
-    ensures { λ r. ⌜ (walkOk (now (store .entry)) (now (links .entry)) r ≡ walkOk (now (store .entry)) (now (links .entry)) w) × (walkDeclared (now (store .entry)) (now (links .entry)) r ≡ walkDeclared (now (store .entry)) (now (links .entry)) w) × (r .left < w .left) ⌝ }
+    requires { ⌜ 0 < w .place .left ⌝ }
+    ensures { λ r. ⌜ (walkOk (now (store .entry)) (now (links .entry)) r ≡ walkOk (now (store .entry)) (now (links .entry)) w) × (r .place .left < w .place .left) ⌝ }
 {
     let mut buffer = [0u8; 256];
     let d = w.declared;
-    let place = Cursor {
-        portion: w.portion,
-        at: w.at,
-        left: w.left,
-    };
+    let place = w.place;
     let next = next_line(store, links, place, &mut buffer);
     let seen = see_line(front(&buffer, next.n), d);
     let after = next.place;
     let declared = seen.declared;
     Walk {
-        portion: after.portion,
-        at: after.at,
-        left: after.left,
+        place: after,
         declared,
         good: both(w.good, seen.good),
     }
@@ -90,10 +79,42 @@ pub fn form_ok(store: &[u8], links: &[u16], directory: &[u8], i: usize) -> bool
     ensures { λ r. ⌜ r ≡ formOk (content (now (store .entry)) (now (links .entry)) (now (directory .entry)) i) ⌝ }
 {
     let mut w = start(links, directory, i);
-    while 0 < w.left {
+    while 0 < w.place.left {
         w = judge_next(store, links, w);
     }
     w.good
+}
+
+// Only a line that begins with V or C can declare, so that no other is read.
+fn declare_line(line: &[u8], d: Declared) -> Declared
+    ensures { λ r. ⌜ r ≡ declaring d (now (line .entry)) ⌝ }
+{
+    let first = fields::byte(line, 0);
+    if first != b'V' && first != b'C' {
+        return d;
+    }
+    let stored = stored_item(line);
+    match stored {
+        Stored::Holds(item) => declare(d, item),
+        Stored::Nothing => d,
+    }
+}
+
+fn declare_next(store: &[u8], links: &[u16], w: Walk) -> Walk
+    requires { ⌜ 0 < w .place .left ⌝ }
+    ensures { λ r. ⌜ (walkDeclared (now (store .entry)) (now (links .entry)) r ≡ walkDeclared (now (store .entry)) (now (links .entry)) w) × (r .place .left < w .place .left) ⌝ }
+{
+    let mut buffer = [0u8; 256];
+    let d = w.declared;
+    let place = w.place;
+    let next = next_line(store, links, place, &mut buffer);
+    let declared = declare_line(front(&buffer, next.n), d);
+    let after = next.place;
+    Walk {
+        place: after,
+        declared,
+        good: w.good,
+    }
 }
 
 // What the form of entry i declares.
@@ -101,8 +122,8 @@ pub fn declared_at(store: &[u8], links: &[u16], directory: &[u8], i: usize) -> D
     ensures { λ r. ⌜ r ≡ declaredOf (content (now (store .entry)) (now (links .entry)) (now (directory .entry)) i) ⌝ }
 {
     let mut w = start(links, directory, i);
-    while 0 < w.left {
-        w = judge_next(store, links, w);
+    while 0 < w.place.left {
+        w = declare_next(store, links, w);
     }
     w.declared
 }
@@ -122,23 +143,17 @@ fn has_line(directory: &[u8], line: &[u8]) -> bool
 }
 
 fn look_next(store: &[u8], links: &[u16], directory: &[u8], w: Walk) -> Walk
-    requires { ⌜ 0 < w .left ⌝ }
-    ensures { λ r. ⌜ (walkHas (now (store .entry)) (now (links .entry)) (now (directory .entry)) r ≡ walkHas (now (store .entry)) (now (links .entry)) (now (directory .entry)) w) × (r .left < w .left) ⌝ }
+    requires { ⌜ 0 < w .place .left ⌝ }
+    ensures { λ r. ⌜ (walkHas (now (store .entry)) (now (links .entry)) (now (directory .entry)) r ≡ walkHas (now (store .entry)) (now (links .entry)) (now (directory .entry)) w) × (r .place .left < w .place .left) ⌝ }
 {
     let mut buffer = [0u8; 256];
     let declared = w.declared;
-    let place = Cursor {
-        portion: w.portion,
-        at: w.at,
-        left: w.left,
-    };
+    let place = w.place;
     let next = next_line(store, links, place, &mut buffer);
     let has = has_line(directory, front(&buffer, next.n));
     let after = next.place;
     Walk {
-        portion: after.portion,
-        at: after.at,
-        left: after.left,
+        place: after,
         declared,
         good: both(w.good, has),
     }
@@ -149,7 +164,7 @@ pub fn pictures_stored(store: &[u8], links: &[u16], directory: &[u8], i: usize) 
     ensures { λ r. ⌜ r ≡ picturesStored (now (directory .entry)) (content (now (store .entry)) (now (links .entry)) (now (directory .entry)) i) ⌝ }
 {
     let mut w = start(links, directory, i);
-    while 0 < w.left {
+    while 0 < w.place.left {
         w = look_next(store, links, directory, w);
     }
     w.good

@@ -11,7 +11,7 @@ abbrev Inv-loop : tie.InvT-loop
 Inv-loop store links directory i w₀ w = walkDeclared store links w ≡ declaredOf (content store links directory i)
 
 abbrev μ-loop : tie.MeasureT-loop
-μ-loop store links directory i w₀ w = w .left
+μ-loop store links directory i w₀ w = w .place .left
 
 start-requires : tie.Need-start-requires Inv-loop μ-loop
 start-requires c κs = search needs
@@ -19,17 +19,17 @@ start-requires c κs = search needs
 loop-holds : tie.Need-loop-holds Inv-loop μ-loop
 loop-holds c = declared-start _ _ _ _ _ (c .start .ensures)
 
-judge-next-requires : tie.Need-judge-next-requires Inv-loop μ-loop
-judge-next-requires c κs = search needs
+declare-next-requires : tie.Need-declare-next-requires Inv-loop μ-loop
+declare-next-requires c κs = search needs
 
 loop-less : tie.Need-loop-less Inv-loop μ-loop
-loop-less c = c .judge-next .ensures .2
+loop-less c = c .declare-next .ensures .1
 
 loop-again : tie.Need-loop-again Inv-loop μ-loop
-loop-again c = c .judge-next .ensures .1 ∙ c .before .before .before .loop .inv
+loop-again c = c .declare-next .ensures .0 ∙ c .before .before .before .loop .inv
 
 returns : tie.Need-returns Inv-loop μ-loop
 returns c = declared-end _ _ _ _ _ _ (c .before .if1 .left) ∙ c .before .before .before .loop .inv
 
 pub declared-at-spec : {M : Type 1} → statement M
-declared-at-spec = tie.close (tie.spec Inv-loop μ-loop start-requires loop-holds judge-next-requires loop-less loop-again returns)
+declared-at-spec = tie.close (tie.spec Inv-loop μ-loop start-requires loop-holds declare-next-requires loop-less loop-again returns)

@@ -11,7 +11,7 @@ abbrev Inv-loop : tie.InvT-loop
 Inv-loop store links directory i w₀ w = walkOk store links w ≡ formOk (content store links directory i)
 
 abbrev μ-loop : tie.MeasureT-loop
-μ-loop store links directory i w₀ w = w .left
+μ-loop store links directory i w₀ w = w .place .left
 
 start-requires : tie.Need-start-requires Inv-loop μ-loop
 start-requires c κs = search needs
@@ -23,7 +23,7 @@ judge-next-requires : tie.Need-judge-next-requires Inv-loop μ-loop
 judge-next-requires c κs = search needs
 
 loop-less : tie.Need-loop-less Inv-loop μ-loop
-loop-less c = c .judge-next .ensures .2
+loop-less c = c .judge-next .ensures .1
 
 loop-again : tie.Need-loop-again Inv-loop μ-loop
 loop-again c = c .judge-next .ensures .0 ∙ c .before .before .before .loop .inv

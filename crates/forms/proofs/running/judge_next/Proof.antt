@@ -1,5 +1,5 @@
 use mathlib.Core.Path.{_∙_}
-use Rattle.forms.proofs.Walking.{walk-ok, walk-declared, walk-less}
+use Rattle.forms.proofs.Walking.{walk-ok, walk-less}
 use borrow.Author.Needs.{needs}
 use Rattle.forms.proofs.running.judge_next.Statement.{statement}
 use Rattle.forms.proofs.running.judge_next.Tie as tie
@@ -23,7 +23,7 @@ both-requires : tie.Need-both-requires
 both-requires c κs = search needs
 
 returns : tie.Need-returns
-returns c = let a = c .before .before .before .before .before .before .before .before .before .before .before .before .args in let n = c .before .before .before .before .before .before .before .next-line in let s = c .before .before .before .see-line in let h = c .before .before .before .before .before .before .before .before .before .before .before .before .pre in let l = c .before .before .before .before .front .ensures ∙ n .ensures .0 in (walk-ok _ _ _ _ _ _ _ _ _ h l (n .ensures .1) _ _ (a .w .good) _ _ (s .ensures .0) (s .ensures .1) (c .both .ensures), walk-declared _ _ _ _ _ _ _ _ _ h l (n .ensures .1) _ _ (s .ensures .0), walk-less _ _ _ _ _ _ _ _ _ h l (n .ensures .1))
+returns c = let a = c .before .before .before .before .before .before .before .before .before .before .before .before .before .args in let n = c .before .before .before .before .before .before .before .next-line in let s = c .before .before .before .see-line in let h = c .before .before .before .before .before .before .before .before .before .before .before .before .before .pre in let l = c .before .before .before .before .front .ensures ∙ n .ensures .0 in (walk-ok _ _ _ _ _ _ _ _ _ h l (n .ensures .1) _ _ (a .w .good) _ _ (s .ensures .0) (s .ensures .1) (c .both .ensures), walk-less _ _ _ _ _ _ _ _ _ h l (n .ensures .1))
 
 pub judge-next-spec : {M : Type 1} → statement M
 judge-next-spec = tie.close (tie.spec slice-aggregate-next-line next-line-requires slice-aggregate-front front-requires see-line-requires both-requires returns)

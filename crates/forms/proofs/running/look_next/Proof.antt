@@ -23,7 +23,7 @@ both-requires : tie.Need-both-requires
 both-requires c κs = search needs
 
 returns : tie.Need-returns
-returns c = let a = c .before .before .before .before .before .before .before .before .before .before .before .before .args in let n = c .before .before .before .before .before .before .next-line in let h = c .before .before .before .before .before .before .before .before .before .before .before .before .pre in let l = c .before .before .before .front .ensures ∙ n .ensures .0 in (walk-has _ _ _ _ _ _ _ _ _ h l (n .ensures .1) _ (a .w .good) _ _ (c .before .before .has-line .ensures) (c .both .ensures), walk-less _ _ _ _ _ _ _ _ _ h l (n .ensures .1))
+returns c = let a = c .before .before .before .before .before .before .before .before .before .before .before .before .before .args in let n = c .before .before .before .before .before .before .next-line in let h = c .before .before .before .before .before .before .before .before .before .before .before .before .before .pre in let l = c .before .before .before .front .ensures ∙ n .ensures .0 in (walk-has _ _ _ _ _ _ _ _ _ h l (n .ensures .1) _ (a .w .good) _ _ (c .before .before .has-line .ensures) (c .both .ensures), walk-less _ _ _ _ _ _ _ _ _ h l (n .ensures .1))
 
 pub look-next-spec : {M : Type 1} → statement M
 look-next-spec = tie.close (tie.spec slice-aggregate-next-line next-line-requires slice-aggregate-front front-requires has-line-requires both-requires returns)

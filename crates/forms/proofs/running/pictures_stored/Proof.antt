@@ -11,7 +11,7 @@ abbrev Inv-loop : tie.InvT-loop
 Inv-loop store links directory i w₀ w = walkHas store links directory w ≡ picturesStored directory (content store links directory i)
 
 abbrev μ-loop : tie.MeasureT-loop
-μ-loop store links directory i w₀ w = w .left
+μ-loop store links directory i w₀ w = w .place .left
 
 start-requires : tie.Need-start-requires Inv-loop μ-loop
 start-requires c κs = search needs
