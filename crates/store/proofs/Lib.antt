@@ -1,3 +1,4 @@
 pub mod Finding
+pub mod Runs
 pub mod Reading
 pub mod Lines

@@ -4,12 +4,16 @@ use mathlib.Core.List.{List, _∷_}
 use Prim.Native.Nat.{ℕ, zero, suc, _+_, _-_, _*_, _≤_, _<_, min}
 use native.Mathlib.Omega.{arith}
 use native.Mathlib.Numerals.{add-one, sub-one}
+use native.Mathlib.Decide.{decLe, decLt}
+use native.Mathlib.Nat.{add-zero, add-suc, add-assoc}
 use lib.ListN.{length, getD, set, take, drop}
 use lib.Seq.{sets, take-suc, take-all, length-take-le, length-sets}
+use borrow.Author.Tests.{lt-ltb, le-ltb}
 use Rattle.cells.proofs.Sets.{sets-snoc, sets-take}
 use Rattle.store.specs.declared.Cursor.{Cursor}
 use Rattle.store.specs.Entry.{entry}
 use Rattle.store.specs.Content.{portionAfter, placeAfter, bytesFrom, extent, contentOf, content, cursor, ahead, onward, after}
+use Rattle.store.specs.Run.{copied}
 
 pub length-bytes : (store links : List ℕ) (p at n : ℕ) → length (bytesFrom store links p at n) ≡ n
 unfolding bytesFrom
@@ -77,6 +81,15 @@ module _ (store links : List ℕ) (c₀ : Cursor) where
   pub stands-is : (k p at left : ℕ) → Stands store links c₀ k p at → left ≡ c₀ .left - k → cursor p at left ≡ after links c₀ k
   stands-is k p at left s e = λ j. cursor (sym (s .portion) j) (sym (s .place) j) ((e ∙ sym (after-left store links c₀ k)) j)
 
+-- before its last byte a reader stays in the portion
+pub stays : (links : List ℕ) (p at : ℕ) → at < 255 → (p ≡ portionAfter links p at) × (at + 1 ≡ placeAfter at)
+unfolding portionAfter placeAfter
+stays links p at h = rw (lt-ltb at 255 h) (refl, refl)
+
+pub place-inside : (at at′ : ℕ) → at′ ≡ placeAfter at → at′ ≤ 255
+unfolding placeAfter
+place-inside at at′ e = rw e (elim (decLt at 255) [ yes h ↦ rw (lt-ltb at 255 h) (omega arith) | no h ↦ rw (le-ltb at 255 (omega arith)) (omega arith) ])
+
 -- ---- a content copied out
 
 -- the front of a list stored at the front of another, one element more
@@ -106,10 +119,26 @@ module _ (store links : List ℕ) (c₀ : Cursor) (n m : ℕ) (out₀ : List ℕ
     few = omega arith;
   }
 
+  -- a run that stays in its portion
+  copying-run : (out : List ℕ) (k p at r : ℕ) → r ≤ 255 - at → k + r ≤ n → Copying store links c₀ n out₀ out k p at
+      → Copying store links c₀ n out₀ (copied out k store (p * 256 + at) r) (k + r) p (at + r)
+  unfolding copied
+  copying-run out k p at zero h f i = rw (add-zero k, add-zero at) i
+  copying-run out k p at (suc r) h f i =
+      rw (add-suc k r, add-suc at r)
+      (rw (add-one (k + r), add-one (at + r))
+      at (copying-step (copied out k store (p * 256 + at) r) (k + r) p (at + r) (getD store (p * 256 + at + r) 0) p (at + r + 1) (omega arith)
+      (copying-run out k p at r (omega arith) (omega arith) i) (ap (λ (q : ℕ). getD store q 0) (add-assoc (p * 256) at r))
+      (stays links p (at + r) (omega arith) .0) (stays links p (at + r) (omega arith) .1)))
+
+  pub copying-ran : (out out′ : List ℕ) (k p at r : ℕ) → k < n → (r ≤ n - k - 1) × (r ≤ 255 - at) × (out′ ≡ copied out k store (p * 256 + at) r)
+      → Copying store links c₀ n out₀ out k p at → Copying store links c₀ n out₀ out′ (k + r) p (at + r)
+  copying-ran out out′ k p at r h ran i = rw (ran .2) (copying-run out k p at r (ran .1) (omega arith) i)
+
   pub copying-done : (out : List ℕ) (k p at : ℕ) → n ≤ k → Copying store links c₀ n out₀ out k p at → out ≡ sets out₀ 0 (ahead store links c₀)
   copying-done out k p at h i =
       let e : k ≡ n = omega (arith, i .few) in
-      i .put ∙ ap (λ (m : ℕ). sets out₀ 0 (take m (ahead store links c₀))) e ∙ end (native.Mathlib.Decide.decLe (c₀ .left) (length out₀))
+      i .put ∙ ap (λ (m : ℕ). sets out₀ 0 (take m (ahead store links c₀))) e ∙ end (decLe (c₀ .left) (length out₀))
     where
       end : Dec (c₀ .left ≤ length out₀) → sets out₀ 0 (take n (ahead store links c₀)) ≡ sets out₀ 0 (ahead store links c₀)
       end (yes y) = ap (sets out₀ 0) (take-all n (ahead store links c₀) (omega (arith, length-ahead store links c₀)))

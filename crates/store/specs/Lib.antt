@@ -4,4 +4,5 @@ pub mod Entry
 pub mod Find
 pub mod Content
 pub mod Lines
+pub mod Run
 pub mod Samples

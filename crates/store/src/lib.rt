@@ -3,7 +3,7 @@
 // contents, whole or line by line. Every function answers on any memory: past the end 0 is read, and a damaged size is read no further than all
 // portions reach. What changes the memory is in `moves`, what makes it sound in `shelf`.
 ghost use mathlib.Core.Path.{_≡_};
-ghost use Prim.Native.Nat.{_+_, _*_, _<_, min};
+ghost use Prim.Native.Nat.{ℕ, _+_, _-_, _*_, _≤_, _<_, min};
 ghost use lib.ListN.{length, getD, set};
 ghost use lib.Seq.{sets};
 ghost use Rattle.store.specs.Chain.{needed, freeCount};
@@ -11,6 +11,7 @@ ghost use Rattle.store.specs.Entry.{entry, kind, nameLength, name, first
 ghost use Rattle.store.specs.Find.{lowestFree, lowestEmpty, recorded, sameName, titled, titledAt};
 ghost use Rattle.store.specs.Content.{portionAfter, placeAfter, extent, content, cursorAt};
 ghost use Rattle.store.specs.Lines.{nextLine, lined};
+ghost use Rattle.store.specs.Run.{copied};
 
 pub enum Found {
     At(usize),
@@ -278,6 +279,28 @@ fn least(a: usize, b: usize) -> usize
     if a < b { a } else { b }
 }
 
+// Copies a run of bytes from place `at` of portion p on to place k of `out`, at most so many and none but those before the portion's last: how many
+// bytes that are. A step that goes on from there may leave the portion.
+fn copy_run(store: &[u8], p: usize, at: usize, most: usize, out: &mut [u8], k: usize) -> usize
+    requires { ⌜ k + most ≤ length (now out) ⌝ }
+    ensures { λ r. ⌜ (r ≤ most) × (r ≤ 255 - at) × (now (out .exit) ≡ copied (now (out .entry)) k (now (store .entry)) (p * 256 + at) r) ⌝ }
+{
+    if store.len() / 256 <= p {
+        return 0;
+    }
+    if 255 <= at {
+        return 0;
+    }
+    let from = p * 256 + at;
+    let n = least(most, 255 - at);
+    let mut j = 0;
+    while j < n {
+        out[k + j] = store[from + j];
+        j += 1;
+    }
+    n
+}
+
 // Copies the content of entry i to the front of `out`, as much of it as fits: how many bytes that are.
 pub fn copy_out(store: &[u8], links: &[u16], directory: &[u8], i: usize, out: &mut [u8]) -> usize
     ensures copied { λ r. ⌜ now (out .exit) ≡ sets (now (out .entry)) 0 (content (now (store .entry)) (now (links .entry)) (now (directory .entry)) i) ⌝ }
@@ -288,6 +311,9 @@ pub fn copy_out(store: &[u8], links: &[u16], directory: &[u8], i: usize, out: &m
     let mut at: usize = 0;
     let mut k: usize = 0;
     while k < n {
+        let r = copy_run(store, p, at, n - k - 1, out, k);
+        k += r;
+        at += r;
         out[k] = byte_at(store, p, at);
         p = portion_after(links, p, at);
         at = place_after(at);
