@@ -1,7 +1,7 @@
 -- Bitmaps: edges of cells, runs of equal dots, rows drawn run by run and bitmaps row by row.
 -- Assumes nothing.
-use mathlib.Core.Path.{_≡_, refl, sym, ap, _∙_}
-use mathlib.Core.Bool.{Bool, true, false, _&&_, not, cond, and-false}
+use mathlib.Core.Path.{_≡_, sym, ap, _∙_}
+use mathlib.Core.Bool.{Bool, true, false, _&&_, and-false}
 use mathlib.Core.Logic.{_⊎_, inl, inr}
 use mathlib.Core.List.{List}
 use Prim.Native.Nat.{ℕ, _+_, _-_, _*_, _/_, _%_, _^_, _≤_, _<_, min}
@@ -18,9 +18,6 @@ use Rattle.figures.specs.Figures.{bitRow, bitmap, rowOf, scaled, shifted
 use Rattle.figures.proofs.Placed.{Joins, guard}
 
 -- ---- edges, capped at the greatest number there is
-pub edge-small : (g m : ℕ) → g < 4294967296 → m < 4294967296 → g * m ≤ 18446744065119617025
-edge-small g m h k = mul-le-mul {n₁ = g} {m₁ = m} {n₂ = 4294967295} {m₂ = 4294967295} (omega arith) (omega arith)
-
 pub edge-none : (most d g : ℕ) → d ≤ most → d ≡ min most (d + g * 0)
 edge-none most d g h = let z : g * 0 ≡ 0 = mul-zero g in rw z (let e : d ≡ min most (d + 0) = omega arith in e)
 
@@ -29,6 +26,9 @@ edge-over most d g m n h k = omega (arith, div-lt-iff-lt-mul {x = most - d} {y =
 
 pub edge-under : (most d g m : ℕ) → (m ≡ 0 → ⊥) → g ≤ (most - d) / m → g * m ≤ most - d
 edge-under most d g m n k = le-div-iff-mul-le {x = g} {y = most - d} (let z : 0 < m = omega arith in z) .0 k
+
+pub small-product : (g m : ℕ) → g < 4294967296 → m < 4294967296 → g * m < 18446744073709551616
+small-product g m h k = omega (arith, mul-le-mul {n₁ = g} {m₁ = m} {n₂ = 4294967295} {m₂ = 4294967295} (omega arith) (omega arith))
 
 -- ---- a dot past the end of the bytes
 pub no-dot : (bytes : List ℕ) (at g : ℕ) → length bytes ≤ at + g / 8 → bitRow bytes at g ≡ false
@@ -43,23 +43,6 @@ capped-row bytes s at most h e g = by (decLt at most)
     by (no t) = no-dot bytes s g (omega arith) ∙ sym (no-dot bytes at g (omega arith))
 
 -- ---- runs
-pub same-tests : (a b : Bool) → cond a (not b) b ≡ false → a ≡ b
-same-tests true true e = refl
-same-tests true false e = e
-same-tests false true e = sym e
-same-tests false false e = refl
-
-pub run-start : (row : ℕ → Bool) (g w : ℕ) → g < w → Run row g w (g + 1)
-run-start row g w h = record { more = omega arith; inside = omega arith; same = λ k i j. ap row (omega arith) }
-
-pub run-step : (row : ℕ → Bool) (g w e : ℕ) → Run row g w e → e < w → row e ≡ row g → Run row g w (e + 1)
-run-step row g w e R h s =
-    record { more = omega (arith, R .more); inside = omega arith; same = λ k i j. at k i j (ℕ-discrete k e) }
-  where
-    at : (k : ℕ) → g ≤ k → k < e + 1 → Dec (k ≡ e) → row k ≡ row g
-    at k i j (yes q) = ap row q ∙ s
-    at k i j (no n) = R .same k i (omega arith)
-
 -- the dots of the cells g up to e are from g * m up to e * m
 in-cells : (g e m u : ℕ) → g * m ≤ u → u < e * m → (g ≤ u / m) × (u / m < e)
 in-cells g e m u h k = by (ℕ-discrete m 0)
@@ -122,6 +105,10 @@ shifted-run d g e m v0 v1 s0 s1 most u v true h e0 e1 =
     (λ t. let k = and-true (leb d u) (box (g * m) v0 (e * m) v1 (u - d) v) t in
     let i = in-box (g * m) v0 (e * m) v1 (u - d) v (k .1) in omega (arith, leb-true d u (k .0)))
     (λ i. rw (le-leb d u (omega arith), box-in (g * m) v0 (e * m) v1 (u - d) v (omega arith)))
+
+-- a run that is on, with its edges as the code has them
+pub on-run : (on : Bool) (s0 s1 t0 t1 v0 v1 u v : ℕ) → on ≡ true → s0 ≡ t0 → s1 ≡ t1 → box s0 v0 s1 v1 u v ≡ (on && box t0 v0 t1 v1 u v)
+on-run on s0 s1 t0 t1 v0 v1 u v o e0 e1 = rw (o, e0, e1)
 
 -- the next run of a row, as the code has it
 pub row-next : (row : ℕ → Bool) (on : Bool) (d g e w m v0 v1 s0 s1 most u v : ℕ) → Run row g w e → on ≡ row g → u < most

@@ -2,3 +2,4 @@
 pub mod Placed
 pub mod Turns
 pub mod Bitmaps
+pub mod ByteRuns

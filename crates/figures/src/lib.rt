@@ -4,12 +4,14 @@
 // Which figures there are, a glyph or the bars of a symbol, is left to the crates above.
 use dots::Ink;
 use dots::capped_sum;
-use dots::greatest;
 use dots::least;
 ghost use mathlib.Core.Path.{_≡_};
-ghost use Prim.Native.Nat.{_+_, _-_, _*_, _<_};
-ghost use mathlib.Core.Bool.{cond, not, _&&_};
-ghost use Rattle.dots.specs.Dots.{drawn, box, cut, capped};
+ghost use Prim.Native.Nat.{_+_, _-_, _*_, _/_, _^_, _<_};
+ghost use mathlib.Core.Bool.{_&&_};
+ghost use lib.Bits.{bitAnd};
+ghost use lib.Count.{leadingZeros};
+ghost use lib.ListN.{getD};
+ghost use Rattle.dots.specs.Dots.{bitOf, drawn, box, cut, capped};
 ghost use Rattle.figures.specs.Figures.{bitmap, bitRow, rowOf, scaled, shifted, placed, Run};
 
 // a less b, and 0 where b is more.
@@ -73,13 +75,10 @@ pub fn ink_part(
     }
 }
 
-// d and g times m, or the greatest number there is. The numbers of a label are small, and are spared the division.
-fn edge(d: usize, g: usize, m: usize) -> usize
+// The same as `edge`, for numbers of which one may be so large that the product does not fit.
+fn far_edge(d: usize, g: usize, m: usize) -> usize
     ensures { λ r. ⌜ r ≡ capped (d + g * m) ⌝ }
 {
-    if greatest(d, greatest(g, m)) < 4294967296 {
-        return d + g * m;
-    }
     if m == 0 {
         return d;
     }
@@ -90,41 +89,66 @@ fn edge(d: usize, g: usize, m: usize) -> usize
     d + g * m
 }
 
+// d and g times m, or the greatest number there is. Cells and scales are small, and small numbers need no division to see that the product fits.
+fn edge(d: usize, g: usize, m: usize) -> usize
+    ensures { λ r. ⌜ r ≡ capped (d + g * m) ⌝ }
+{
+    if g < 4294967296 {
+        if m < 4294967296 {
+            return capped_sum(d, g * m);
+        }
+    }
+    far_edge(d, g, m)
+}
+
+// The byte of dot g of the row of a bitmap that starts at byte `at`, white past the end.
+fn byte_of(bits: &[u8], at: usize, g: usize) -> u8
+    ensures { λ r. ⌜ r ≡ getD (now (bits .entry)) (at + g / 8) 0 ⌝ }
+{
+    let i = capped_sum(at, g / 8);
+    if i < bits.len() {
+        return bits[i];
+    }
+    0
+}
+
 // Whether dot g of the row of a bitmap that starts at byte `at` is black.
 fn black(bits: &[u8], at: usize, g: usize) -> bool
     ensures { λ r. ⌜ r ≡ bitRow (now (bits .entry)) at g ⌝ }
 {
-    let i = capped_sum(at, g / 8);
-    if i < bits.len() {
-        return (bits[i] >> (7 - g % 8)) % 2 == 1;
-    }
-    false
+    (byte_of(bits, at, g) >> (7 - g % 8)) % 2 == 1
 }
 
-// Whether just one of two tests passes.
-fn differ(a: bool, b: bool) -> bool
-    ensures { λ r. ⌜ r ≡ cond a (not b) b ⌝ }
+// The first black dot of a byte after dot k, 8 where there is none.
+fn next_black(b: u8, k: usize) -> usize
+    requires { ⌜ k < 8 ⌝ }
+    ensures { λ r. ⌜ r ≡ leadingZeros 8 (bitAnd b (127 / 2 ^ k)) ⌝ }
 {
-    if a { !b } else { b }
+    u8::leading_zeros(b & (127 >> k)) as usize
 }
 
-// Where the run of equal dots ends that starts at dot g of a row of w dots.
-fn run_end(bits: &[u8], at: usize, g: usize, w: usize) -> usize
-    requires { ⌜ g < w ⌝ }
+// Where the run of equal dots of a byte ends that starts at dot k, which is on or off.
+fn run_in_byte(b: u8, k: usize, on: bool) -> usize
+    requires { ⌜ (k < 8) × (on ≡ bitOf b k) ⌝ }
+    ensures { λ r. ⌜ Run (bitOf b) k 8 r ⌝ }
+{
+    if on {
+        return next_black(255 - b, k);
+    }
+    next_black(b, k)
+}
+
+// Where a run of equal dots ends that starts at dot g of a row of w dots, which is on or off; no run goes on into the next byte.
+fn run_end(bits: &[u8], at: usize, g: usize, w: usize, on: bool) -> usize
+    requires { ⌜ (g < w) × (on ≡ bitRow (now bits) at g) ⌝ }
     ensures { λ r. ⌜ Run (bitRow (now (bits .entry)) at) g w r ⌝ }
 {
-    let on = black(bits, at, g);
-    let mut e = g + 1;
-    while e < w {
-        if differ(black(bits, at, e), on) {
-            return e;
-        }
-        e += 1;
-    }
-    e
+    let k = g % 8;
+    let end = run_in_byte(byte_of(bits, at, g), k, on);
+    g + least(end - k, w - g)
 }
 
-// Draws a part of a figure, as `ink_part` does, where it is on.
+// Draws the cells g up to e of a figure, each m dots wide, as `ink_part` does, where they are on.
 fn ink_run(
     page: &mut [u8],
     ink: Ink,
@@ -136,16 +160,20 @@ fn ink_run(
     w: usize,
     h: usize,
     on: bool,
-    u0: usize,
+    d: usize,
+    g: usize,
+    e: usize,
+    m: usize,
     v0: usize,
-    u1: usize,
     v1: usize,
 )
-    ensures { λ _. ⌜ now (page .exit) ≡ drawn ink (cut width length (placed r w h x y (λ u v. on && box u0 v0 u1 v1 u v))) (now (page .entry)) ⌝ }
+    ensures { λ _. ⌜ now (page .exit) ≡ drawn ink (cut width length (placed r w h x y (λ u v. on && box (capped (d + g * m)) v0 (capped (d + e * m)) v1 u v))) (now (page .entry)) ⌝ }
 {
     if !on {
         return;
     }
+    let u0 = edge(d, g, m);
+    let u1 = edge(d, e, m);
     ink_part(page, ink, width, length, r, x, y, w, h, u0, v0, u1, v1);
 }
 
@@ -172,11 +200,26 @@ fn ink_row(
 {
     let mut g = 0;
     while g < bw {
-        let e = run_end(bits, at, g, bw);
         let on = black(bits, at, g);
-        let u0 = edge(d, g, hm);
-        let u1 = edge(d, e, hm);
-        ink_run(page, ink, width, length, r, x, y, w, h, on, u0, v0, u1, v1);
+        let e = run_end(bits, at, g, bw, on);
+        ink_run(
+            page,
+            ink,
+            width,
+            length,
+            r,
+            x,
+            y,
+            w,
+            h,
+            on,
+            d,
+            g,
+            e,
+            hm,
+            v0,
+            v1,
+        );
         g = e;
     }
 }

@@ -2,10 +2,10 @@
 -- Assumes nothing.
 use mathlib.Core.Path.{_≡_, refl, ap, _∙_}
 use mathlib.Core.Bool.{_&&_}
-use Prim.Native.Nat.{ℕ, _-_, _≤_}
+use Prim.Native.Nat.{ℕ, _+_, _-_, _*_, _≤_}
 use native.Mathlib.Omega.{arith}
 use lib.ListN.{length as len}
-use Rattle.dots.specs.Dots.{drawn, cut, box}
+use Rattle.dots.specs.Dots.{drawn, cut, box, capped}
 use Rattle.figures.specs.Figures.{bitRow, rowOf, shifted, placed}
 use Rattle.figures.proofs.Placed.{then-placed, none-placed}
 use Rattle.figures.proofs.Bitmaps.{row-next, row-start}
@@ -29,36 +29,30 @@ loop-holds c =
       refl,
     )
 
-run-end-requires : tie.Need-run-end-requires Inv-loop μ-loop
-run-end-requires c κs = search needs
-
 black-requires : tie.Need-black-requires Inv-loop μ-loop
 black-requires c κs = search needs
 
-edge-requires : tie.Need-edge-requires Inv-loop μ-loop
-edge-requires c κs = search needs
-
-edge-requires-2 : tie.Need-edge-requires-2 Inv-loop μ-loop
-edge-requires-2 c κs = search needs
+run-end-requires : tie.Need-run-end-requires Inv-loop μ-loop
+run-end-requires c κs = search needs
 
 ink-run-requires : tie.Need-ink-run-requires Inv-loop μ-loop
 ink-run-requires c κs = search needs
 
 loop-less : tie.Need-loop-less Inv-loop μ-loop
-loop-less c = omega (arith, c .before .before .before .before .before .before .before .run-end .ensures .more)
+loop-less c = omega (arith, c .before .before .before .before .run-end .ensures .more)
 
 loop-again : tie.Need-loop-again Inv-loop μ-loop
-loop-again c = let d = c .before .before in let e = d .before .before in let b = e .before .before in let n = b .before in
-    let l = n .before .before in let a = l .before .before .before .args in
-    let row = bitRow (a .bits .now) (a .at) in (
-      n .run-end .ensures .inside,
+loop-again c = let d = c .before .before in let e = d .before .before in let b = e .before in
+    let l = b .before .before in let a = l .before .before .before .args in
+    let row = bitRow (a .bits .now) (a .at) in
+    let s0 = capped (a .d + l .loop .g * a .hm) in
+    let s1 = capped (a .d + e .run-end .result * a .hm) in (
+      e .run-end .ensures .inside,
       then-placed (a .ink) (a .width) (a .length) (a .r) (a .w) (a .h) (a .x) (a .y) (shifted (a .d) (rowOf row (l .loop .g) (a .hm) (a .v0) (a .v1)))
-          (λ u v. b .black .result && box (e .before .edge .result) (a .v0) (e .edge2 .result) (a .v1) u v)
-          (shifted (a .d) (rowOf row (n .run-end .result) (a .hm) (a .v0) (a .v1)))
+          (λ u v. b .black .result && box s0 (a .v0) s1 (a .v1) u v) (shifted (a .d) (rowOf row (e .run-end .result) (a .hm) (a .v0) (a .v1)))
           (a .page .now) (l .loop .page) (d .ink-run .last .0) (l .loop .inv .1) (d .ink-run .ensures)
-          (λ u v i j. row-next row (b .black .result) (a .d) (l .loop .g) (n .run-end .result) (a .bw) (a .hm) (a .v0) (a .v1)
-          (e .before .edge .result) (e .edge2 .result)
-          18446744073709551615 u v (n .run-end .ensures) (b .black .ensures) (omega arith) (e .before .edge .ensures) (e .edge2 .ensures)),
+          (λ u v i j. row-next row (b .black .result) (a .d) (l .loop .g) (e .run-end .result) (a .bw) (a .hm) (a .v0) (a .v1) s0 s1
+          18446744073709551615 u v (e .run-end .ensures) (b .black .ensures) (omega arith) refl refl),
       omega (arith, d .ink-run .kept .0),
     )
 
@@ -79,10 +73,8 @@ ink-row-spec =
     Inv-loop
     μ-loop
     loop-holds
-    run-end-requires
     black-requires
-    edge-requires
-    edge-requires-2
+    run-end-requires
     ink-run-requires
     loop-less
     loop-again
