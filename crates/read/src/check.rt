@@ -113,8 +113,14 @@ fn number_after(f: u8, v: usize, before: usize) -> usize
 }
 
 // The first field of a row outside its limits.
-pub fn row_limits(line: &[u8], row: usize, rows: usize, vs: [usize; 18], ps: [usize; 18]) -> Limits
-    ensures { λ r. ⌜ r ≡ limitsFrom (rowOf row .fields) (boundsOf row rows) (now (line .entry)) 0 vs ps ⌝ }
+pub fn row_limits(
+    line: &[u8],
+    row: usize,
+    rows: usize,
+    vs: &[usize; 18],
+    ps: &[usize; 18],
+) -> Limits
+    ensures { λ r. ⌜ r ≡ limitsFrom (rowOf row .fields) (boundsOf row rows) (now (line .entry)) 0 (now (vs .entry)) (now (ps .entry)) ⌝ }
 {
     let up = line_up(row);
     let mut before: usize = 0;

@@ -64,13 +64,13 @@ pub fn read_fields(line: &[u8], row: usize, vs: &mut [usize; 18], ps: &mut [usiz
 }
 
 // The line of a row whose fields are read: a command, or 7.
-pub fn within(line: &[u8], row: usize, rows: usize, vs: [usize; 18], ps: [usize; 18]) -> Read
-    ensures { λ r. ⌜ r ≡ withinLimits row rows (now (line .entry)) vs ps ⌝ }
+pub fn within(line: &[u8], row: usize, rows: usize, vs: &[usize; 18], ps: &[usize; 18]) -> Read
+    ensures { λ r. ⌜ r ≡ withinLimits row rows (now (line .entry)) (now (vs .entry)) (now (ps .entry)) ⌝ }
 {
     if let Limits::Outside(fault) = row_limits(line, row, rows, vs, ps) {
         return Read::Refused(Fault::Limit(fault));
     }
-    Read::Taken(command_of(line, row, vs, ps))
+    Read::Taken(command_of(line, row, *vs, *ps))
 }
 
 // The line of a row: the form comes before the limits.
@@ -82,5 +82,5 @@ pub fn judge(line: &[u8], row: usize, rows: usize) -> Read
     if let Fields::Bad(fault) = read_fields(line, row, &mut vs, &mut ps) {
         return Read::Refused(Fault::Form(fault));
     }
-    within(line, row, rows, vs, ps)
+    within(line, row, rows, &vs, &ps)
 }

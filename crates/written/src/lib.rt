@@ -75,6 +75,9 @@ fn put_number(n: usize, out: &mut [u8], at: usize) -> usize
     requires { ⌜ at ≤ length (now out) ⌝ }
     ensures { λ r. ⌜ Wrote (now (out .entry)) at (decimal n) r (now (out .exit)) ⌝ }
 {
+    if n < 10 {
+        return put(out, at, digit_byte(n));
+    }
     let mut d = [48u8; 20];
     let mut k = 19;
     let mut m = n;
@@ -211,8 +214,8 @@ fn put_field(line: &[u8], f: u8, v: usize, p: usize, out: &mut [u8], at: usize) 
 }
 
 // Writes the fields of a row.
-fn put_row(line: &[u8], row: usize, vs: [usize; 18], ps: [usize; 18], out: &mut [u8]) -> usize
-    ensures { λ r. ⌜ Wrote (now (out .entry)) 0 (writtenFrom (rowOf row .fields) (now (line .entry)) vs ps) r (now (out .exit)) ⌝ }
+fn put_row(line: &[u8], row: usize, vs: &[usize; 18], ps: &[usize; 18], out: &mut [u8]) -> usize
+    ensures { λ r. ⌜ Wrote (now (out .entry)) 0 (writtenFrom (rowOf row .fields) (now (line .entry)) (now (vs .entry)) (now (ps .entry))) r (now (out .exit)) ⌝ }
 {
     let up = line_up(row);
     let mut place = 0;
@@ -252,7 +255,7 @@ pub fn write(line: &[u8], out: &mut [u8]) -> usize
     if let Fields::Bad(_) = read_fields(line, row, &mut vs, &mut ps) {
         return 0;
     }
-    put_row(line, row, vs, ps, out)
+    put_row(line, row, &vs, &ps, out)
 }
 
 fn same(a: &[u8], b: &[u8]) -> bool
@@ -288,9 +291,9 @@ pub fn own_line(line: &[u8]) -> Read
         return Read::Refused(Fault::Form(0));
     }
     let mut out = [0u8; 256];
-    let n = put_row(line, row, vs, ps, &mut out);
+    let n = put_row(line, row, &vs, &ps, &mut out);
     if same(first(&out, n), line) {
-        return within(line, row, 1, vs, ps);
+        return within(line, row, 1, &vs, &ps);
     }
     Read::Refused(Fault::Form(0))
 }

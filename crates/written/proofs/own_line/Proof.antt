@@ -60,15 +60,15 @@ within-requires : tie.Need-within-requires
 within-requires c κs = search needs
 
 returns-4 : tie.Need-returns-4
-returns-4 c = let s = now (c .before .before .before .before .before .before .before .before .before .before .before .before .before .before .before .before .before .before .before .before .before .args .line) in
-    let f = c .before .before .before .before .before .before .before .before .before .before .read-fields in
+returns-4 c = let s = now (c .before .before .before .before .before .before .before .before .before .before .before .before .before .before .before .before .before .before .before .before .before .before .before .before .before .args .line) in
+    let f = c .before .before .before .before .before .before .before .before .before .before .before .before .before .before .read-fields in
     c .within .ensures
-    ∙ own-same s _ (sym (ap₂ headOf (c .before .before .before .before .before .before .before .before .before .before .before .before .before .before .before .before .before .before .byte .ensures) (c .before .before .before .before .before .before .before .before .before .before .before .before .before .before .before .before .before .byte2 .ensures)) ∙ sym (c .before .before .before .before .before .before .before .before .before .before .before .before .before .before .before .before .head-of .ensures) ∙ c .before .before .before .before .before .before .before .before .before .before .before .before .before .before .row .given .1) (f .result) _ _ (f .ensures) (c .before .before .before .before .before .before .before .before .enum-told3 .given .1) (c .before .before .before .before .before .before .before .before .before .before .before .before .before .before .before .before .before .before .before .if1 .left) _ _ _ refl (c .before .before .before .before .before .before .put-row .ensures) (sym (c .before .before .same .ensures ∙ ap (λ x. equal x s) (c .before .before .before .first .ensures)) ∙ c .before .if2 .taken)
+    ∙ own-same s _ (sym (ap₂ headOf (c .before .before .before .before .before .before .before .before .before .before .before .before .before .before .before .before .before .before .before .before .before .before .byte .ensures) (c .before .before .before .before .before .before .before .before .before .before .before .before .before .before .before .before .before .before .before .before .before .byte2 .ensures)) ∙ sym (c .before .before .before .before .before .before .before .before .before .before .before .before .before .before .before .before .before .before .before .before .head-of .ensures) ∙ c .before .before .before .before .before .before .before .before .before .before .before .before .before .before .before .before .before .before .row .given .1) (f .result) _ _ (f .ensures) (c .before .before .before .before .before .before .before .before .before .before .before .before .enum-told3 .given .1) (c .before .before .before .before .before .before .before .before .before .before .before .before .before .before .before .before .before .before .before .before .before .before .before .if1 .left) _ _ _ refl (c .before .before .before .before .before .before .before .before .put-row .ensures) (sym (c .before .before .before .before .same .ensures ∙ ap (λ x. equal x s) (c .before .before .before .before .before .first .ensures)) ∙ c .before .before .before .if2 .taken)
 
 returns-5 : tie.Need-returns-5
-returns-5 c = let s = now (c .before .before .before .before .before .before .before .before .before .before .before .before .before .before .before .before .before .before .before .before .args .line) in
-    let f = c .before .before .before .before .before .before .before .before .before .read-fields in
-    own-other s _ (sym (ap₂ headOf (c .before .before .before .before .before .before .before .before .before .before .before .before .before .before .before .before .before .byte .ensures) (c .before .before .before .before .before .before .before .before .before .before .before .before .before .before .before .before .byte2 .ensures)) ∙ sym (c .before .before .before .before .before .before .before .before .before .before .before .before .before .before .before .head-of .ensures) ∙ c .before .before .before .before .before .before .before .before .before .before .before .before .before .row .given .1) (f .result) _ _ (f .ensures) (c .before .before .before .before .before .before .before .enum-told3 .given .1) (c .before .before .before .before .before .before .before .before .before .before .before .before .before .before .before .before .before .before .if1 .left) _ _ _ refl (c .before .before .before .before .before .put-row .ensures) (sym (c .before .same .ensures ∙ ap (λ x. equal x s) (c .before .before .first .ensures)) ∙ c .if2 .left)
+returns-5 c = let s = now (c .before .before .before .before .before .before .before .before .before .before .before .before .before .before .before .before .before .before .before .before .before .before .args .line) in
+    let f = c .before .before .before .before .before .before .before .before .before .before .before .read-fields in
+    own-other s _ (sym (ap₂ headOf (c .before .before .before .before .before .before .before .before .before .before .before .before .before .before .before .before .before .before .before .byte .ensures) (c .before .before .before .before .before .before .before .before .before .before .before .before .before .before .before .before .before .before .byte2 .ensures)) ∙ sym (c .before .before .before .before .before .before .before .before .before .before .before .before .before .before .before .before .before .head-of .ensures) ∙ c .before .before .before .before .before .before .before .before .before .before .before .before .before .before .before .row .given .1) (f .result) _ _ (f .ensures) (c .before .before .before .before .before .before .before .before .before .enum-told3 .given .1) (c .before .before .before .before .before .before .before .before .before .before .before .before .before .before .before .before .before .before .before .before .if1 .left) _ _ _ refl (c .before .before .before .before .before .put-row .ensures) (sym (c .before .same .ensures ∙ ap (λ x. equal x s) (c .before .before .first .ensures)) ∙ c .if2 .left)
 
 pub own-line-spec : {M : Type 1} → statement M
 own-line-spec =

@@ -5,7 +5,7 @@ use mathlib.Core.List.{[]}
 use native.Mathlib.Omega.{arith}
 use lib.ListN.{length, drop, length-set}
 use Rattle.written.specs.Written.{digits, cased}
-use Rattle.written.proofs.Writes.{digits-room, digits-less, digits-turn, digits-end, wrote-same, cased-kept}
+use Rattle.written.proofs.Writes.{digits-last, digits-room, digits-less, digits-turn, digits-end, wrote-same, cased-kept}
 use borrow.Author.Needs.{needs}
 use Rattle.written.proofs.put_number.Statement.{statement}
 use Rattle.written.proofs.put_number.Tie as tie
@@ -16,11 +16,24 @@ Inv-loop n out at d₀ k₀ m₀ d k m = (k ≤ 19) × (m < 10 ^ (k + 1)) × (le
 abbrev μ-loop : tie.MeasureT-loop
 μ-loop n out at d₀ k₀ m₀ d k m = k
 
+digit-byte-requires : tie.Need-digit-byte-requires Inv-loop μ-loop
+digit-byte-requires c κs = search needs
+
+put-requires : tie.Need-put-requires Inv-loop μ-loop
+put-requires c κs = search needs
+
+same-length : tie.Need-same-length Inv-loop μ-loop
+same-length c = search needs
+
+returns : tie.Need-returns Inv-loop μ-loop
+returns c = let b = c .before .before .before .digit-byte in
+    wrote-same (c .before .before .put .ensures) (rw (b .ensures) (sym (digits-last 19 _ [] (c .before .before .before .before .before .if1 .taken))))
+
 loop-holds : tie.Need-loop-holds Inv-loop μ-loop
 loop-holds c = (search needs, search needs, refl, refl)
 
-digit-byte-requires : tie.Need-digit-byte-requires Inv-loop μ-loop
-digit-byte-requires c κs = search needs
+digit-byte-requires-2 : tie.Need-digit-byte-requires-2 Inv-loop μ-loop
+digit-byte-requires-2 c κs = search needs
 
 array-write-d : tie.Need-array-write-d Inv-loop μ-loop
 array-write-d c = search needs
@@ -37,11 +50,11 @@ loop-again c = let l = c .before .before .loop in
       omega arith,
       digits-less (l .k) (l .m) r (l .inv .1),
       simp length-set (l .inv .2),
-      sym (digits-turn (l .d) (l .k) (l .m) (c .digit-byte .result) r (omega arith) (search needs) (c .digit-byte .ensures)) ∙ l .inv .3,
+      sym (digits-turn (l .d) (l .k) (l .m) (c .digit-byte2 .result) r (omega arith) (search needs) (c .digit-byte2 .ensures)) ∙ l .inv .3,
     )
 
-digit-byte-requires-2 : tie.Need-digit-byte-requires-2 Inv-loop μ-loop
-digit-byte-requires-2 c κs = search needs
+digit-byte-requires-3 : tie.Need-digit-byte-requires-3 Inv-loop μ-loop
+digit-byte-requires-3 c κs = search needs
 
 array-write-d-2 : tie.Need-array-write-d-2 Inv-loop μ-loop
 array-write-d-2 c = search needs
@@ -55,12 +68,12 @@ rest-requires c κs = search needs
 copy-requires : tie.Need-copy-requires Inv-loop μ-loop
 copy-requires c κs = search needs
 
-same-length : tie.Need-same-length Inv-loop μ-loop
-same-length c = search needs
+same-length-2 : tie.Need-same-length-2 Inv-loop μ-loop
+same-length-2 c = search needs
 
-returns : tie.Need-returns Inv-loop μ-loop
-returns c = let l = c .before .before .before .before .before .before .before .before .loop in
-    let b = c .before .before .before .before .before .before .digit-byte2 in
+returns-2 : tie.Need-returns-2 Inv-loop μ-loop
+returns-2 c = let l = c .before .before .before .before .before .before .before .before .loop in
+    let b = c .before .before .before .before .before .before .digit-byte3 in
     wrote-same (c .before .before .copy .ensures) (ap (cased false) (c .before .before .before .before .rest .ensures ∙ digits-end (l .d) (l .k) (l .m) (b .result) (omega arith) (c .before .before .before .before .before .before .before .loop-test .left) (b .ensures) ∙ l .inv .3) ∙ cased-kept _)
 
 pub put-number-spec : {M : Type 1} → statement M
@@ -69,16 +82,20 @@ put-number-spec =
     (tie.spec
     Inv-loop
     μ-loop
-    loop-holds
     digit-byte-requires
+    put-requires
+    same-length
+    returns
+    loop-holds
+    digit-byte-requires-2
     array-write-d
     sub-k
     loop-less
     loop-again
-    digit-byte-requires-2
+    digit-byte-requires-3
     array-write-d-2
     slice-aggregate-rest
     rest-requires
     copy-requires
-    same-length
-    returns)
+    same-length-2
+    returns-2)

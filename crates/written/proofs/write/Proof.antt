@@ -49,9 +49,9 @@ same-length c = search needs
 
 returns-3 : tie.Need-returns-3
 unfolding headWritten
-returns-3 c = let f = c .before .before .before .before .before .before .read-fields in
-    rw (← c .before .before .before .before .before .before .before .before .before .before .before .before .before .before .byte .ensures, ← c .before .before .before .before .before .before .before .before .before .before .before .before .before .byte2 .ensures, ← c .before .before .before .before .before .before .before .before .before .before .before .before .head-of .ensures, c .before .before .before .before .before .before .before .before .before .before .row .given .1)
-    (wrote-same (c .before .before .put-row .ensures) (sym (written-good _ (now (c .before .before .before .before .before .before .before .before .before .before .before .before .before .before .before .before .before .args .line)) (f .result) _ _ (f .ensures) (c .before .before .before .before .enum-told3 .given .1))))
+returns-3 c = let f = c .before .before .before .before .before .before .before .before .read-fields in
+    rw (← c .before .before .before .before .before .before .before .before .before .before .before .before .before .before .before .before .byte .ensures, ← c .before .before .before .before .before .before .before .before .before .before .before .before .before .before .before .byte2 .ensures, ← c .before .before .before .before .before .before .before .before .before .before .before .before .before .before .head-of .ensures, c .before .before .before .before .before .before .before .before .before .before .before .before .row .given .1)
+    (wrote-same (c .before .before .put-row .ensures) (sym (written-good _ (now (c .before .before .before .before .before .before .before .before .before .before .before .before .before .before .before .before .before .before .before .args .line)) (f .result) _ _ (f .ensures) (c .before .before .before .before .before .before .enum-told3 .given .1))))
 
 pub write-spec : {M : Type 1} → statement M
 write-spec =

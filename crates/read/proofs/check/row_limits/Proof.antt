@@ -29,7 +29,7 @@ returns : tie.Need-returns Inv-loop μ-loop
 returns c = let a = c .before .before .before .before .before .args in
     let g = c .before .before .before .line-up in
     let l = c .before .before .loop in
-    sym (limits-done (rowOf (a .row) .fields) (boundsOf (a .row) (a .rows)) (now (a .line)) (l .before) (a .t4) (a .t5) (l .i) (out-row (a .row) (l .i) (getD (g .result) (l .i) 0) (form-at (a .row) (l .i) (g .result) (g .ensures) (c .before .loop-test .taken)) (c .if1 .taken))) ∙ l .inv
+    sym (limits-done (rowOf (a .row) .fields) (boundsOf (a .row) (a .rows)) (now (a .line)) (l .before) (now (a .vs)) (now (a .ps)) (l .i) (out-row (a .row) (l .i) (getD (g .result) (l .i) 0) (form-at (a .row) (l .i) (g .result) (g .ensures) (c .before .loop-test .taken)) (c .if1 .taken))) ∙ l .inv
 
 add-bound-by : tie.Need-add-bound-by Inv-loop μ-loop
 add-bound-by c = search needs
@@ -43,14 +43,14 @@ bound-by-requires c κs = search needs
 mul-v : tie.Need-mul-v Inv-loop μ-loop
 mul-v c = search needs
 
-array-read-v : tie.Need-array-read-v Inv-loop μ-loop
-array-read-v c = search needs
+element-copy-out-v : tie.Need-element-copy-out-v Inv-loop μ-loop
+element-copy-out-v c = search needs
 
 mul-p : tie.Need-mul-p Inv-loop μ-loop
 mul-p c = search needs
 
-array-read-p : tie.Need-array-read-p Inv-loop μ-loop
-array-read-p c = search needs
+element-copy-out-p : tie.Need-element-copy-out-p Inv-loop μ-loop
+element-copy-out-p c = search needs
 
 field-limits-requires : tie.Need-field-limits-requires Inv-loop μ-loop
 field-limits-requires c κs = search needs
@@ -60,13 +60,13 @@ enum-known-fault c = search needs
 
 returns-2 : tie.Need-returns-2 Inv-loop μ-loop
 unfolding fieldLimits
-returns-2 c = let a = c .before .before .before .before .before .before .before .before .before .before .args in
-    let g = c .before .before .before .before .before .before .before .before .line-up in
-    let l = c .before .before .before .before .before .before .before .loop in
-    let t = c .before .before .before .before .before .before .loop-test .taken in
+returns-2 c = let a = c .before .before .before .before .before .before .before .before .before .before .before .before .args in
+    let g = c .before .before .before .before .before .before .before .before .before .before .line-up in
+    let l = c .before .before .before .before .before .before .before .before .before .loop in
+    let t = c .before .before .before .before .before .before .before .before .loop-test .taken in
     let f = form-at (a .row) (l .i) (g .result) (g .ensures) t in
-    let b = bounds-at (a .row) (l .i) (a .rows) (g .result) (c .before .before .before .before .bound-by .result) (g .ensures) t (c .before .before .before .before .bound-by .ensures) in
-    sym (sym (l .inv) ∙ limits-out (rowOf (a .row) .fields) (boundsOf (a .row) (a .rows)) (now (a .line)) (l .before) (a .t4) (a .t5) (l .i) (in-row (a .row) (l .i) (getD (g .result) (l .i) 0) f (c .before .before .before .before .before .if1 .left)) _ (rw (← f, ← b .0, ← b .1, ← c .before .before .before .field-limits .ensures) (c .before .fault .given .1)))
+    let b = bounds-at (a .row) (l .i) (a .rows) (g .result) (c .before .before .before .before .before .before .bound-by .result) (g .ensures) t (c .before .before .before .before .before .before .bound-by .ensures) in
+    sym (sym (l .inv) ∙ limits-out (rowOf (a .row) .fields) (boundsOf (a .row) (a .rows)) (now (a .line)) (l .before) (now (a .vs)) (now (a .ps)) (l .i) (in-row (a .row) (l .i) (getD (g .result) (l .i) 0) f (c .before .before .before .before .before .before .before .if1 .left)) _ (rw (← f, ← b .0, ← b .1, ← c .before .before .before .field-limits .ensures) (c .before .fault .given .1)))
 
 enum-told : tie.Need-enum-told Inv-loop μ-loop
 enum-told c = search needs
@@ -82,18 +82,18 @@ loop-less c = search needs
 
 loop-again : tie.Need-loop-again Inv-loop μ-loop
 unfolding fieldLimits
-loop-again c = let a = c .before .before .before .before .before .before .before .before .before .before .args in
-    let g = c .before .before .before .before .before .before .before .before .line-up in
-    let l = c .before .before .before .before .before .before .before .loop in
-    let t = c .before .before .before .before .before .before .loop-test .taken in
+loop-again c = let a = c .before .before .before .before .before .before .before .before .before .before .before .before .args in
+    let g = c .before .before .before .before .before .before .before .before .before .before .line-up in
+    let l = c .before .before .before .before .before .before .before .before .before .loop in
+    let t = c .before .before .before .before .before .before .before .before .loop-test .taken in
     let f = form-at (a .row) (l .i) (g .result) (g .ensures) t in
-    let b = bounds-at (a .row) (l .i) (a .rows) (g .result) (c .before .before .before .before .bound-by .result) (g .ensures) t (c .before .before .before .before .bound-by .ensures) in
-    rw (c .number-after .ensures, f) (sym (limits-more (rowOf (a .row) .fields) (boundsOf (a .row) (a .rows)) (now (a .line)) (l .before) (a .t4) (a .t5) (l .i) (in-row (a .row) (l .i) (getD (g .result) (l .i) 0) f (c .before .before .before .before .before .if1 .left)) (rw (← f, ← b .0, ← b .1, ← c .before .before .before .field-limits .ensures) (c .before .enum-told .given .1))) ∙ l .inv)
+    let b = bounds-at (a .row) (l .i) (a .rows) (g .result) (c .before .before .before .before .before .before .bound-by .result) (g .ensures) t (c .before .before .before .before .before .before .bound-by .ensures) in
+    rw (c .number-after .ensures, f) (sym (limits-more (rowOf (a .row) .fields) (boundsOf (a .row) (a .rows)) (now (a .line)) (l .before) (now (a .vs)) (now (a .ps)) (l .i) (in-row (a .row) (l .i) (getD (g .result) (l .i) 0) f (c .before .before .before .before .before .before .before .if1 .left)) (rw (← f, ← b .0, ← b .1, ← c .before .before .before .field-limits .ensures) (c .before .enum-told .given .1))) ∙ l .inv)
 
 returns-3 : tie.Need-returns-3 Inv-loop μ-loop
 returns-3 c = let a = c .before .before .before .before .args in
     let l = c .before .loop in
-    sym (limits-done (rowOf (a .row) .fields) (boundsOf (a .row) (a .rows)) (now (a .line)) (l .before) (a .t4) (a .t5) (l .i) (omega (arith, row-short (a .row)))) ∙ l .inv
+    sym (limits-done (rowOf (a .row) .fields) (boundsOf (a .row) (a .rows)) (now (a .line)) (l .before) (now (a .vs)) (now (a .ps)) (l .i) (omega (arith, row-short (a .row)))) ∙ l .inv
 
 pub row-limits-spec : {M : Type 1} → statement M
 row-limits-spec =
@@ -109,9 +109,9 @@ row-limits-spec =
     array-read-bound-by
     bound-by-requires
     mul-v
-    array-read-v
+    element-copy-out-v
     mul-p
-    array-read-p
+    element-copy-out-p
     field-limits-requires
     enum-known-fault
     returns-2

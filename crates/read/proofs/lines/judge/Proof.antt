@@ -23,9 +23,9 @@ within-requires : tie.Need-within-requires
 within-requires c κs = search needs
 
 returns-2 : tie.Need-returns-2
-returns-2 c = let a = c .before .before .before .before .before .before .before .args in
-    let f = c .before .before .before .read-fields in
-    c .within .ensures ∙ sym (judged-good (a .row) (a .rows) (now (a .line)) (f .result) _ _ (f .ensures) (c .before .enum-told .given .1))
+returns-2 c = let a = c .before .before .before .before .before .before .before .before .before .args in
+    let f = c .before .before .before .before .before .read-fields in
+    c .within .ensures ∙ sym (judged-good (a .row) (a .rows) (now (a .line)) (f .result) _ _ (f .ensures) (c .before .before .before .enum-told .given .1))
 
 pub judge-spec : {M : Type 1} → statement M
 judge-spec = tie.close (tie.spec read-fields-requires enum-known-fault returns enum-told within-requires returns-2)
