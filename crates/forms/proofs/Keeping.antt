@@ -22,7 +22,7 @@ use Rattle.read.specs.declared.Item.the-variants.{Origin, Variable, Counter, Te
 use Rattle.forms.specs.declared.Stored.{Stored}
 use Rattle.forms.specs.declared.Stored.the-variants.{Holds, Nothing}
 use Rattle.forms.specs.Form.{itemIn}
-use Rattle.forms.specs.Draw.{Setting, Drawing, drawing, drawsItem, drawsStored, drawsLine, drawsLines, formDrawn}
+use Rattle.forms.specs.Draw.{Setting, Drawing, drawing, place, drawsItem, drawsStored, drawsLine, drawsLines, formDrawn}
 
 -- what text and bars are to keep
 abbrev pub TextKeeps : (List ℕ → Type 0) → Setting → Type 0
@@ -45,7 +45,7 @@ module _ (p : List ℕ → Type 0) (g : Setting) (text : TextKeeps p g) (bars : 
   item-keeps d x y line (Picture q) page h = dots _ _ page h
 
   stored-keeps : (w : Drawing) (line : List ℕ) (s : Stored) → p (w .page) → p (drawsStored g w line s .page)
-  stored-keeps w line (Holds it) h = item-keeps (w .declared) (w .x) (w .y) line it (w .page) h
+  stored-keeps w line (Holds it) h = item-keeps (w .declared) (w .origin .x) (w .origin .y) line it (w .page) h
   stored-keeps w line Nothing h = h
 
   pub lines-keep : (w : Drawing) (ls : List (List ℕ)) → p (w .page) → p (drawsLines g w ls .page)
@@ -55,7 +55,7 @@ module _ (p : List ℕ → Type 0) (g : Setting) (text : TextKeeps p g) (bars : 
 
   pub form-keeps : (x y : ℕ) (bytes page : List ℕ) → p page → p (formDrawn g x y bytes page)
   unfolding formDrawn
-  form-keeps x y bytes page h = lines-keep (drawing nothing x y page) (linesOf bytes .whole) h
+  form-keeps x y bytes page h = lines-keep (drawing nothing (place x y) page) (linesOf bytes .whole) h
 
 -- the page's length
 abbrev pub Long : ℕ → List ℕ → Type 0

@@ -14,13 +14,14 @@ use Rattle.cells.proofs.Sets.{sets-front, sets-take}
 use Rattle.values.specs.declared.declarations.Declared.{Declared}
 use Rattle.values.specs.Declarations.{nothing}
 use Rattle.values.specs.Data.{Laid, row, shown}
+use Rattle.read.specs.declared.Origin.{Origin as Place}
 use Rattle.store.specs.declared.Cursor.{Cursor}
 use Rattle.store.specs.Content.{bytesFrom, contentOf, content, cursorAt}
 use Rattle.store.specs.Lines.{linesOf}
 use Rattle.dots.specs.Dots.{box}
 use Rattle.picture.specs.Rules.{width, height, headed, legal}
 use Rattle.picture.specs.Shape.{pictured, dark}
-use Rattle.forms.specs.Draw.{Setting, Drawing, drawing, far, drawsLine, drawsLines, formDrawn}
+use Rattle.forms.specs.Draw.{Setting, Drawing, drawing, far, drawsLine, drawsLines}
 use Rattle.forms.specs.Walk.{lineIn, behind}
 use Rattle.forms.proofs.Bytes.{and-false}
 use Rattle.forms.proofs.Folding.{draws-step}
@@ -61,27 +62,27 @@ pictured-front n bytes out out′ h eo en = ap pictured (front-shown 32769 n byt
 
 -- ---- a form drawn
 
-module _ (g : Setting) (p at left p′ at′ left′ : ℕ) (line page page′ : List ℕ) (d d′ : Declared) (x y x′ y′ : ℕ) where
+module _ (g : Setting) (p at left p′ at′ left′ : ℕ) (line page page′ : List ℕ) (d d′ : Declared) (o o′ : Place) where
   abbrev b : List ℕ
   b = bytesFrom (g .store) (g .links) p at left
 
   pub run-next : line ≡ lineIn b → bytesFrom (g .store) (g .links) p′ at′ left′ ≡ behind b
-      → drawing d′ x′ y′ page′ ≡ drawsLine g (drawing d x y page) line
-      → drawsLines g (drawing d′ x′ y′ page′) (linesOf (bytesFrom (g .store) (g .links) p′ at′ left′) .whole) .page
-      ≡ drawsLines g (drawing d x y page) (linesOf b .whole) .page
+      → drawing d′ o′ page′ ≡ drawsLine g (drawing d o page) line
+      → drawsLines g (drawing d′ o′ page′) (linesOf (bytesFrom (g .store) (g .links) p′ at′ left′) .whole)
+      ≡ drawsLines g (drawing d o page) (linesOf b .whole)
   run-next here there e =
-      ap (λ (w : Drawing). drawsLines g w (linesOf (bytesFrom (g .store) (g .links) p′ at′ left′) .whole) .page) e
-      ∙ rw (there, here) (ap (λ (w : Drawing). w .page) (draws-step g (drawing d x y page) b))
+      ap (λ (w : Drawing). drawsLines g w (linesOf (bytesFrom (g .store) (g .links) p′ at′ left′) .whole)) e
+      ∙ rw (there, here) (draws-step g (drawing d o page) b)
 
 module _ (g : Setting) (p at : ℕ) where
-  pub run-end : (left : ℕ) (d : Declared) (x y : ℕ) (page : List ℕ) → left ≤ 0
-      → page ≡ drawsLines g (drawing d x y page) (linesOf (bytesFrom (g .store) (g .links) p at left) .whole) .page
+  pub run-end : (left : ℕ) (d : Declared) (o : Place) (page : List ℕ) → left ≤ 0
+      → drawing d o page ≡ drawsLines g (drawing d o page) (linesOf (bytesFrom (g .store) (g .links) p at left) .whole)
   unfolding bytesFrom linesOf drawsLines
-  run-end zero d x y page h = refl
-  run-end (suc left) d x y page h = absurd (omega arith)
+  run-end zero d o page h = refl
+  run-end (suc left) d o page h = absurd (omega arith)
 
-pub run-start : (g : Setting) (i : ℕ) (c : Cursor) (d : Declared) (x y : ℕ) (page : List ℕ) → c ≡ cursorAt (g .links) (g .directory) i → d ≡ nothing
-    → drawsLines g (drawing d x y page) (linesOf (bytesFrom (g .store) (g .links) (c .portion) (c .at) (c .left)) .whole) .page
-    ≡ formDrawn g x y (content (g .store) (g .links) (g .directory) i) page
-unfolding formDrawn contentOf
-run-start g i c d x y page ec ed = rw (ec, ed)
+pub run-start : (g : Setting) (i : ℕ) (c : Cursor) (d : Declared) (o : Place) (page : List ℕ) → c ≡ cursorAt (g .links) (g .directory) i → d ≡ nothing
+    → drawsLines g (drawing d o page) (linesOf (bytesFrom (g .store) (g .links) (c .portion) (c .at) (c .left)) .whole)
+    ≡ drawsLines g (drawing nothing o page) (linesOf (content (g .store) (g .links) (g .directory) i) .whole)
+unfolding contentOf
+run-start g i c d o page ec ed = rw (ec, ed)

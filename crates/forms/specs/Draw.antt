@@ -22,6 +22,7 @@ use Rattle.font.specs.Text.{textDrawn}
 use Rattle.bars.specs.Drawing.{barsDrawn}
 use Rattle.read.specs.declared.Ink.{Ink as Said}
 use Rattle.read.specs.declared.Ink.the-variants.{Black as black, White as white, Inverted as inverted}
+use Rattle.read.specs.declared.Origin.{Origin as Place}
 use Rattle.read.specs.declared.Item.{Item}
 use Rattle.read.specs.declared.Item.the-variants.{Origin, Variable, Counter, Text, Bars, Box, Frame, Picture}
 use Rattle.read.specs.Names.{packedOf}
@@ -86,37 +87,29 @@ drawsItem g d x y line (Picture p) page =
 
 pub record Drawing : Type 0 where
   pub declared : Declared
-  pub x : ℕ
-  pub y : ℕ
+  pub origin : Place
   pub page : List ℕ
 
-abbrev pub drawing : Declared → ℕ → ℕ → List ℕ → Drawing
-drawing d x y p = record { declared = d; x = x; y = y; page = p }
+abbrev pub drawing : Declared → Place → List ℕ → Drawing
+drawing d o p = record { declared = d; origin = o; page = p }
+
+abbrev pub place : ℕ → ℕ → Place
+place x y = record { x = x; y = y }
 
 -- R "replaces the earlier one"
-abbrev pub xAfter : ℕ → Item → ℕ
-xAfter x (Origin o) = o .x
-xAfter x (Variable v) = x
-xAfter x (Counter c) = x
-xAfter x (Text t) = x
-xAfter x (Bars b) = x
-xAfter x (Box r) = x
-xAfter x (Frame f) = x
-xAfter x (Picture p) = x
-
-abbrev pub yAfter : ℕ → Item → ℕ
-yAfter y (Origin o) = o .y
-yAfter y (Variable v) = y
-yAfter y (Counter c) = y
-yAfter y (Text t) = y
-yAfter y (Bars b) = y
-yAfter y (Box r) = y
-yAfter y (Frame f) = y
-yAfter y (Picture p) = y
+abbrev pub originAfter : Place → Item → Place
+originAfter at (Origin o) = o
+originAfter at (Variable v) = at
+originAfter at (Counter c) = at
+originAfter at (Text t) = at
+originAfter at (Bars b) = at
+originAfter at (Box r) = at
+originAfter at (Frame f) = at
+originAfter at (Picture p) = at
 
 abbrev pub drawsStored : Setting → Drawing → List ℕ → Stored → Drawing
 drawsStored g w line (Holds it) =
-    drawing (declaring (w .declared) line) (xAfter (w .x) it) (yAfter (w .y) it) (drawsItem g (w .declared) (w .x) (w .y) line it (w .page))
+    drawing (declaring (w .declared) line) (originAfter (w .origin) it) (drawsItem g (w .declared) (w .origin .x) (w .origin .y) line it (w .page))
 drawsStored g w line Nothing = w
 
 unfoldable pub drawsLine : Setting → Drawing → List ℕ → Drawing
@@ -128,4 +121,4 @@ drawsLines g w (l ∷ ls) = drawsLines g (drawsLine g w l) ls
 
 -- what a form draws, from the session's origin
 unfoldable pub formDrawn : Setting → ℕ → ℕ → List ℕ → List ℕ → List ℕ
-formDrawn g x y bytes page = drawsLines g (drawing nothing x y page) (linesOf bytes .whole) .page
+formDrawn g x y bytes page = drawsLines g (drawing nothing (place x y) page) (linesOf bytes .whole) .page

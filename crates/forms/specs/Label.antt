@@ -2,11 +2,11 @@
 -- Assumes nothing.
 use Prim.Native.Nat.{ℕ}
 use mathlib.Core.List.{List}
-use Rattle.store.specs.Content.{bytesFrom}
+use Rattle.store.specs.Content.{ahead}
 use Rattle.store.specs.Lines.{linesOf}
-use Rattle.forms.specs.Draw.{Setting, drawing, drawsLines}
+use Rattle.forms.specs.Draw.{Setting, Drawing, drawing, drawsLines}
 use Rattle.forms.specs.declared.labels.Run.{Run}
 
--- the page when the rest of a form is drawn
-abbrev pub runDrawn : Setting → Run → List ℕ → List ℕ
-runDrawn g w page = drawsLines g (drawing (w .declared) (w .x) (w .y) page) (linesOf (bytesFrom (g .store) (g .links) (w .portion) (w .at) (w .left)) .whole) .page
+-- the label when the rest of a form is drawn
+abbrev pub runDrawn : Setting → Run → List ℕ → Drawing
+runDrawn g w page = drawsLines g (drawing (w .declared) (w .origin) page) (linesOf (ahead (g .store) (g .links) (w .place)) .whole)

@@ -2,7 +2,7 @@
 ghost use mathlib.Core.Path.{_≡_};
 ghost use Prim.Native.Nat.{_<_};
 ghost use Rattle.store.specs.Content.{content};
-ghost use Rattle.forms.specs.Draw.{setting, drawing, xAfter, yAfter, drawsLine, formDrawn};
+ghost use Rattle.forms.specs.Draw.{setting, drawing, originAfter, drawsLine, formDrawn};
 ghost use Rattle.forms.specs.Label.{runDrawn};
 use crate::Stored;
 use crate::drawing::draw_item;
@@ -10,6 +10,7 @@ use crate::judged::declare;
 use crate::lines::next_line;
 use crate::lines::stored_item;
 use read::Item;
+use read::Origin;
 use store::Cursor;
 use values::Counters;
 use values::Declared;
@@ -17,48 +18,29 @@ use values::bytes::front;
 
 // Where a label under way stands: a reader, what is declared so far, and the origin.
 pub struct Run {
-    pub portion: usize,
-    pub at: usize,
-    pub left: usize,
+    pub place: Cursor,
     pub declared: Declared,
-    pub x: usize,
-    pub y: usize,
+    pub origin: Origin,
 }
 
 // What a line leaves to the next.
 struct Held {
     declared: Declared,
-    x: usize,
-    y: usize,
+    origin: Origin,
 }
 
-fn x_after(x: usize, item: Item) -> usize
-    ensures { λ r. ⌜ r ≡ xAfter x item ⌝ }
+fn origin_after(origin: Origin, item: Item) -> Origin
+    ensures { λ r. ⌜ r ≡ originAfter origin item ⌝ }
 {
     match item {
-        Item::Origin(o) => o.x,
-        Item::Variable(_) => x,
-        Item::Counter(_) => x,
-        Item::Text(_) => x,
-        Item::Bars(_) => x,
-        Item::Box(_) => x,
-        Item::Frame(_) => x,
-        Item::Picture(_) => x,
-    }
-}
-
-fn y_after(y: usize, item: Item) -> usize
-    ensures { λ r. ⌜ r ≡ yAfter y item ⌝ }
-{
-    match item {
-        Item::Origin(o) => o.y,
-        Item::Variable(_) => y,
-        Item::Counter(_) => y,
-        Item::Text(_) => y,
-        Item::Bars(_) => y,
-        Item::Box(_) => y,
-        Item::Frame(_) => y,
-        Item::Picture(_) => y,
+        Item::Origin(o) => o,
+        Item::Variable(_) => origin,
+        Item::Counter(_) => origin,
+        Item::Text(_) => origin,
+        Item::Bars(_) => origin,
+        Item::Box(_) => origin,
+        Item::Frame(_) => origin,
+        Item::Picture(_) => origin,
     }
 }
 
@@ -73,11 +55,10 @@ fn draw_line<'a>(
     width: usize,
     length: usize,
     d: Declared,
-    x: usize,
-    y: usize,
+    origin: Origin,
     line: &'a [u8],
 ) -> Held
-    ensures { λ r. ⌜ drawing (r .declared) (r .x) (r .y) (now (page .exit)) ≡ drawsLine (setting (now (font .entry)) (now (store .entry)) (now (links .entry)) (now (directory .entry)) (now (values .entry)) counters width length) (drawing d x y (now (page .entry))) (now (line .entry)) ⌝ }
+    ensures { λ r. ⌜ drawing (r .declared) (r .origin) (now (page .exit)) ≡ drawsLine (setting (now (font .entry)) (now (store .entry)) (now (links .entry)) (now (directory .entry)) (now (values .entry)) counters width length) (drawing d origin (now (page .entry))) (now (line .entry)) ⌝ }
 {
     let stored = stored_item(line);
     match stored {
@@ -93,18 +74,20 @@ fn draw_line<'a>(
                 width,
                 length,
                 d,
-                x,
-                y,
+                origin.x,
+                origin.y,
                 line,
                 item,
             );
             Held {
                 declared: declare(d, item),
-                x: x_after(x, item),
-                y: y_after(y, item),
+                origin: origin_after(origin, item),
             }
         }
-        Stored::Nothing => Held { declared: d, x, y },
+        Stored::Nothing => Held {
+            declared: d,
+            origin,
+        },
     }
 }
 
@@ -120,16 +103,13 @@ fn draw_next(
     length: usize,
     w: Run,
 ) -> Run
-    requires { ⌜ 0 < w .left ⌝ }
-    ensures { λ r. ⌜ (runDrawn (setting (now (font .entry)) (now (store .entry)) (now (links .entry)) (now (directory .entry)) (now (values .entry)) counters width length) r (now (page .exit)) ≡ runDrawn (setting (now (font .entry)) (now (store .entry)) (now (links .entry)) (now (directory .entry)) (now (values .entry)) counters width length) w (now (page .entry))) × (r .left < w .left) ⌝ }
+    requires { ⌜ 0 < w .place .left ⌝ }
+    ensures { λ r. ⌜ (runDrawn (setting (now (font .entry)) (now (store .entry)) (now (links .entry)) (now (directory .entry)) (now (values .entry)) counters width length) r (now (page .exit)) ≡ runDrawn (setting (now (font .entry)) (now (store .entry)) (now (links .entry)) (now (directory .entry)) (now (values .entry)) counters width length) w (now (page .entry))) × (r .place .left < w .place .left) ⌝ }
 {
     let mut buffer = [0u8; 256];
     let d = w.declared;
-    let place = Cursor {
-        portion: w.portion,
-        at: w.at,
-        left: w.left,
-    };
+    let place = w.place;
+    let at = w.origin;
     let next = next_line(store, links, place, &mut buffer);
     let line = front(&buffer, next.n);
     let held = draw_line(
@@ -143,19 +123,16 @@ fn draw_next(
         width,
         length,
         d,
-        w.x,
-        w.y,
+        at,
         line,
     );
     let after = next.place;
     let declared = held.declared;
+    let origin = held.origin;
     Run {
-        portion: after.portion,
-        at: after.at,
-        left: after.left,
+        place: after,
         declared,
-        x: held.x,
-        y: held.y,
+        origin,
     }
 }
 
@@ -176,16 +153,12 @@ pub fn draw_form(
 )
     ensures { λ _. ⌜ now (page .exit) ≡ formDrawn (setting (now (font .entry)) (now (store .entry)) (now (links .entry)) (now (directory .entry)) (now (values .entry)) counters width length) x y (content (now (store .entry)) (now (links .entry)) (now (directory .entry)) i) (now (page .entry)) ⌝ }
 {
-    let c = store::reader(links, directory, i);
     let mut w = Run {
-        portion: c.portion,
-        at: c.at,
-        left: c.left,
+        place: store::reader(links, directory, i),
         declared: Declared::none(),
-        x,
-        y,
+        origin: Origin { x, y },
     };
-    while 0 < w.left {
+    while 0 < w.place.left {
         w = draw_next(
             page,
             font,

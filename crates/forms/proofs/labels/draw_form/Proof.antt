@@ -1,8 +1,10 @@
-use mathlib.Core.Path.{_≡_, refl, _∙_}
+use mathlib.Core.Path.{_≡_, refl, ap, _∙_}
 use denote.Ref.{now}
 use lib.ListN.{length}
 use Rattle.store.specs.Content.{content}
-use Rattle.forms.specs.Draw.{setting, formDrawn}
+use Rattle.store.specs.Lines.{linesOf}
+use Rattle.values.specs.Declarations.{nothing}
+use Rattle.forms.specs.Draw.{Drawing, setting, drawing, place, drawsLines, formDrawn}
 use Rattle.forms.specs.Label.{runDrawn}
 use Rattle.forms.proofs.Showing.{run-start, run-end}
 use borrow.Author.Needs.{needs}
@@ -10,10 +12,10 @@ use Rattle.forms.proofs.labels.draw_form.Statement.{statement}
 use Rattle.forms.proofs.labels.draw_form.Tie as tie
 
 abbrev Inv-loop : tie.InvT-loop
-Inv-loop page₀ font store links directory values counters width height x y i w₀ page w = (length page ≡ length page₀) × (runDrawn (setting font store links directory values counters width height) w page ≡ formDrawn (setting font store links directory values counters width height) x y (content store links directory i) page₀)
+Inv-loop page₀ font store links directory values counters width height x y i w₀ page w = (length page ≡ length page₀) × (runDrawn (setting font store links directory values counters width height) w page ≡ drawsLines (setting font store links directory values counters width height) (drawing nothing (place x y) page₀) (linesOf (content store links directory i) .whole))
 
 abbrev μ-loop : tie.MeasureT-loop
-μ-loop page₀ font store links directory values counters width height x y i w₀ page w = w .left
+μ-loop page₀ font store links directory values counters width height x y i w₀ page w = w .place .left
 
 reader-requires : tie.Need-reader-requires Inv-loop μ-loop
 reader-requires c κs = search needs
@@ -22,7 +24,7 @@ none-requires : tie.Need-none-requires Inv-loop μ-loop
 none-requires c κs = search needs
 
 loop-holds : tie.Need-loop-holds Inv-loop μ-loop
-loop-holds c = let a = c .before .before .before .before .before .before .before .before .args in let r = c .before .reader in (refl, run-start (setting (now (a .font)) (now (a .store)) (now (a .links)) (now (a .directory)) (now (a .values)) (a .counters) (a .width) (a .length)) (a .i) (r .result) _ (a .x) (a .y) (now (a .page)) (r .ensures) (c .none .ensures))
+loop-holds c = let a = c .before .before .before .before .before .before .before .before .args in let r = c .before .reader in (refl, run-start (setting (now (a .font)) (now (a .store)) (now (a .links)) (now (a .directory)) (now (a .values)) (a .counters) (a .width) (a .length)) (a .i) (r .result) _ (place (a .x) (a .y)) (now (a .page)) (r .ensures) (c .none .ensures))
 
 draw-next-requires : tie.Need-draw-next-requires Inv-loop μ-loop
 draw-next-requires c κs = search needs
@@ -37,7 +39,8 @@ same-length : tie.Need-same-length Inv-loop μ-loop
 same-length c = c .before .before .loop .inv .0
 
 returns : tie.Need-returns Inv-loop μ-loop
-returns c = let a = c .before .before .before .before .before .before .before .before .before .before .before .args in run-end (setting (now (a .font)) (now (a .store)) (now (a .links)) (now (a .directory)) (now (a .values)) (a .counters) (a .width) (a .length)) _ _ _ _ _ _ _ (c .if1 .left) ∙ c .before .before .loop .inv .1
+unfolding formDrawn
+returns c = let a = c .before .before .before .before .before .before .before .before .before .before .before .args in ap (λ (w : Drawing). w .page) (run-end (setting (now (a .font)) (now (a .store)) (now (a .links)) (now (a .directory)) (now (a .values)) (a .counters) (a .width) (a .length)) _ _ _ _ _ _ (c .if1 .left) ∙ c .before .before .loop .inv .1)
 
 pub draw-form-spec : {M : Type 1} → statement M
 draw-form-spec = tie.close (tie.spec Inv-loop μ-loop reader-requires none-requires loop-holds draw-next-requires loop-less loop-again same-length returns)

@@ -17,11 +17,8 @@ draw-item-requires c κs = search needs
 declare-requires : tie.Need-declare-requires
 declare-requires c κs = search needs
 
-x-after-requires : tie.Need-x-after-requires
-x-after-requires c κs = search needs
-
-y-after-requires : tie.Need-y-after-requires
-y-after-requires c κs = search needs
+origin-after-requires : tie.Need-origin-after-requires
+origin-after-requires c κs = search needs
 
 enum-told : tie.Need-enum-told
 enum-told c = search needs
@@ -31,11 +28,11 @@ same-length c = search needs
 
 returns : tie.Need-returns
 unfolding drawsLine
-returns c = let e = sym (c .before .before .before .before .before .before .before .before .before .before .stored-item .ensures) ∙ c .before .before .before .before .before .before .before .before .stored .given .1 in rw e (λ i. drawing ((c .before .before .declare .ensures ∙ sym (declaring-holds _ _ _ e)) i) (c .before .x-after .ensures i) (c .y-after .ensures i) (c .before .before .before .before .before .draw-item .ensures i))
+returns c = let e = sym (c .before .before .before .before .before .before .before .before .before .stored-item .ensures) ∙ c .before .before .before .before .before .before .before .stored .given .1 in rw e (λ i. drawing ((c .before .declare .ensures ∙ sym (declaring-holds _ _ _ e)) i) (c .origin-after .ensures i) (c .before .before .before .before .draw-item .ensures i))
 
 returns-2 : tie.Need-returns-2
 unfolding drawsLine
 returns-2 c = let e = sym (c .before .before .stored-item .ensures) ∙ c .enum-told .given .1 in rw e
 
 pub draw-line-spec : {M : Type 1} → statement M
-draw-line-spec = tie.close (tie.spec stored-item-requires enum-known-stored draw-item-requires declare-requires x-after-requires y-after-requires enum-told same-length returns returns-2)
+draw-line-spec = tie.close (tie.spec stored-item-requires enum-known-stored draw-item-requires declare-requires origin-after-requires enum-told same-length returns returns-2)

@@ -26,7 +26,7 @@ same-length : tie.Need-same-length
 same-length c = search needs
 
 returns : tie.Need-returns
-returns c = let a = c .before .before .before .before .before .before .before .before .before .before .before .before .before .before .before .before .before .before .args in let n = c .before .before .before .before .before .before .before .before .before .next-line in let l = c .before .before .before .before .before .before .front .ensures ∙ n .ensures .0 in (run-next (setting (now (a .font)) (now (a .store)) (now (a .links)) (now (a .directory)) (now (a .values)) (a .counters) (a .width) (a .length)) _ _ _ _ _ _ _ _ _ _ _ _ _ _ _ l (n .ensures .1) (c .before .before .before .before .draw-line .ensures), walk-less _ _ _ _ _ _ _ _ _ (c .before .before .before .before .before .before .before .before .before .before .before .before .before .before .before .before .before .before .pre) l (n .ensures .1))
+returns c = let a = c .before .before .before .before .before .before .before .before .before .before .before .before .before .before .before .before .before .before .before .before .before .args in let n = c .before .before .before .before .before .before .before .before .before .before .next-line in let l = c .before .before .before .before .before .before .before .front .ensures ∙ n .ensures .0 in (run-next (setting (now (a .font)) (now (a .store)) (now (a .links)) (now (a .directory)) (now (a .values)) (a .counters) (a .width) (a .length)) _ _ _ _ _ _ _ _ _ _ _ _ _ l (n .ensures .1) (c .before .before .before .before .before .draw-line .ensures), walk-less _ _ _ _ _ _ _ _ _ (c .before .before .before .before .before .before .before .before .before .before .before .before .before .before .before .before .before .before .before .before .before .pre) l (n .ensures .1))
 
 pub draw-next-spec : {M : Type 1} → statement M
 draw-next-spec = tie.close (tie.spec slice-aggregate-next-line next-line-requires slice-aggregate-front front-requires draw-line-requires same-length returns)

@@ -1,6 +1,6 @@
 use borrow.Author.Needs.{needs}
-use Rattle.forms.proofs.labels.x_after.Statement.{statement}
-use Rattle.forms.proofs.labels.x_after.Tie as tie
+use Rattle.forms.proofs.labels.origin_after.Statement.{statement}
+use Rattle.forms.proofs.labels.origin_after.Tie as tie
 
 enum-known-item : tie.Need-enum-known-item
 enum-known-item c = search needs
@@ -50,5 +50,5 @@ returns-7 c = rw (c .enum-told6 .given .1)
 returns-8 : tie.Need-returns-8
 returns-8 c = rw (c .enum-told7 .given .1)
 
-pub x-after-spec : {M : Type 1} → statement M
-x-after-spec = tie.close (tie.spec enum-known-item enum-told enum-told-2 enum-told-3 enum-told-4 enum-told-5 enum-told-6 enum-told-7 returns returns-2 returns-3 returns-4 returns-5 returns-6 returns-7 returns-8)
+pub origin-after-spec : {M : Type 1} → statement M
+origin-after-spec = tie.close (tie.spec enum-known-item enum-told enum-told-2 enum-told-3 enum-told-4 enum-told-5 enum-told-6 enum-told-7 returns returns-2 returns-3 returns-4 returns-5 returns-6 returns-7 returns-8)
