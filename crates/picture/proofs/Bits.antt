@@ -4,8 +4,9 @@ use mathlib.Core.Path.{_≡_, refl, sym}
 use mathlib.Core.Bool.{Bool, true, false, not, _&&_}
 use Prim.Native.Nat.{ℕ, _+_, _-_, _*_, _/_, _%_, _^_, _≤_, _<_}
 use native.Mathlib.Omega.{arith}
+use lib.Bits.{bitAnd}
 use lib.Dec.{leb, ltb, eqb}
-use borrow.Author.Tests.{eqb-true, leb-true, ltb-true}
+use borrow.Author.Tests.{eqb-true, ltb-true}
 use Rattle.dots.specs.Dots.{bitOf}
 use Rattle.dots.proofs.Bits.{allBelow, all-below, and-true}
 use Rattle.picture.specs.Steps.{darkByte}
@@ -51,28 +52,16 @@ module _ (s k m : ℕ) (hs : s < 8) (hk : k < 8) (hm : m < 256) where
   high-fits = ltb-true _ _ (and-true (sameb (bitOf (pairOf m s % 256) k) (ltb k s && bitOf m (8 + k - s))) (ltb (pairOf m s / 256) 256) rest .1)
 
 -- the black dots among the first n of a byte
-abbrev pub cutOf : ℕ → ℕ → ℕ
-cutOf v n = 255 - v - (255 - v) % (256 / 2 ^ n)
-
 dark : ℕ → ℕ → Bool
-dark n v = ltb 0 (256 / 2 ^ n) && (leb ((255 - v) % (256 / 2 ^ n)) (255 - v) && eqb (cutOf v n) (darkByte v n))
+dark n v = eqb (bitAnd (255 - v) (255 - 255 / 2 ^ n)) (darkByte v n)
 
 all-dark : allBelow 9 (λ n. allBelow 256 (dark n)) ≡ true
 unfolding dark
 all-dark = refl
 
-pub record Dark (v n : ℕ) : Type 0 where
-  pub unit : 0 < 256 / 2 ^ n
-  pub less : (255 - v) % (256 / 2 ^ n) ≤ 255 - v
-  pub is : cutOf v n ≡ darkByte v n
-
-pub dark-says : (v n : ℕ) → v < 256 → n ≤ 8 → Dark v n
+pub dark-says : (v n : ℕ) → v < 256 → n ≤ 8 → bitAnd (255 - v) (255 - 255 / 2 ^ n) ≡ darkByte v n
 unfolding dark
-dark-says v n h k =
-    let e : dark n v ≡ true = all-below 256 (dark n) (all-below 9 (λ n. allBelow 256 (dark n)) all-dark n (omega arith)) v h in
-    let a = and-true (ltb 0 (256 / 2 ^ n)) _ e in
-    let b = and-true (leb ((255 - v) % (256 / 2 ^ n)) (255 - v)) _ (a .1) in
-    record { unit = ltb-true _ _ (a .0); less = leb-true _ _ (b .0); is = eqb-true _ _ (b .1) }
+dark-says v n h k = eqb-true _ _ (all-below 256 (dark n) (all-below 9 (λ n. allBelow 256 (dark n)) all-dark n (omega arith)) v h)
 
 all-white : allBelow 8 (bitOf 255) ≡ true
 all-white = refl

@@ -62,8 +62,7 @@ fn dark_byte(v: u8, n: usize) -> u8
     ensures { λ r. ⌜ r ≡ darkByte v n ⌝ }
 {
     let m = 255 - v as u32;
-    let unit = 256u32 >> n;
-    (m - m % unit) as u8
+    (m & (255 - (255u32 >> n))) as u8
 }
 
 // Draws a picture's byte number q, which is v.
