@@ -2,10 +2,11 @@
 use mathlib.Core.Path.{_≡_, refl, sym, ap, _∙_}
 use mathlib.Core.List.{List, [], _∷_}
 use mathlib.Core.Logic.{⊎-elim}
-use Prim.Native.Nat.{ℕ, zero, suc, _+_, _-_, _*_, _≤_, _<_}
+use Prim.Native.Nat.{ℕ, zero, suc, _+_, _-_, _*_, _≤_, _<_, min}
 use native.Mathlib.Omega.{arith}
 use native.Mathlib.Numerals.{add-one}
 use native.Mathlib.Decide.{decLt}
+use native.Mathlib.Nat.{add-zero, add-suc, add-assoc, sub-zero}
 use lib.ListN.{length, getD, set, take, drop}
 use lib.Seq.{sets, take-all, length-sets}
 use borrow.Author.Tests.{eq-eqb, ne-eqb, lt-ltb, le-ltb}
@@ -15,7 +16,8 @@ use Rattle.store.specs.declared.Cursor.{Cursor}
 use Rattle.store.specs.declared.Next.the-variants.{Line, End, Bad}
 use Rattle.store.specs.Content.{portionAfter, placeAfter, cursor, ahead, after}
 use Rattle.store.specs.Lines.{lines, onto, linesOf, lineOf, nextLine, lined}
-use Rattle.store.proofs.Reading.{Stands, stands-start, stands-step, stands-byte, stands-is, front-more, length-ahead, ahead-after, after-left}
+use Rattle.store.specs.Run.{copied}
+use Rattle.store.proofs.Reading.{Stands, stands-start, stands-step, stands-byte, stands-is, front-more, stays, length-ahead, ahead-after, after-left}
 
 -- ---- `lineOf`
 
@@ -109,6 +111,25 @@ module _ (store links : List ℕ) (c₀ : Cursor) (buf₀ : List ℕ) where
       rest = omega (arith, i .rest);
       put = ap (λ (o : List ℕ). set o n b) (i .put) ∙ front-more buf₀ (lineOf a) n b (goes ne .0) (here ∙ goes ne .1);
     }
+
+  -- a run that stays in its portion and has no LF
+  lining-run : (buf : List ℕ) (n p at left r : ℕ) → r ≤ 255 - at → r < left → n + r ≤ 255 → ((j : ℕ) → j < r → getD store (p * 256 + at + j) 0 ≡ 10 → ⊥)
+      → Lining store links c₀ buf₀ buf n p at left → Lining store links c₀ buf₀ (copied buf n store (p * 256 + at) r) (n + r) p (at + r) (left - r)
+  unfolding copied
+  lining-run buf n p at left zero h l f none i = rw (add-zero n, add-zero at, sub-zero left) i
+  lining-run buf n p at left (suc r) h l f none i =
+      let e : left - suc r ≡ left - r - 1 = omega arith in
+      rw (add-suc n r, add-suc at r, e)
+      (rw (add-one (n + r), add-one (at + r))
+      at (lining-step (copied buf n store (p * 256 + at) r) (n + r) p (at + r) (left - r) (getD store (p * 256 + at + r) 0) p (at + r + 1)
+      (lining-run buf n p at left r (omega arith) (omega arith) (omega arith) (λ j b. none j (omega arith)) i) (omega arith)
+      (ap (λ (q : ℕ). getD store q 0) (add-assoc (p * 256) at r)) (stays links p (at + r) (omega arith) .0) (stays links p (at + r) (omega arith) .1)
+      (none r (omega arith)) (λ z. omega arith)))
+
+  pub lining-ran : (buf buf′ : List ℕ) (n p at left r m : ℕ) → 0 < left → m ≡ min (left - 1) (255 - n)
+      → (r ≤ m) × (r ≤ 255 - at) × (buf′ ≡ copied buf n store (p * 256 + at) r) × ((j : ℕ) → j < r → getD store (p * 256 + at + j) 0 ≡ 10 → ⊥)
+      → Lining store links c₀ buf₀ buf n p at left → Lining store links c₀ buf₀ buf′ (n + r) p (at + r) (left - r)
+  lining-ran buf buf′ n p at left r m h e ran i = rw (ran .2) (lining-run buf n p at left r (ran .1) (omega arith) (omega (arith, i .few)) (ran .3) i)
 
   module _ (buf : List ℕ) (n p at left : ℕ) (i : Lining store links c₀ buf₀ buf n p at left) (h : left ≤ 0) where
     all : length (lineOf a) ≡ n

@@ -331,6 +331,34 @@ pub fn put(into: &mut [u8], at: usize, b: u8)
     }
 }
 
+// As `copy_run`, up to the next LF.
+fn line_run(store: &[u8], p: usize, at: usize, most: usize, buffer: &mut [u8], n: usize) -> usize
+    requires { ⌜ n + most ≤ 255 ⌝ }
+    ensures { λ r. ⌜ (r ≤ most) × (r ≤ 255 - at) × (now (buffer .exit) ≡ copied (now (buffer .entry)) n (now (store .entry)) (p * 256 + at) r) × ((j : ℕ) → j < r → getD (now (store .entry)) (p * 256 + at + j) 0 ≡ 10 → ⊥) ⌝ }
+{
+    if store.len() / 256 <= p {
+        return 0;
+    }
+    if 255 <= at {
+        return 0;
+    }
+    if buffer.len() < 255 {
+        return 0;
+    }
+    let from = p * 256 + at;
+    let m = least(most, 255 - at);
+    let mut j = 0;
+    while j < m {
+        let b = store[from + j];
+        if b == 10 {
+            return j;
+        }
+        buffer[n + j] = b;
+        j += 1;
+    }
+    m
+}
+
 // The next line ahead of a reader, copied without its LF to the front of a buffer that has 255 bytes or more.
 pub fn line_into(store: &[u8], links: &[u16], place: Cursor, buffer: &mut [u8]) -> Next
     ensures { λ r. ⌜ (r ≡ nextLine (now (store .entry)) (now (links .entry)) place) × (now (buffer .exit) ≡ lined (now (store .entry)) (now (links .entry)) place (now (buffer .entry))) ⌝ }
@@ -340,6 +368,10 @@ pub fn line_into(store: &[u8], links: &[u16], place: Cursor, buffer: &mut [u8]) 
     let mut left = place.left;
     let mut n: usize = 0;
     while 0 < left {
+        let r = line_run(store, p, at, least(left - 1, 255 - n), buffer, n);
+        at += r;
+        left -= r;
+        n += r;
         let b = byte_at(store, p, at);
         p = portion_after(links, p, at);
         at = place_after(at);
