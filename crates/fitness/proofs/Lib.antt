@@ -2,4 +2,5 @@ pub mod Parts
 pub mod Always
 pub mod Summing
 pub mod Answering
+pub mod Walked
 pub mod Filled

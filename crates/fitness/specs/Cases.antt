@@ -19,6 +19,9 @@ use Rattle.fitness.specs.declared.answers.DataAnswer.{DataAnswer}
 use Rattle.fitness.specs.declared.answers.DataAnswer.the-variants.{Good, Undeclared, Past}
 use Rattle.fitness.specs.Answers.{reachesPast, undeclaredBy, pastBy, dataAnswer}
 use Rattle.fitness.specs.Summary.{partLength, judged}
+use Rattle.fitness.specs.declared.judging.Judgement.{Judgement}
+use Rattle.fitness.specs.declared.judging.Judgement.the-variants.{Fit, Undeclared as NotDeclared, Past as Reaches, Unfit}
+use Rattle.fitness.specs.Judged.{dataJudged}
 
 -- V0 of length 5 and a justification; C0 of two digits
 declared : ℕ → Declared
@@ -52,3 +55,13 @@ case-13-14 :
     ≡ Good ∷ Past ∷ Past ∷ Undeclared ∷ Good ∷ []
 unfolding answerOf dataAnswer undeclaredBy pastBy reachesPast declared withCounter withVariable nothing between run valueFrom numberAt textAt byteAt modifierAt heldAt elementAt elementsFrom elements
 case-13-14 = refl
+
+judgementOf : String → Judgement
+judgementOf text = dataJudged (declared 76) (bytes text) (elements (bytes text) 0) Code39
+
+-- in Code 39 a text variable is unfit, which counts only where 13 and 14 do not apply
+case-lowest :
+    judgementOf "C0" ∷ judgementOf "V0" ∷ judgementOf "V0L6" ∷ judgementOf "V0L6V1" ∷ []
+    ≡ Fit ∷ Unfit ∷ Reaches ∷ NotDeclared ∷ []
+unfolding judgementOf judged inClass fitLength partLength dataAnswer undeclaredBy pastBy reachesPast declared withCounter withVariable nothing between run valueFrom numberAt textAt byteAt modifierAt heldAt elementAt elementsFrom elements
+case-lowest = refl

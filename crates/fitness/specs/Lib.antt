@@ -1,4 +1,5 @@
 pub mod Answers
 pub mod Permitted
 pub mod Summary
+pub mod Judged
 pub mod Cases

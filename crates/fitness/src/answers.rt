@@ -1,14 +1,11 @@
-// Answers 13 and 14 for a line's data.
+// What answers 13 and 14 ask of an element of a line's data.
 ghost use mathlib.Core.Path.{_≡_};
 ghost use mathlib.Core.Bool.{cond};
 ghost use Prim.Native.Nat.{_≤_};
-ghost use Rattle.fields.specs.Data.{elements};
-ghost use Rattle.fitness.specs.Answers.{reachesPast, undeclaredBy, pastBy, dataAnswer};
+ghost use Rattle.fitness.specs.Answers.{reachesPast, undeclaredBy, pastBy};
 use fields::Part;
-use fields::Step;
 use fields::What;
 use values::Declared;
-use values::bytes::either;
 
 // Good as far as 13 and 14 go; 13 a variable or counter is not declared; 14 a modifier reaches past the declared length.
 pub enum DataAnswer {
@@ -40,7 +37,7 @@ fn middle_past(p: usize, n: usize, m: usize) -> bool
     m + 1 - n < p
 }
 
-fn undeclared_by(d: Declared, what: What) -> bool
+pub(crate) fn undeclared_by(d: Declared, what: What) -> bool
     ensures { λ r. ⌜ r ≡ undeclaredBy d what ⌝ }
 {
     match what {
@@ -50,7 +47,7 @@ fn undeclared_by(d: Declared, what: What) -> bool
     }
 }
 
-fn past_by(d: Declared, what: What) -> bool
+pub(crate) fn past_by(d: Declared, what: What) -> bool
     ensures { λ r. ⌜ r ≡ pastBy d what ⌝ }
 {
     match what {
@@ -60,7 +57,7 @@ fn past_by(d: Declared, what: What) -> bool
     }
 }
 
-fn past_or_good(past: bool) -> DataAnswer
+pub(crate) fn past_or_good(past: bool) -> DataAnswer
     ensures { λ r. ⌜ r ≡ cond past DataAnswer.Past DataAnswer.Good ⌝ }
 {
     if past {
@@ -68,24 +65,4 @@ fn past_or_good(past: bool) -> DataAnswer
     } else {
         DataAnswer::Good
     }
-}
-
-// The lower of 13 and 14 that applies to the data from a place of a line on.
-pub fn data_answer(line: &[u8], at: usize, d: Declared) -> DataAnswer
-    ensures { λ r. ⌜ r ≡ dataAnswer d (elements (now (line .entry)) at) ⌝ }
-{
-    let mut past = false;
-    let mut i = at;
-    while i < line.len() {
-        let Step::Next(e) = fields::element_at(line, i) else {
-            return past_or_good(past);
-        };
-        let what = e.what;
-        if undeclared_by(d, what) {
-            return DataAnswer::Undeclared;
-        }
-        past = either(past, past_by(d, what));
-        i = e.at + e.length;
-    }
-    past_or_good(past)
 }

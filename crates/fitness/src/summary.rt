@@ -4,11 +4,9 @@ ghost use mathlib.Core.Bool.{_||_};
 ghost use Prim.Native.Nat.{_+_};
 ghost use mathlib.Core.List.{[]};
 ghost use lib.Dec.{eqb};
-ghost use Rattle.fields.specs.Data.{elements};
-ghost use Rattle.fitness.specs.Summary.{partLength, fewest, takesAll, leastOf, mostOf, goodOf, judged, upTo, summary, summaryOf, joined, decided};
+ghost use Rattle.fitness.specs.Summary.{partLength, fewest, takesAll, leastOf, mostOf, goodOf, upTo, summary, summaryOf, joined, decided};
 use fields::Element;
 use fields::Part;
-use fields::Step;
 use fields::What;
 use fit::Kind;
 use values::Declared;
@@ -76,7 +74,7 @@ fn variable_summary(d: Declared, kind: Kind, e: Element, k: usize, p: Part) -> S
     Summary { least, most, good }
 }
 
-fn summary_of(line: &[u8], d: Declared, kind: Kind, e: Element) -> Summary
+pub(crate) fn summary_of(line: &[u8], d: Declared, kind: Kind, e: Element) -> Summary
     ensures { λ r. ⌜ r ≡ summaryOf kind (now (line .entry)) d e ⌝ }
 {
     let what = e.what;
@@ -116,7 +114,7 @@ fn sum_up_to(a: usize, b: usize) -> usize
 }
 
 impl Summary {
-    fn join(self, t: Summary) -> Summary
+    pub(crate) fn join(self, t: Summary) -> Summary
         ensures { λ r. ⌜ r ≡ joined self t ⌝ }
     {
         let least = sum_up_to(self.least, t.least);
@@ -125,31 +123,11 @@ impl Summary {
         Summary { least, most, good }
     }
 
-    fn decide(self, kind: Kind) -> bool
+    pub(crate) fn decide(self, kind: Kind) -> bool
         ensures { λ r. ⌜ r ≡ decided self kind ⌝ }
     {
         let short = fit::fit_length(kind, self.least);
         let long = fit::fit_length(kind, self.most);
         both(short, both(long, self.good))
     }
-}
-
-// Whether the data from a place of a line on is fit for a kind, whatever permitted values it is shown with.
-pub fn always_fit(line: &[u8], at: usize, d: Declared, kind: Kind) -> bool
-    ensures { λ r. ⌜ r ≡ judged (now (line .entry)) d (elements (now (line .entry)) at) kind ⌝ }
-{
-    let mut s = Summary {
-        least: 0,
-        most: 0,
-        good: true,
-    };
-    let mut i = at;
-    while i < line.len() {
-        let Step::Next(e) = fields::element_at(line, i) else {
-            return s.decide(kind);
-        };
-        s = s.join(summary_of(line, d, kind, e));
-        i = e.at + e.length;
-    }
-    s.decide(kind)
 }

@@ -7,7 +7,7 @@ ghost use Rattle.store.specs.Find.{titledAt};
 ghost use Rattle.read.specs.Names.{packedOf};
 use crate::Verdict;
 use fit::Kind;
-use fitness::DataAnswer;
+use fitness::Judgement;
 use read::Item;
 use store::Found;
 use values::Declared;
@@ -22,20 +22,15 @@ fn again(declared: bool) -> Verdict
     }
 }
 
-fn fitting(fit: bool) -> Verdict
-    ensures { λ r. ⌜ r ≡ pickVerdict fit Verdict.Taken Verdict.Unfit ⌝ }
-{
-    if fit { Verdict::Taken } else { Verdict::Unfit }
-}
-
 fn judge_data(line: &[u8], at: usize, d: Declared, kind: Kind) -> Verdict
     ensures { λ r. ⌜ r ≡ judgedData d (now (line .entry)) at kind ⌝ }
 {
-    let answer = fitness::data_answer(line, at, d);
-    match answer {
-        DataAnswer::Good => fitting(fitness::always_fit(line, at, d, kind)),
-        DataAnswer::Undeclared => Verdict::Undeclared,
-        DataAnswer::Past => Verdict::Past,
+    let judgement = fitness::judge(line, at, d, kind);
+    match judgement {
+        Judgement::Fit => Verdict::Taken,
+        Judgement::Undeclared => Verdict::Undeclared,
+        Judgement::Past => Verdict::Past,
+        Judgement::Unfit => Verdict::Unfit,
     }
 }
 

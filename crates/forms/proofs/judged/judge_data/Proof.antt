@@ -1,58 +1,77 @@
+use mathlib.Core.Path.{_≡_, refl, sym, ap, _∙_}
+use mathlib.Core.Bool.{Bool, true, false}
+use mathlib.Core.List.{List}
+use Prim.Native.Nat.{ℕ}
+use denote.Ref.{now}
+use Rattle.fit.specs.declared.Kind.{Kind}
+use Rattle.fields.specs.Data.{elements}
+use Rattle.values.specs.declared.declarations.Declared.{Declared}
+use Rattle.fitness.specs.declared.answers.DataAnswer.{DataAnswer}
+use Rattle.fitness.specs.declared.answers.DataAnswer.the-variants.{Good, Undeclared as NotDeclared, Past as Reaches}
+use Rattle.fitness.specs.declared.judging.Judgement.{Judgement}
+use Rattle.fitness.specs.declared.judging.Judgement.the-variants.{Fit, Undeclared as Missing, Past as Beyond, Unfit as NotFit}
+use Rattle.fitness.specs.Answers.{dataAnswer}
+use Rattle.fitness.specs.Summary.{judged as fitAlways}
+use Rattle.fitness.specs.Judged.{withFit, dataJudged}
+use Rattle.forms.specs.declared.Verdict.{Verdict}
+use Rattle.forms.specs.declared.Verdict.the-variants.{Taken, Undeclared, Past, Unfit}
+use Rattle.forms.specs.Judged.{ofData, judgedData}
 use borrow.Author.Needs.{needs}
 use Rattle.forms.proofs.judged.judge_data.Statement.{statement}
 use Rattle.forms.proofs.judged.judge_data.Tie as tie
-use Rattle.forms.proofs.judged.judge_data.Reads as reads
-use Rattle.forms.proofs.judged.judge_data.Lts as lts
-use Rattle.fitness.proofs.data_answer.Reads as data-answer-reads
-use Rattle.fitness.proofs.always_fit.Reads as always-fit-reads
-use Rattle.forms.proofs.judged.fitting.Reads as fitting-reads
 
--- src/judged.rt:31:9
-data-answer-requires : tie.Need-data-answer-requires
-data-answer-requires c κs = search needs
+abbrev verdict : Judgement → Verdict
+verdict Fit = Taken
+verdict Missing = Undeclared
+verdict Beyond = Past
+verdict NotFit = Unfit
 
--- src/judged.rt:33:37
+of-data : (a : DataAnswer) (b : Bool) → verdict (withFit a b) ≡ ofData a b
+of-data NotDeclared b = refl
+of-data Reaches b = refl
+of-data Good true = refl
+of-data Good false = refl
+
+told : (d : Declared) (line : List ℕ) (at : ℕ) (kind : Kind) (j : Judgement) → j ≡ dataJudged d line (elements line at) kind → verdict j ≡ judgedData d line at kind
+told d line at kind j e = ap verdict e ∙ of-data (dataAnswer d (elements line at)) (fitAlways line d (elements line at) kind)
+
+judge-requires : tie.Need-judge-requires
+judge-requires c κs = search needs
+
 enum-told : tie.Need-enum-told
 enum-told c = search needs
 
--- src/judged.rt:33:37
-always-fit-requires : tie.Need-always-fit-requires
-always-fit-requires c κs = search needs
-
--- src/judged.rt:33:29
-fitting-requires : tie.Need-fitting-requires
-fitting-requires c κs = search needs
-
--- src/judged.rt:34:35
 enum-told-2 : tie.Need-enum-told-2
 enum-told-2 c = search needs
 
--- src/judged.rt:35:29
 enum-told-3 : tie.Need-enum-told-3
 enum-told-3 c = search needs
 
--- src/judged.rt:28:1
+enum-told-4 : tie.Need-enum-told-4
+enum-told-4 c = search needs
+
 returns : tie.Need-returns
-returns c = rw (← c .before .before .before .before .data-answer .ensures, c .before .before .enum-told .given .1, ← c .before .always-fit .ensures) (c .fitting .ensures)
+returns c = let a = c .before .before .before .before .args in told (a .d) (now (a .line)) (a .at) (a .kind) Fit (sym (c .enum-told .given .1) ∙ c .before .before .judge .ensures)
 
--- src/judged.rt:28:1
 returns-2 : tie.Need-returns-2
-returns-2 c = rw (← c .before .before .data-answer .ensures, c .enum-told2 .given .1)
+returns-2 c = let a = c .before .before .before .before .args in told (a .d) (now (a .line)) (a .at) (a .kind) Missing (sym (c .enum-told2 .given .1) ∙ c .before .before .judge .ensures)
 
--- src/judged.rt:28:1
 returns-3 : tie.Need-returns-3
-returns-3 c = rw (← c .before .before .data-answer .ensures, c .enum-told3 .given .1)
+returns-3 c = let a = c .before .before .before .before .args in told (a .d) (now (a .line)) (a .at) (a .kind) Beyond (sym (c .enum-told3 .given .1) ∙ c .before .before .judge .ensures)
+
+returns-4 : tie.Need-returns-4
+returns-4 c = let a = c .before .before .before .before .args in told (a .d) (now (a .line)) (a .at) (a .kind) NotFit (sym (c .enum-told4 .given .1) ∙ c .before .before .judge .ensures)
 
 pub judge-data-spec : {M : Type 1} → statement M
 judge-data-spec =
     tie.close
     (tie.spec
-    data-answer-requires
+    judge-requires
     enum-told
-    always-fit-requires
-    fitting-requires
     enum-told-2
     enum-told-3
+    enum-told-4
     returns
     returns-2
-    returns-3)
+    returns-3
+    returns-4)
