@@ -77,11 +77,7 @@ pub fn in_class(k: Class, b: u8) -> bool
             b'0'..=b'9' => true,
             _ => false,
         },
-        Class::Quoted => match b {
-            b' '..=b'!' => true,
-            b'#'..=b'~' => true,
-            _ => false,
-        },
+        Class::Quoted => is_quoted(b),
         Class::Inside => match b {
             b'\n' => false,
             _ => true,
@@ -94,6 +90,17 @@ pub fn in_class(k: Class, b: u8) -> bool
         },
         Class::Mode => is_mode(b),
         Class::Side => is_side(b),
+    }
+}
+
+// The quote first, so that the rest of a text's bytes are one range.
+fn is_quoted(b: u8) -> bool
+    ensures { λ r. ⌜ r ≡ inClass Class.Quoted b ⌝ }
+{
+    match b {
+        b'"' => false,
+        b' '..=b'~' => true,
+        _ => false,
     }
 }
 
@@ -388,15 +395,14 @@ fn quoted_at(line: &[u8], at: usize) -> Step
     }
 }
 
-// The element at a place.
+// The element at a place. Variables and counters share one call, so that an element is built once and not copied from call to call.
 pub fn element_at(line: &[u8], at: usize) -> Step
     ensures { λ r. ⌜ r ≡ elementAt (now (line .entry)) at ⌝ }
 {
     let b = byte(line, at);
     match b {
         b'"' => quoted_at(line, at),
-        b'V' => held_at(line, at, false),
-        b'C' => held_at(line, at, true),
+        b'V' | b'C' => held_at(line, at, b == b'C'),
         _ => Step::Stop(at),
     }
 }

@@ -1,5 +1,6 @@
 use native.Mathlib.Omega.{arith}
 use denote.Ref.{now}
+use mathlib.Core.Logic.{⊎-elim, inl, inr}
 use borrow.Author.Tests.{ne-eqb}
 use Rattle.fields.specs.Data.{elementAt}
 use Rattle.fields.proofs.Laws.{inside}
@@ -14,10 +15,7 @@ quoted-at-requires : tie.Need-quoted-at-requires
 quoted-at-requires c κs = search needs
 
 held-at-requires : tie.Need-held-at-requires
-held-at-requires c κs = inside (now (c .before .before .before .args .line)) (c .before .before .before .args .at) (omega arith)
-
-held-at-requires-2 : tie.Need-held-at-requires-2
-held-at-requires-2 c κs = inside (now (c .before .before .before .args .line)) (c .before .before .before .args .at) (omega arith)
+held-at-requires c κs = let a = c .before .before .before .args in inside (now (a .line)) (a .at) (⊎-elim (λ w. omega arith) (λ w. omega arith) (c .match .keys2))
 
 returns : tie.Need-returns
 unfolding elementAt
@@ -25,15 +23,11 @@ returns c = rw (← c .before .before .byte .ensures, c .before .match .keys1) (
 
 returns-2 : tie.Need-returns-2
 unfolding elementAt
-returns-2 c = rw (← c .before .before .byte .ensures, c .before .match .keys2) (c .held-at .ensures)
+returns-2 c = ⊎-elim (λ w. rw (← c .before .before .byte .ensures, w) (rw w at (c .held-at .ensures))) (λ w. rw (← c .before .before .byte .ensures, w) (rw w at (c .held-at .ensures))) (c .before .match .keys2)
 
 returns-3 : tie.Need-returns-3
 unfolding elementAt
-returns-3 c = rw (← c .before .before .byte .ensures, c .before .match .keys3) (c .held-at2 .ensures)
-
-returns-4 : tie.Need-returns-4
-unfolding elementAt
-returns-4 c = let r = c .match .rest in simp (← c .before .byte .ensures, ne-eqb _ 34 (r .0 .0 .1), ne-eqb _ 86 (r .0 .1), ne-eqb _ 67 (r .1))
+returns-3 c = let r = c .match .rest in simp (← c .before .byte .ensures, ne-eqb _ 34 (r .0 .1), ne-eqb _ 86 (λ e. r .1 (inr e)), ne-eqb _ 67 (λ e. r .1 (inl e)))
 
 pub element-at-spec : {M : Type 1} → statement M
 element-at-spec =
@@ -42,8 +36,6 @@ element-at-spec =
     byte-requires
     quoted-at-requires
     held-at-requires
-    held-at-requires-2
     returns
     returns-2
-    returns-3
-    returns-4)
+    returns-3)
