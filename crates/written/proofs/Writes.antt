@@ -1,12 +1,14 @@
 -- Laws on what is written.
 use mathlib.Core.Path.{_≡_, _∙_, refl, sym, ap}
-use mathlib.Core.Bool.{Bool, true, false, cond, and-false}
+use mathlib.Core.Bool.{Bool, true, false, cond, _&&_, and-false}
 use mathlib.Core.List.{List, [], _∷_, _++_}
 use Prim.Native.Nat.{ℕ, zero, suc, _+_, _-_, _*_, _/_, _%_, _^_, _≤_, _<_}
 use native.Mathlib.Nat.{add-zero, pow-suc}
 use native.Mathlib.Numerals.{add-one}
 use native.Mathlib.Omega.{arith}
 use native.Mathlib.Decide.{decLt}
+use lib.Bits.{bitOr, or-add-and, and-le-l, and-le-r}
+use lib.Dec.{eqb}
 use lib.ListN.{length, getD, set, take, drop, length-append, length-set, length-take, length-drop, drop-of-length-le}
 use lib.Seq.{sets, sets-eq, length-sets, take-append-seam, take-all, drop-cons, drop-drop, getD-drop, drop-set-lt, getD-set-same, take-suc, set-out}
 use borrow.Author.Tests.{lt-ltb, le-ltb, eq-eqb, ne-eqb}
@@ -200,14 +202,17 @@ data-stop s i p h = rw (elements-stop s i p h)
 
 -- ---- equal lists
 
-pub equal-more : (a b : List ℕ) (i : ℕ) → i < length a → i < length b → getD a i 0 ≡ getD b i 0
-    → equal (drop i a) (drop i b) ≡ equal (drop (i + 1) a) (drop (i + 1) b)
+-- bytes joined by `|` that are 0 where two are the same: one more, and all
+pub equal-joined : (a b : List ℕ) (i any : ℕ) → i < length a → i < length b
+    → (eqb (bitOr any (cond (eqb (getD a i 0) (getD b i 0)) 0 1)) 0 && equal (drop (i + 1) a) (drop (i + 1) b)) ≡ (eqb any 0 && equal (drop i a) (drop i b))
 unfolding equal
-equal-more a b i h k e = rw (add-one, drop-cons a i 0 h, drop-cons b i 0 k, eq-eqb (getD a i 0) (getD b i 0) e)
-
-pub equal-stop : (a b : List ℕ) (i : ℕ) → i < length a → i < length b → (getD a i 0 ≡ getD b i 0 → ⊥) → equal (drop i a) (drop i b) ≡ false
-unfolding equal
-equal-stop a b i h k e = rw (drop-cons a i 0 h, drop-cons b i 0 k, ne-eqb (getD a i 0) (getD b i 0) e)
+equal-joined a b i any h k = rw (add-one, drop-cons a i 0 h, drop-cons b i 0 k) (go (eqb (getD a i 0) (getD b i 0)))
+  where
+    go : (q : Bool) → (eqb (bitOr any (cond q 0 1)) 0 && equal (drop (suc i) a) (drop (suc i) b)) ≡ (eqb any 0 && (q && equal (drop (suc i) a) (drop (suc i) b)))
+    go true =
+        let e : bitOr any 0 ≡ any = omega (arith, or-add-and any 0, and-le-r any 0) in
+        rw e
+    go false = rw (ne-eqb (bitOr any 1) 0 (λ z. omega (arith, or-add-and any 1, and-le-l any 1))) (simp and-false)
 
 pub equal-end : (a b : List ℕ) (i : ℕ) → length a ≤ i → length b ≤ i → equal (drop i a) (drop i b) ≡ true
 unfolding equal

@@ -258,20 +258,26 @@ pub fn write(line: &[u8], out: &mut [u8]) -> usize
     put_row(line, row, &vs, &ps, out)
 }
 
+fn differs(x: u8, y: u8) -> u8
+    ensures { λ r. ⌜ r ≡ cond (eqb x y) 0 1 ⌝ }
+{
+    if x == y { 0 } else { 1 }
+}
+
+// No early exit, so that many bytes go at once.
 fn same(a: &[u8], b: &[u8]) -> bool
     ensures { λ r. ⌜ r ≡ equal (now (a .entry)) (now (b .entry)) ⌝ }
 {
     if a.len() != b.len() {
         return false;
     }
+    let mut any: u8 = 0;
     let mut i = 0;
     while i < a.len() {
-        if a[i] != b[i] {
-            return false;
-        }
+        any = any | differs(a[i], b[i]);
         i += 1;
     }
-    true
+    any == 0
 }
 
 // Reads a line of at most 255 bytes that is its own normal form, and refuses any other; no line that may stand in a form asks for the rows of a
