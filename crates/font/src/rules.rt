@@ -187,7 +187,7 @@ fn note(places: &mut [usize], code: usize, at: usize)
 }
 
 // Finds where the rows of each code stand. One pass serves all bytes of a text.
-pub fn find_places(font: &[u8], places: &mut [usize])
+pub(crate) fn find_places(font: &[u8], places: &mut [usize])
     requires { ⌜ Places (now font) (now places) 95 5 ⌝ }
     ensures { λ _. ⌜ Places (now (font .entry)) (now (places .exit)) 0 0 ⌝ }
 {
@@ -225,7 +225,7 @@ fn found(at: usize, end: usize) -> usize
 }
 
 // The rows from a place that was found on.
-pub fn rows_at(font: &[u8], at: usize) -> &[u8]
+pub(crate) fn rows_at(font: &[u8], at: usize) -> &[u8]
     ensures { λ r. ⌜ now r ≡ take (cellHeight (now (font .entry)) * rowBytes (now (font .entry))) (drop (cond (eqb at 0) (length (now (font .entry))) at) (now (font .entry))) ⌝ }
 {
     part(
