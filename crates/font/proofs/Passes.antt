@@ -1,15 +1,18 @@
 -- The passes over a font, a row or a field at a time: what is left from here on is what there was from the start on.
 -- Assumes nothing.
-use mathlib.Core.Path.{_≡_, refl, ap, _∙_}
-use mathlib.Core.Bool.{Bool, true, false, _&&_}
+use mathlib.Core.Path.{_≡_, refl, sym, ap, _∙_}
+use mathlib.Core.Bool.{Bool, true, false, cond, _&&_}
 use mathlib.Core.List.{List}
 use Prim.Native.Nat.{ℕ, zero, suc, _+_, _-_, _*_, _%_, _^_, _≤_, _<_}
 use native.Mathlib.Nat.{one-mul, mod-eq-of-lt, pow-le-pow-right, mul-le-mul}
+use native.Mathlib.Decide.{ℕ-discrete}
 use native.Mathlib.Omega.{arith}
 use lib.Bits.{bitAnd, and-mask}
-use lib.ListN.{length, getD}
+use lib.ListN.{length, getD, set, take, drop, replicate, length-set, length-replicate}
+use lib.Seq.{getD-set-same, getD-set-other}
 use lib.Dec.{eqb}
-use Rattle.font.specs.Rules.{tagAt, codeAt, nextField, rowBytes, spareBits, rowClean, rowsClean, isGlyph, glyph, ended, fieldsFrom, placeFrom}
+use borrow.Author.Tests.{eq-eqb, ne-eqb}
+use Rattle.font.specs.Rules.{tagAt, codeAt, nextField, cellHeight, rowBytes, spareBits, rowClean, rowsClean, isGlyph, glyph, ended, fieldsFrom, placeFrom, rowsOf, Places}
 
 one-less : {A : Type 0} {x : A} (f : ℕ → A) (n : ℕ) → 0 < n → x ≡ f (suc (n - 1)) → x ≡ f n
 one-less f n h e = let z : suc (n - 1) ≡ n = omega arith in e ∙ ap f z
@@ -101,6 +104,72 @@ module _ (font : List ℕ) where
     unfolding placeFrom
     place-none zero at h = refl
     place-none (suc n) at h = absurd (omega arith)
+
+  -- ---- the places of all codes
+  zeros : (n i : ℕ) → _≡_ {A = ℕ} (getD (replicate n 0) i 0) 0
+  zeros zero i = refl
+  zeros (suc n) zero = refl
+  zeros (suc n) (suc i) = zeros n i
+
+  pub places-start : Places font (replicate 256 0) 95 5
+  places-start = record { all = length-replicate {A = ℕ} 256 0; right = λ code h. rw (zeros 256 code) }
+
+  module _ (ps : List ℕ) (n at : ℕ) (p : Places font ps n at) where
+    -- one field more, noted
+    pub places-step : (qs : List ℕ) → 0 < n → isGlyph font at ≡ true → codeAt font at < 256
+        → qs ≡ cond (eqb (getD ps (codeAt font at) 0) 0) (set ps (codeAt font at) (at + 4)) ps → Places font qs (n - 1) (nextField font at)
+    places-step qs h g k e =
+        record {
+          all = ap length e ∙ long (eqb (getD ps here 0) 0);
+          right = λ code l.
+              ap (λ (r : List ℕ). cond (eqb (getD r code 0) 0) (placeFrom font code (n - 1) (nextField font at)) (getD r code 0)) e
+              ∙ noted code l (ℕ-discrete code here) (eqb (getD ps here 0) 0) refl;
+        }
+      where
+        here : ℕ
+        here = codeAt font at
+
+        after : Bool → List ℕ
+        after b = cond b (set ps here (at + 4)) ps
+
+        long : (b : Bool) → length (after b) ≡ 256
+        long true = length-set ps here (at + 4) ∙ p .all
+        long false = p .all
+
+        other : (b : Bool) (code : ℕ) → (code ≡ here → ⊥) → getD (after b) code 0 ≡ getD ps code 0
+        other true code m = getD-set-other ps here code (at + 4) 0 m
+        other false code m = refl
+
+        noted : (code : ℕ) → code < 256 → Dec (code ≡ here) → (b : Bool) → eqb (getD ps here 0) 0 ≡ b
+            → cond (eqb (getD (after b) code 0) 0) (placeFrom font code (n - 1) (nextField font at)) (getD (after b) code 0) ≡ placeFrom font code 95 5
+        noted code l (yes q) true d =
+            let v : getD (set ps here (at + 4)) code 0 ≡ at + 4 =
+            ap (λ (m : ℕ). getD (set ps here (at + 4)) m 0) q ∙ getD-set-same ps here (at + 4) 0 (omega (arith, p .all)) in
+            rw (v, ne-eqb (at + 4) 0 (λ z. omega arith))
+            (place-here here n at h g (eq-eqb here here refl) ∙ rw d at (p .right here k) ∙ ap (λ (m : ℕ). placeFrom font m 95 5) (sym q))
+        noted code l (yes q) false d =
+            let f : eqb (getD ps code 0) 0 ≡ false = ap (λ (m : ℕ). eqb (getD ps m 0) 0) q ∙ d in
+            rw f (rw f at (p .right code l))
+        noted code l (no q) b d =
+            rw (other b code q)
+            (ap (λ (m : ℕ). cond (eqb (getD ps code 0) 0) m (getD ps code 0)) (place-step code n at h g (ne-eqb here code (λ z. q (sym z))))
+            ∙ p .right code l)
+
+    at-end : (code : ℕ) → code < 256 → length font ≡ placeFrom font code n at
+        → cond (eqb (getD ps code 0) 0) (placeFrom font code 0 0) (getD ps code 0) ≡ placeFrom font code 95 5
+    unfolding placeFrom
+    at-end code k d = ap (λ (m : ℕ). cond (eqb (getD ps code 0) 0) m (getD ps code 0)) d ∙ p .right code k
+
+    pub places-end : 0 < n → isGlyph font at ≡ false → Places font ps 0 0
+    places-end h g = record { all = p .all; right = λ code k. at-end code k (place-end code n at h g) }
+
+    pub places-done : n ≤ 0 → Places font ps 0 0
+    places-done h = record { all = p .all; right = λ code k. at-end code k (place-none code n at h) }
+
+  pub places-rows : (ps : List ℕ) → Places font ps 0 0 → (code : ℕ) (r : List ℕ) → code < 256
+      → r ≡ take (cellHeight font * rowBytes font) (drop (cond (eqb (getD ps code 0) 0) (length font) (getD ps code 0)) font) → r ≡ rowsOf font code
+  unfolding placeFrom rowsOf
+  places-rows ps p code r h e = e ∙ ap (λ (m : ℕ). take (cellHeight font * rowBytes font) (drop m font)) (p .right code h)
 
 -- how long a text can be, and how wide and high a cell
 pub byte-times : (a b k : ℕ) → a < 256 → b ≤ k → a * b ≤ 255 * k

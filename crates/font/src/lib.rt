@@ -7,5 +7,4 @@ mod rules; // which bytes are a legal font, and the rows of a code
 mod text; // a text drawn
 
 pub use rules::is_legal;
-pub use rules::rows;
 pub use text::draw;

@@ -1,10 +1,11 @@
-// The font's rules, read in one pass over its fields, and the rows of a code. A byte past the end reads as 0, so that any bytes get an answer.
+// The font's rules, read in one pass over its fields, and the rows of its codes. A byte past the end reads as 0, so that any bytes get an answer.
 ghost use mathlib.Core.Path.{_≡_};
-ghost use mathlib.Core.Bool.{_&&_};
+ghost use mathlib.Core.Bool.{cond, _&&_};
 ghost use Prim.Native.Nat.{ℕ, _+_, _-_, _*_, _/_, _%_, _^_, _≤_, _<_};
-ghost use lib.ListN.{length, getD, take, drop};
+ghost use lib.Dec.{eqb};
+ghost use lib.ListN.{length, getD, set, take, drop};
 ghost use Rattle.font.specs.Rules.{sizeAt, codeAt, nextField, cellWidth, cellHeight, headed, rowBytes, spareBits};
-ghost use Rattle.font.specs.Rules.{rowClean, rowsClean, isGlyph, sized, coded, glyph, ended, fieldsFrom, legal, placeFrom, rowsOf};
+ghost use Rattle.font.specs.Rules.{rowClean, rowsClean, isGlyph, sized, coded, glyph, ended, fieldsFrom, legal, Places};
 
 pub fn both(a: bool, b: bool) -> bool
     ensures { λ r. ⌜ r ≡ (a && b) ⌝ }
@@ -175,23 +176,31 @@ pub fn is_legal(font: &[u8]) -> bool
     }
 }
 
-// Where the rows of a code stand, and the font's length where it has none.
-fn place_of(font: &[u8], code: usize) -> usize
-    ensures { λ r. ⌜ r ≡ placeFrom (now (font .entry)) code 95 5 ⌝ }
+// Notes where the rows of a code stand. The first field that has the code counts.
+fn note(places: &mut [usize], code: usize, at: usize)
+    requires { ⌜ code < length (now places) ⌝ }
+    ensures { λ _. ⌜ now (places .exit) ≡ cond (eqb (getD (now (places .entry)) code 0) 0) (set (now (places .entry)) code at) (now (places .entry)) ⌝ }
+{
+    if places[code] == 0 {
+        places[code] = at;
+    }
+}
+
+// Finds where the rows of each code stand. One pass serves all bytes of a text.
+pub(crate) fn find_places(font: &[u8], places: &mut [usize])
+    requires { ⌜ Places (now font) (now places) 95 5 ⌝ }
+    ensures { λ _. ⌜ Places (now (font .entry)) (now (places .exit)) 0 0 ⌝ }
 {
     let mut left: usize = 95;
     let mut at: usize = 5;
     while 0 < left {
         if !is_glyph(font, at) {
-            return font.len();
+            return;
         }
-        if code_at(font, at) == code {
-            return at + 4;
-        }
+        note(places, code_at(font, at), at + 4);
         at = next_field(font, at);
         left -= 1;
     }
-    font.len()
 }
 
 // At most n elements from a place on.
@@ -208,13 +217,20 @@ fn part(s: &[u8], at: usize, n: usize) -> &[u8]
     &s[at..end]
 }
 
-// The rows of a code.
-pub fn rows(font: &[u8], code: usize) -> &[u8]
-    ensures { λ r. ⌜ now r ≡ rowsOf (now (font .entry)) code ⌝ }
+// A place that was found, and the end where none was.
+fn found(at: usize, end: usize) -> usize
+    ensures { λ r. ⌜ r ≡ cond (eqb at 0) end at ⌝ }
+{
+    if at == 0 { end } else { at }
+}
+
+// The rows from a place that was found on.
+pub(crate) fn rows_at(font: &[u8], at: usize) -> &[u8]
+    ensures { λ r. ⌜ now r ≡ take (cellHeight (now (font .entry)) * rowBytes (now (font .entry))) (drop (cond (eqb at 0) (length (now (font .entry))) at) (now (font .entry))) ⌝ }
 {
     part(
         font,
-        place_of(font, code),
+        found(at, font.len()),
         cell_height(font) * row_bytes(font),
     )
 }

@@ -2,6 +2,7 @@
 ghost use mathlib.Core.Path.{_≡_};
 ghost use Prim.Native.Nat.{_≤_};
 ghost use Rattle.dots.specs.Dots.{drawn, box};
+ghost use Rattle.font.specs.Rules.{Places};
 ghost use Rattle.font.specs.Text.{glyphs, onLabel, drawable, inMode, textDrawn};
 use crate::rules;
 use dots::Ink;
@@ -24,9 +25,18 @@ fn drawable_ok(h: usize, v: usize, text: &[u8]) -> bool
     rules::both(h <= 6, rules::both(v <= 9, text.len() <= 128))
 }
 
-// Draws the glyphs of a text.
-fn ink_glyphs(page: &mut [u8], ink: Ink, s: Spot, h: usize, v: usize, font: &[u8], text: &[u8])
-    requires { do ⌜ (h ≤ 6) × ((← ⟦text.len()⟧) ≤ 128) ⌝ }
+// Draws the glyphs of a text, whose places are found.
+fn ink_found(
+    page: &mut [u8],
+    ink: Ink,
+    s: Spot,
+    h: usize,
+    v: usize,
+    font: &[u8],
+    places: &[usize],
+    text: &[u8],
+)
+    requires { do ⌜ (h ≤ 6) × ((← ⟦text.len()⟧) ≤ 128) × Places (now font) (now places) 0 0 ⌝ }
     ensures { λ _. ⌜ now (page .exit) ≡ drawn ink (onLabel s (glyphs (now (font .entry)) h v (now (text .entry)))) (now (page .entry)) ⌝ }
 {
     let cell = rules::cell_width(font);
@@ -36,7 +46,7 @@ fn ink_glyphs(page: &mut [u8], ink: Ink, s: Spot, h: usize, v: usize, font: &[u8
     let mut n = 0;
     let mut u: usize = 0;
     while n < text.len() {
-        let bits = rules::rows(font, text[n] as usize);
+        let bits = rules::rows_at(font, places[text[n] as usize]);
         figures::ink_bitmap(
             page,
             ink,
@@ -58,6 +68,16 @@ fn ink_glyphs(page: &mut [u8], ink: Ink, s: Spot, h: usize, v: usize, font: &[u8
         n += 1;
         u += step;
     }
+}
+
+// Draws the glyphs of a text.
+fn ink_glyphs(page: &mut [u8], ink: Ink, s: Spot, h: usize, v: usize, font: &[u8], text: &[u8])
+    requires { do ⌜ (h ≤ 6) × ((← ⟦text.len()⟧) ≤ 128) ⌝ }
+    ensures { λ _. ⌜ now (page .exit) ≡ drawn ink (onLabel s (glyphs (now (font .entry)) h v (now (text .entry)))) (now (page .entry)) ⌝ }
+{
+    let mut places = [0usize; 256];
+    rules::find_places(font, &mut places);
+    ink_found(page, ink, s, h, v, font, &places, text);
 }
 
 // Blackens the whole box of a text.

@@ -1,14 +1,13 @@
--- `font::rules::rows` meets its contract.
+-- `font::rules::rows_at` meets its contract.
 -- Assumes nothing.
 use native.Mathlib.Omega.{arith}
-use borrow.Author.Needs.{needs}
-use Rattle.font.specs.Rules.{rowsOf}
 use Rattle.font.proofs.Passes.{bytes-product}
-use Rattle.font.proofs.rules.rows.Statement.{statement}
-use Rattle.font.proofs.rules.rows.Tie as tie
+use borrow.Author.Needs.{needs}
+use Rattle.font.proofs.rules.rows_at.Statement.{statement}
+use Rattle.font.proofs.rules.rows_at.Tie as tie
 
-place-of-requires : tie.Need-place-of-requires
-place-of-requires c κs = search needs
+found-requires : tie.Need-found-requires
+found-requires c κs = search needs
 
 cell-height-requires : tie.Need-cell-height-requires
 cell-height-requires c κs = search needs
@@ -30,14 +29,13 @@ part-requires : tie.Need-part-requires
 part-requires c κs = search needs
 
 returns : tie.Need-returns
-unfolding rowsOf
 returns c = cc
 
-pub rows-spec : {M : Type 1} → statement M
-rows-spec =
+pub rows-at-spec : {M : Type 1} → statement M
+rows-at-spec =
     tie.close
     (tie.spec
-    place-of-requires
+    found-requires
     cell-height-requires
     row-bytes-requires
     mul-part
