@@ -9,7 +9,7 @@ use native.Mathlib.Omega.{arith}
 use native.Mathlib.Decide.{decLt}
 use lib.Bits.{bitOr, or-add-and, and-le-l, and-le-r}
 use lib.Dec.{eqb}
-use lib.ListN.{length, getD, set, take, drop, length-append, length-set, length-take, length-drop, drop-of-length-le}
+use lib.ListN.{length, getD, set, take, drop, take-append-drop, length-append, length-set, length-take, length-drop, drop-of-length-le}
 use lib.Seq.{sets, sets-eq, length-sets, take-append-seam, take-all, drop-cons, drop-drop, getD-drop, drop-set-lt, getD-set-same, take-suc, set-out}
 use borrow.Author.Tests.{lt-ltb, le-ltb, eq-eqb, ne-eqb}
 use Rattle.fields.specs.Data.{elementAt, elements, after}
@@ -67,6 +67,16 @@ wrote-then {out} {o} {o′} {xs} {ys} {at} {r} {r′} w u =
 pub wrote-past : (xs out : List ℕ) (at : ℕ) → length out < at → Wrote out at xs (length out) out
 wrote-past xs out at h = record { place = omega arith; stored = sym (sets-past xs out at (omega arith)) }
 
+-- one byte at a place that is there
+pub wrote-byte : (out : List ℕ) (at b : ℕ) → at < length out → Wrote out at (b ∷ []) (at + 1) (set out at b)
+wrote-byte out at b h = record { place = omega arith; stored = refl }
+
+-- where all room is taken nothing more is stored
+pub wrote-full : {out o xs : List ℕ} {at r : ℕ} (ys : List ℕ) → Wrote out at xs r o → length out ≤ r → Wrote out at (xs ++ ys) r o
+wrote-full {out} {o} {xs} {at} {r} ys w h =
+    let l = wrote-length w in
+    wrote-then w (record { place = (let p = w .place in omega arith); stored = sym (sets-past ys o r (omega arith)) })
+
 pub wrote-same : {out o xs ys : List ℕ} {at r : ℕ} → Wrote out at xs r o → xs ≡ ys → Wrote out at ys r o
 wrote-same w e = rw e at w
 
@@ -82,6 +92,24 @@ pub cased-more : (t : Bool) (l : List ℕ) (j : ℕ) → j < length l
 unfolding cased
 cased-more t l j h =
     rw (add-one, take-suc l j 0 h) (sym (cased-append t (take j l) (getD l j 0 ∷ [])))
+
+-- bytes copied: one more, and until none is left or no room is
+pub cased-next : (t : Bool) (l out o : List ℕ) (at j b : ℕ) → Wrote out at (cased t (take j l)) (at + j) o → j < length l → at + j < length out
+    → b ≡ cond t (capital (getD l j 0)) (getD l j 0) → Wrote out at (cased t (take (j + 1) l)) (at + (j + 1)) (set o (at + j) b)
+cased-next t l out o at j b w h k e =
+    let n = wrote-length w in
+    let p : at + j + 1 ≡ at + (j + 1) = omega arith in
+    let s : cased t (take j l) ++ (b ∷ []) ≡ cased t (take (j + 1) l) =
+    ap (λ (x : ℕ). cased t (take j l) ++ (x ∷ [])) e ∙ cased-more t l j h in
+    rw p at (wrote-same (wrote-then w (wrote-byte o (at + j) b (omega arith))) s)
+
+pub cased-all : (t : Bool) (l out o : List ℕ) (at j r : ℕ) → Wrote out at (cased t (take j l)) (at + j) o → r ≡ at + j → (j < length l → length out ≤ at + j)
+    → Wrote out at (cased t l) r o
+cased-all t l out o at j r w e h = rw e (go (decLt j (length l)))
+  where
+    go : Dec (j < length l) → Wrote out at (cased t l) (at + j) o
+    go (no k) = wrote-same w (ap (cased t) (take-all j l (omega arith)))
+    go (yes k) = wrote-same (wrote-full (cased t (drop j l)) w (h k)) (sym (cased-append t (take j l) (drop j l)) ∙ ap (cased t) (take-append-drop j l))
 
 pub cased-kept : (l : List ℕ) → cased false l ≡ l
 unfolding cased

@@ -7,7 +7,7 @@
 ghost use mathlib.Core.Path.{_≡_};
 ghost use mathlib.Core.List.{[], _∷_, _++_};
 ghost use mathlib.Core.Bool.{cond};
-ghost use Prim.Native.Nat.{_+_, _≤_, _<_};
+ghost use Prim.Native.Nat.{_+_, _≤_, _<_, min};
 ghost use lib.ListN.{length, getD};
 ghost use lib.Dec.{eqb};
 ghost use Rattle.fields.specs.Data.{elements};
@@ -48,19 +48,24 @@ fn case(fold: bool, b: u8) -> u8
     if fold { folded(b) } else { b }
 }
 
-// Copies bytes, in capitals or as they are.
+fn least(a: usize, b: usize) -> usize
+    ensures { λ r. ⌜ r ≡ min a b ⌝ }
+{
+    if a < b { a } else { b }
+}
+
+// Copies bytes, in capitals or as they are, as far as there is room.
 fn copy(from: &[u8], fold: bool, out: &mut [u8], at: usize) -> usize
     requires { ⌜ at ≤ length (now out) ⌝ }
     ensures { λ r. ⌜ Wrote (now (out .entry)) at (cased fold (now (from .entry))) r (now (out .exit)) ⌝ }
 {
-    let mut place = at;
+    let n = least(from.len(), out.len() - at);
     let mut j = 0;
-    while j < from.len() {
-        let b = case(fold, from[j]);
-        place = put(out, place, b);
+    while j < n {
+        out[at + j] = case(fold, from[j]);
         j += 1;
     }
-    place
+    at + n
 }
 
 fn digit_byte(x: usize) -> u8

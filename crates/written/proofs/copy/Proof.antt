@@ -1,24 +1,29 @@
-use Prim.Native.Nat.{_-_, _≤_}
+use Prim.Native.Nat.{_+_, _-_, _≤_}
+use native.Mathlib.Nat.{add-zero}
 use native.Mathlib.Omega.{arith}
-use mathlib.Core.Path.{ap}
 use denote.Ref.{now}
-use lib.ListN.{length, take}
-use lib.Seq.{take-all}
+use lib.ListN.{take}
 use Rattle.written.specs.Written.{Wrote, cased}
-use Rattle.written.proofs.Writes.{wrote-none, wrote-then, wrote-room, wrote-length, wrote-same, cased-more}
+use Rattle.written.proofs.Writes.{wrote-none, wrote-length, cased-next, cased-all}
 use borrow.Author.Needs.{needs}
 use Rattle.written.proofs.copy.Statement.{statement}
 use Rattle.written.proofs.copy.Tie as tie
 
 abbrev Inv-loop : tie.InvT-loop
-Inv-loop from fold out₀ at place₀ j₀ out place j = (j ≤ length from) × Wrote out₀ at (cased fold (take j from)) place out
+Inv-loop from fold out₀ at n j₀ out j = (j ≤ n) × Wrote out₀ at (cased fold (take j from)) (at + j) out
 
 abbrev μ-loop : tie.MeasureT-loop
-μ-loop from fold out₀ at place₀ j₀ out place j = length from - j
+μ-loop from fold out₀ at n j₀ out j = n - j
+
+sub-least : tie.Need-sub-least Inv-loop μ-loop
+sub-least c = search needs
+
+least-requires : tie.Need-least-requires Inv-loop μ-loop
+least-requires c κs = search needs
 
 loop-holds : tie.Need-loop-holds Inv-loop μ-loop
 unfolding cased
-loop-holds c = (omega arith, wrote-none _ _ (c .before .before .pre))
+loop-holds c = (omega arith, rw add-zero (wrote-none _ _ (c .before .before .before .pre)))
 
 shared-slice-read-case : tie.Need-shared-slice-read-case Inv-loop μ-loop
 shared-slice-read-case c = search needs
@@ -26,8 +31,11 @@ shared-slice-read-case c = search needs
 case-requires : tie.Need-case-requires Inv-loop μ-loop
 case-requires c κs = search needs
 
-put-requires : tie.Need-put-requires Inv-loop μ-loop
-put-requires c κs = wrote-room (c .before .before .before .before .loop .inv .1)
+add-out : tie.Need-add-out Inv-loop μ-loop
+add-out c = search needs
+
+slice-write-out : tie.Need-slice-write-out Inv-loop μ-loop
+slice-write-out c = let l = wrote-length (c .before .before .before .loop .inv .1) in omega arith
 
 add-j : tie.Need-add-j Inv-loop μ-loop
 add-j c = search needs
@@ -36,15 +44,22 @@ loop-less : tie.Need-loop-less Inv-loop μ-loop
 loop-less c = search needs
 
 loop-again : tie.Need-loop-again Inv-loop μ-loop
-loop-again c = let a = c .before .before .before .before .before .before .before .before .before .before .args in
-    let l = c .before .before .before .before .before .before .before .loop in
-    (omega arith, wrote-same (wrote-then (l .inv .1) (c .before .before .put .ensures)) (rw (c .before .before .before .before .case .ensures) (cased-more (a .fold) (now (a .from)) (l .j) (c .before .before .before .before .before .before .loop-test .taken))))
+loop-again c =
+    let a = c .before .before .before .before .before .before .before .args in
+    let l = c .before .before .before .loop in
+    (omega arith, cased-next (a .fold) (now (a .from)) _ _ (a .at) (l .j) _ (l .inv .1) (omega arith) (omega arith) (c .case .ensures))
+
+add-result : tie.Need-add-result Inv-loop μ-loop
+add-result c = search needs
 
 same-length : tie.Need-same-length Inv-loop μ-loop
 same-length c = wrote-length (c .before .loop .inv .1)
 
 returns : tie.Need-returns Inv-loop μ-loop
-returns c = let l = c .before .loop in wrote-same (l .inv .1) (ap (cased (c .before .before .before .before .args .fold)) (take-all (l .j) (now (c .before .before .before .before .args .from)) (c .loop-test .left)))
+returns c =
+    let a = c .before .before .before .before .before .args in
+    let l = c .before .loop in
+    cased-all (a .fold) (now (a .from)) _ _ (a .at) (l .j) _ (l .inv .1) (omega arith) (λ k. omega arith)
 
 pub copy-spec : {M : Type 1} → statement M
 copy-spec =
@@ -52,12 +67,16 @@ copy-spec =
     (tie.spec
     Inv-loop
     μ-loop
+    sub-least
+    least-requires
     loop-holds
     shared-slice-read-case
     case-requires
-    put-requires
+    add-out
+    slice-write-out
     add-j
     loop-less
     loop-again
+    add-result
     same-length
     returns)
