@@ -2,5 +2,6 @@
 pub mod Bits
 pub mod Pages
 pub mod Shapes
+pub mod EightDots
 pub mod WholePages
 pub mod Turned

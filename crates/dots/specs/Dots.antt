@@ -78,6 +78,10 @@ cut width length shape x y = (ltb x width && ltb y length) && shape x y
 abbrev pub box : ℕ → ℕ → ℕ → ℕ → ℕ → ℕ → Bool
 box x0 y0 x1 y1 x y = within x0 x1 x && within y0 y1 y
 
+-- the eight dots of the byte m, from x on, in each row from y0 up to, not including, y1
+unfoldable pub eights : ℕ → ℕ → ℕ → ℕ → ℕ → ℕ → Bool
+eights x y0 y1 m a b = box x y0 (x + 8) y1 a b && bitOf m (a - x)
+
 -- a box less the box that is shrunk by c on each side
 abbrev pub hollow : ℕ → ℕ → ℕ → ℕ → ℕ → ℕ → ℕ → Bool
 hollow c x0 y0 x1 y1 x y = box x0 y0 x1 y1 x y && not (box (x0 + c) (y0 + c) (x1 - c) (y1 - c) x y)

@@ -17,7 +17,7 @@ pub(crate) fn span_mask(lo: usize, hi: usize) -> u8
 }
 
 // The byte b with the dots of the mask m drawn in an ink.
-fn ink_dots(ink: Ink, b: u8, m: u8) -> u8
+pub(crate) fn ink_dots(ink: Ink, b: u8, m: u8) -> u8
     ensures { λ r. ⌜ r ≡ byteOf (λ k. cond (bitOf m k) (inked ink (bitOf b k)) (bitOf b k)) ⌝ }
 {
     match ink {

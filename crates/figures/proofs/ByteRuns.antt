@@ -1,7 +1,7 @@
 -- Runs of equal dots in a byte: the rule, computed at each byte, and what it says of a row.
 -- Assumes nothing.
 use mathlib.Core.Path.{_≡_, refl, sym, ap, _∙_}
-use mathlib.Core.Bool.{Bool, true, false, not, cond, _&&_}
+use mathlib.Core.Bool.{Bool, true, cond, _&&_}
 use mathlib.Core.List.{List}
 use Prim.Native.Nat.{ℕ, _+_, _-_, _/_, _%_, _^_, _≤_, _<_, min}
 use native.Mathlib.Omega.{arith}
@@ -12,16 +12,8 @@ use lib.ListN.{getD}
 use borrow.Author.Tests.{leb-true, ltb-true, le-leb, lt-ltb}
 use Rattle.dots.specs.Dots.{bitOf, within}
 use Rattle.dots.proofs.Bits.{allBelow, all-below, and-true}
+use Rattle.dots.proofs.EightDots.{sameb, sameb-true}
 use Rattle.figures.specs.Figures.{bitRow, Run}
-
-abbrev sameb : Bool → Bool → Bool
-sameb true b = b
-sameb false b = not b
-
-sameb-true : (a b : Bool) → sameb a b ≡ true → a ≡ b
-sameb-true true b e = sym e
-sameb-true false true e = e
-sameb-true false false e = refl
 
 -- where the run ends that starts at dot k of the byte b, as the code has it
 abbrev pub endOf : Bool → ℕ → ℕ → ℕ

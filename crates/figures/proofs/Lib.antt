@@ -3,3 +3,4 @@ pub mod Placed
 pub mod Turns
 pub mod Bitmaps
 pub mod ByteRuns
+pub mod ByteRows

@@ -6,7 +6,7 @@ use dots::Ink;
 use dots::capped_sum;
 use dots::least;
 ghost use mathlib.Core.Path.{_≡_};
-ghost use Prim.Native.Nat.{_+_, _-_, _*_, _/_, _^_, _<_};
+ghost use Prim.Native.Nat.{_+_, _-_, _*_, _/_, _^_, _≤_, _<_, min};
 ghost use mathlib.Core.Bool.{_&&_};
 ghost use lib.Bits.{bitAnd};
 ghost use lib.Count.{leadingZeros};
@@ -177,8 +177,8 @@ fn ink_run(
     ink_part(page, ink, width, length, r, x, y, w, h, u0, v0, u1, v1);
 }
 
-// Draws one row of a bitmap in spans: the bw dots from byte `at` on, each hm dots wide, as the rows v0 up to v1 of a figure that starts at d.
-fn ink_row(
+// Draws one row of a bitmap in runs: the bw dots from byte `at` on, each hm dots wide, as the rows v0 up to v1 of a figure that starts at d.
+fn ink_runs(
     page: &mut [u8],
     ink: Ink,
     width: usize,
@@ -222,6 +222,152 @@ fn ink_row(
         );
         g = e;
     }
+}
+
+// The first n dots of a byte.
+fn first_dots(b: u8, n: usize) -> u8
+    requires { ⌜ n ≤ 8 ⌝ }
+    ensures { λ r. ⌜ r ≡ bitAnd b (255 - 255 / 2 ^ n) ⌝ }
+{
+    (b as u32 & (255 - (255u32 >> n))) as u8
+}
+
+// Draws the dots of the byte b as the dots from g on of a row of bw dots, as the rows v0 up to v1 of a figure that starts at d and is not turned.
+fn ink_eight(
+    page: &mut [u8],
+    ink: Ink,
+    width: usize,
+    length: usize,
+    x: usize,
+    y: usize,
+    w: usize,
+    h: usize,
+    d: usize,
+    b: u8,
+    g: usize,
+    bw: usize,
+    v0: usize,
+    v1: usize,
+)
+    requires { ⌜ g < bw ⌝ }
+    ensures { λ _. ⌜ now (page .exit) ≡ drawn ink (cut width length (placed 0 w h x y (shifted d (λ u v. box g v0 (min (g + 8) bw) v1 u v && bitOf b (u - g))))) (now (page .entry)) ⌝ }
+{
+    if b == 0 {
+        return;
+    }
+    let left = capped_sum(d, g);
+    let from = capped_sum(x, left);
+    let cells = least(8, bw - g);
+    let seen = least(less(w, left), less(width, from));
+    let m = first_dots(b, least(cells, seen));
+    let top = capped_sum(y, v0);
+    let end = capped_sum(y, least(v1, h));
+    dots::ink_eights(page, ink, from, top, least(end, length), m);
+}
+
+// Draws one row of a bitmap byte by byte, as `ink_row` does, where the figure is not turned and each dot is one dot wide.
+fn ink_bytes(
+    page: &mut [u8],
+    ink: Ink,
+    width: usize,
+    length: usize,
+    x: usize,
+    y: usize,
+    w: usize,
+    h: usize,
+    d: usize,
+    bits: &[u8],
+    at: usize,
+    bw: usize,
+    v0: usize,
+    v1: usize,
+)
+    ensures { λ _. ⌜ now (page .exit) ≡ drawn ink (cut width length (placed 0 w h x y (shifted d (rowOf (bitRow (now (bits .entry)) at) bw 1 v0 v1)))) (now (page .entry)) ⌝ }
+{
+    let n = bw / 8 + (bw % 8 + 7) / 8;
+    let mut k: usize = 0;
+    while k < n {
+        let b = byte_of(bits, at, k * 8);
+        ink_eight(
+            page,
+            ink,
+            width,
+            length,
+            x,
+            y,
+            w,
+            h,
+            d,
+            b,
+            k * 8,
+            bw,
+            v0,
+            v1,
+        );
+        k += 1;
+    }
+}
+
+// Draws one row of a bitmap: the bw dots from byte `at` on, each hm dots wide, as the rows v0 up to v1 of a figure that starts at d.
+fn ink_row(
+    page: &mut [u8],
+    ink: Ink,
+    width: usize,
+    length: usize,
+    r: usize,
+    x: usize,
+    y: usize,
+    w: usize,
+    h: usize,
+    d: usize,
+    bits: &[u8],
+    at: usize,
+    bw: usize,
+    hm: usize,
+    v0: usize,
+    v1: usize,
+)
+    ensures { λ _. ⌜ now (page .exit) ≡ drawn ink (cut width length (placed r w h x y (shifted d (rowOf (bitRow (now (bits .entry)) at) bw hm v0 v1)))) (now (page .entry)) ⌝ }
+{
+    if hm == 1 {
+        if r % 4 == 0 {
+            ink_bytes(
+                page,
+                ink,
+                width,
+                length,
+                x,
+                y,
+                w,
+                h,
+                d,
+                bits,
+                at,
+                bw,
+                v0,
+                v1,
+            );
+            return;
+        }
+    }
+    ink_runs(
+        page,
+        ink,
+        width,
+        length,
+        r,
+        x,
+        y,
+        w,
+        h,
+        d,
+        bits,
+        at,
+        bw,
+        hm,
+        v0,
+        v1,
+    );
 }
 
 // Draws a bitmap of bw by bh dots, whose rows are of `stride` bytes, each dot hm dots wide and vm high, d to the right of the corner of a figure in a
