@@ -1,4 +1,5 @@
 pub mod Finding
+pub mod Naming
 pub mod Runs
 pub mod Reading
 pub mod Lines

@@ -2,6 +2,7 @@
 pub mod Chain
 pub mod Entry
 pub mod Find
+pub mod Bytes
 pub mod Content
 pub mod Lines
 pub mod Run

@@ -7,8 +7,9 @@ ghost use Prim.Native.Nat.{ℕ, _+_, _-_, _*_, _≤_, _<_, min};
 ghost use lib.ListN.{length, getD, set};
 ghost use lib.Seq.{sets};
 ghost use Rattle.store.specs.Chain.{needed, freeCount};
-ghost use Rattle.store.specs.Entry.{entry, kind, nameLength, name, first, size, ofKind};
-ghost use Rattle.store.specs.Find.{lowestFree, lowestEmpty, recorded, sameName, titled, titledAt};
+ghost use Rattle.store.specs.Entry.{entries, entry, kind, nameLength, name, first, size, ofKind};
+ghost use Rattle.store.specs.Find.{lowestFree, lowestEmpty, recorded, titledAt};
+ghost use Rattle.store.specs.Bytes.{two, four, eight, titledBy};
 ghost use Rattle.store.specs.Content.{portionAfter, placeAfter, extent, content, cursorAt};
 ghost use Rattle.store.specs.Lines.{nextLine, lined};
 ghost use Rattle.store.specs.Run.{copied};
@@ -171,37 +172,55 @@ pub fn is_of_kind(picture: bool, k: usize) -> bool
     k == 3
 }
 
-fn same_name(directory: &[u8], i: usize, title: [u8; 8]) -> bool
-    ensures { λ r. ⌜ r ≡ sameName (entry (now (directory .entry)) i) title ⌝ }
+// The number that bytes make, low byte first, so that a name is compared at once.
+fn two(s: &[u8], at: usize) -> u64
+    requires { ⌜ at + 2 ≤ length (now s) ⌝ }
+    ensures { λ r. ⌜ (r ≡ two (now (s .entry)) at) × (r < 65536) ⌝ }
 {
-    let mut k = 0;
-    while k < 8 {
-        if field(directory, i, 2 + k) != title[k] as usize {
-            return false;
-        }
-        k += 1;
-    }
-    true
+    s[at] as u64 + 256 * (s[at + 1] as u64)
 }
 
-fn is_titled(directory: &[u8], picture: bool, title: [u8; 8], i: usize) -> bool
-    ensures { λ r. ⌜ r ≡ titled (now (directory .entry)) picture title i ⌝ }
+fn four(s: &[u8], at: usize) -> u64
+    requires { ⌜ at + 4 ≤ length (now s) ⌝ }
+    ensures { λ r. ⌜ (r ≡ four (now (s .entry)) at) × (r < 4294967296) ⌝ }
 {
-    let k = kind_at(directory, i);
-    if !is_of_kind(picture, k) {
+    two(s, at) + 65536 * two(s, at + 2)
+}
+
+fn eight(s: &[u8], at: usize) -> u64
+    requires { ⌜ at + 8 ≤ length (now s) ⌝ }
+    ensures { λ r. ⌜ (r ≡ eight (now (s .entry)) at) × ((k : ℕ) → getD (now (s .entry)) k 0 < 256) ⌝ }
+{
+    four(s, at) + 4294967296 * four(s, at + 4)
+}
+
+fn number_of(title: [u8; 8]) -> u64
+    ensures { λ r. ⌜ (r ≡ eight title 0) × ((k : ℕ) → getD title k 0 < 256) ⌝ }
+{
+    eight(&title, 0)
+}
+
+// Entry i is of the kind and bears the name that makes the number w. Names mostly differ, so they are compared first.
+fn is_titled(directory: &[u8], picture: bool, w: u64, i: usize) -> bool
+    requires { ⌜ i < entries (now directory) ⌝ }
+    ensures { λ r. ⌜ r ≡ titledBy (now (directory .entry)) picture w i ⌝ }
+{
+    if eight(directory, i * 16 + 2) != w {
         return false;
     }
-    same_name(directory, i, title)
+    let k = kind_at(directory, i);
+    is_of_kind(picture, k)
 }
 
 // The entry of a kind, picture or form, that bears a name of 8 zero-filled bytes.
 pub fn find(directory: &[u8], picture: bool, title: [u8; 8]) -> Found
     ensures { λ r. ⌜ r ≡ titledAt (now (directory .entry)) picture title ⌝ }
 {
+    let w = number_of(title);
     let n = directory.len() / 16;
     let mut i = 0;
     while i < n {
-        if is_titled(directory, picture, title, i) {
+        if is_titled(directory, picture, w, i) {
             return Found::At(i);
         }
         i += 1;

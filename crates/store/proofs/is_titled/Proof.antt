@@ -1,10 +1,23 @@
-use mathlib.Core.Path.{sym, _∙_, ap}
-use borrow.Author.Tests.{not-true, not-false}
+use mathlib.Core.Path.{sym, ap, _∙_}
+use borrow.Author.Tests.{eq-eqb, ne-eqb}
 use Rattle.store.specs.Entry.{ofKind}
-use Rattle.store.specs.Find.{titled}
+use Rattle.store.specs.Bytes.{titledBy}
 use borrow.Author.Needs.{needs}
 use Rattle.store.proofs.is_titled.Statement.{statement}
 use Rattle.store.proofs.is_titled.Tie as tie
+
+mul-eight : tie.Need-mul-eight
+mul-eight c = search needs
+
+add-eight : tie.Need-add-eight
+add-eight c = search needs
+
+eight-requires : tie.Need-eight-requires
+eight-requires c κs = search needs
+
+returns : tie.Need-returns
+unfolding titledBy
+returns c = rw (ne-eqb _ _ (λ z. c .if1 .taken (c .before .eight .ensures .0 ∙ z)))
 
 kind-at-requires : tie.Need-kind-at-requires
 kind-at-requires c κs = search needs
@@ -12,17 +25,18 @@ kind-at-requires c κs = search needs
 is-of-kind-requires : tie.Need-is-of-kind-requires
 is-of-kind-requires c κs = search needs
 
-returns : tie.Need-returns
-unfolding titled
-returns c = rw (sym (c .before .is-of-kind .ensures ∙ ap (ofKind (c .before .before .before .before .args .picture)) (c .before .before .kind-at .ensures .0)) ∙ not-true _ (c .if1 .taken))
-
-same-name-requires : tie.Need-same-name-requires
-same-name-requires c κs = search needs
-
 returns-2 : tie.Need-returns-2
-unfolding titled
-returns-2 c = rw (sym (c .before .before .is-of-kind .ensures ∙ ap (ofKind (c .before .before .before .before .before .args .picture)) (c .before .before .before .kind-at .ensures .0)) ∙ not-false _ (c .before .if1 .left)) (c .same-name .ensures)
+unfolding titledBy
+returns-2 c = rw (eq-eqb _ _ (sym (c .before .before .before .eight .ensures .0) ∙ c .before .before .if1 .left)) (c .is-of-kind .ensures ∙ ap (ofKind (c .before .before .before .before .before .args .picture)) (c .before .kind-at .ensures .0))
 
 pub is-titled-spec : {M : Type 1} → statement M
 is-titled-spec =
-    tie.close (tie.spec kind-at-requires is-of-kind-requires returns same-name-requires returns-2)
+    tie.close
+    (tie.spec
+    mul-eight
+    add-eight
+    eight-requires
+    returns
+    kind-at-requires
+    is-of-kind-requires
+    returns-2)
