@@ -9,6 +9,5 @@ pub mod answers;
 pub mod judging;
 pub mod summary;
 
-pub use answers::DataAnswer;
 pub use judging::Judgement;
 pub use judging::judge;
