@@ -134,6 +134,10 @@ unfolding digits
 digits-more zero m acc h l = absurd (omega arith)
 digits-more (suc k) m acc h l = let e : suc k - 1 ≡ k = omega arith in rw (e, le-ltb m 10 l)
 
+-- a number of two digits
+pub digits-two : (k m : ℕ) → 0 < k → 10 ≤ m → m < 100 → digits k m [] ≡ (48 + m / 10) ∷ (48 + m % 10) ∷ []
+digits-two k m h l u = digits-more k m [] h l ∙ digits-last (k - 1) (m / 10) ((48 + m % 10) ∷ []) (omega arith)
+
 -- more digits than one leave room before the last
 pub digits-room : (k m : ℕ) → m < 10 ^ (k + 1) → 10 ≤ m → 0 < k
 digits-room zero m h l = absurd (omega (arith, h))

@@ -75,14 +75,11 @@ fn digit_byte(x: usize) -> u8
     48 + (x as u8)
 }
 
-// Writes a number without leading zeros.
-fn put_number(n: usize, out: &mut [u8], at: usize) -> usize
+// Writes a number of any size, as `put_number` does.
+fn put_digits(n: usize, out: &mut [u8], at: usize) -> usize
     requires { ⌜ at ≤ length (now out) ⌝ }
     ensures { λ r. ⌜ Wrote (now (out .entry)) at (decimal n) r (now (out .exit)) ⌝ }
 {
-    if n < 10 {
-        return put(out, at, digit_byte(n));
-    }
     let mut d = [48u8; 20];
     let mut k = 19;
     let mut m = n;
@@ -93,6 +90,21 @@ fn put_number(n: usize, out: &mut [u8], at: usize) -> usize
     }
     d[k] = digit_byte(m);
     copy(rest(&d, k), false, out, at)
+}
+
+// Writes a number without leading zeros. Most numbers of a line have one digit or two.
+fn put_number(n: usize, out: &mut [u8], at: usize) -> usize
+    requires { ⌜ at ≤ length (now out) ⌝ }
+    ensures { λ r. ⌜ Wrote (now (out .entry)) at (decimal n) r (now (out .exit)) ⌝ }
+{
+    if n < 10 {
+        return put(out, at, digit_byte(n));
+    }
+    if n < 100 {
+        let next = put(out, at, digit_byte(n / 10));
+        return put(out, next, digit_byte(n % 10));
+    }
+    put_digits(n, out, at)
 }
 
 // Writes a number with its sign.
