@@ -18,7 +18,9 @@ white-outside-requires c κs = search needs
 
 returns : tie.Need-returns
 unfolding backgroundOk
-returns c = cc
+returns c =
+    let c1 = c .before in let c2 = c1 .before in
+    rw (c .white-outside .ensures, c1 .wide2 .ensures, c2 .wide .ensures)
 
 pub background-ok-spec : {M : Type 1} → statement M
 background-ok-spec =

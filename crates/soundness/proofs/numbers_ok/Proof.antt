@@ -32,7 +32,9 @@ both-requires-4 : tie.Need-both-requires-4
 both-requires-4 c κs = search needs
 
 returns : tie.Need-returns
-returns c = cc
+returns c =
+    let c1 = c .before in let c2 = c1 .before in let c3 = c2 .before in let c4 = c3 .before in let c5 = c4 .before in let c6 = c5 .before in let c7 = c6 .before in
+    rw (c .both4 .ensures, c1 .both3 .ensures, c2 .both2 .ensures, c3 .both .ensures, c4 .is-in2 .ensures, c5 .wide2 .ensures, c6 .is-in .ensures, c7 .wide .ensures)
 
 pub numbers-ok-spec : {M : Type 1} → statement M
 numbers-ok-spec =
