@@ -14,7 +14,7 @@ either-requires-2 c κs = search needs
 
 returns : tie.Need-returns
 unfolding directoryWrong
-returns c = cc
+returns c = rw (c .either2 .ensures, c .before .either .ensures)
 
 pub directory-wrong-spec : {M : Type 1} → statement M
 directory-wrong-spec = tie.close (tie.spec either-requires either-requires-2 returns)

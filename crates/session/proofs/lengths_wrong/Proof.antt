@@ -29,7 +29,9 @@ either-requires-3 c κs = search needs
 
 returns : tie.Need-returns
 unfolding lengthsWrong
-returns c = cc
+returns c =
+    let c1 = c .before in let c2 = c1 .before in let c3 = c2 .before in let c4 = c3 .before in let c5 = c4 .before in
+    rw (c .either3 .ensures, c1 .either2 .ensures, c2 .either .ensures, c3 .directory-wrong .ensures, c4 .store-wrong .ensures, c5 .page-wrong .ensures)
 
 pub lengths-wrong-spec : {M : Type 1} → statement M
 lengths-wrong-spec =

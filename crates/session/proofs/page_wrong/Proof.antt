@@ -14,7 +14,7 @@ either-requires-2 c κs = search needs
 
 returns : tie.Need-returns
 unfolding pageWrong
-returns c = cc
+returns c = rw (c .either2 .ensures, c .before .either .ensures)
 
 pub page-wrong-spec : {M : Type 1} → statement M
 page-wrong-spec = tie.close (tie.spec either-requires either-requires-2 returns)

@@ -44,7 +44,9 @@ both-requires-6 c κs = search needs
 
 returns : tie.Need-returns
 unfolding headed
-returns c = cc
+returns c =
+    let c1 = c .before in let c2 = c1 .before in let c3 = c2 .before in let c4 = c3 .before in let c5 = c4 .before in let c6 = c5 .before in let c7 = c6 .before in let c8 = c7 .before in let c9 = c8 .before in let c10 = c9 .before in let c11 = c10 .before in let c12 = c11 .before in
+    rw (c .both6 .ensures, c1 .both5 .ensures, c2 .both4 .ensures, c3 .both3 .ensures, c4 .ones-ok .ensures, c5 .version-ok .ensures, c6 .ten-ok .ensures, c7 .sized-ok .ensures, c8 .both2 .ensures, c9 .both .ensures, c10 .lined-ok .ensures, c11 .measured-ok .ensures, c12 .ordered-ok .ensures)
 
 pub headed-ok-spec : {M : Type 1} → statement M
 headed-ok-spec =

@@ -18,7 +18,9 @@ both-requires : tie.Need-both-requires
 both-requires c κs = search needs
 
 returns : tie.Need-returns
-returns c = cc
+returns c =
+    let c1 = c .before in let c2 = c1 .before in let c3 = c2 .before in let c4 = c3 .before in
+    rw (c .both .ensures, c1 .word-at4 .ensures .0, c2 .word-at3 .ensures .0, c3 .word-at2 .ensures .0, c4 .word-at .ensures .0)
 
 pub ordered-ok-spec : {M : Type 1} → statement M
 ordered-ok-spec =

@@ -6,7 +6,7 @@ byte-at-requires : tie.Need-byte-at-requires
 byte-at-requires c κs = search needs
 
 returns : tie.Need-returns
-returns c = cc
+returns c = rw (c .byte-at .ensures .0)
 
 pub ten-ok-spec : {M : Type 1} → statement M
 ten-ok-spec = tie.close (tie.spec byte-at-requires returns)

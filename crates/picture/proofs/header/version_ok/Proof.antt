@@ -9,7 +9,7 @@ both-requires : tie.Need-both-requires
 both-requires c κs = search needs
 
 returns : tie.Need-returns
-returns c = cc
+returns c = rw (c .both .ensures, c .before .byte-at .ensures .0)
 
 pub version-ok-spec : {M : Type 1} → statement M
 version-ok-spec = tie.close (tie.spec byte-at-requires both-requires returns)

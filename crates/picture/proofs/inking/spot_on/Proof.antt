@@ -40,7 +40,9 @@ mul-last c = let h : c .less .result ≤ 65536 = omega arith in
 
 returns : tie.Need-returns
 unfolding spotOf
-returns c = cc
+returns c =
+    let c1 = c .before in let c2 = c1 .before in let c3 = c2 .before in let c4 = c3 .before in let c5 = c4 .before in let c6 = c5 .before in
+    rw (c .less .ensures, c1 .line-bytes .ensures .0, c2 .least3 .ensures, c3 .least2 .ensures, c4 .height-of .ensures .0, c5 .least .ensures, c6 .width-of .ensures .0)
 
 pub spot-on-spec : {M : Type 1} → statement M
 spot-on-spec =
