@@ -21,7 +21,9 @@ variable-good-requires : tie.Need-variable-good-requires
 variable-good-requires c κs = search needs
 
 returns : tie.Need-returns
-returns c = cc
+returns c =
+    let c1 = c .before in let c2 = c1 .before in let c3 = c2 .before in let c4 = c3 .before in let c5 = c4 .before in
+    rw (c .variable-good .ensures, c1 .part-length2 .ensures, c2 .shortest .ensures, c3 .part-length .ensures, c4 .side-at .ensures, c5 .length-at .ensures)
 
 pub variable-summary-spec : {M : Type 1} → statement M
 variable-summary-spec =

@@ -15,7 +15,9 @@ both-requires-2 : tie.Need-both-requires-2
 both-requires-2 c κs = search needs
 
 returns : tie.Need-returns
-returns c = cc
+returns c =
+    let c1 = c .before in let c2 = c1 .before in let c3 = c2 .before in
+    rw (c .both2 .ensures, c1 .both .ensures, c2 .fit-length2 .ensures, c3 .fit-length .ensures)
 
 pub decide-spec : {M : Type 1} → statement M
 decide-spec =
