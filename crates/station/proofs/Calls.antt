@@ -54,10 +54,11 @@ use Rattle.running.specs.Rows.{recordRows, runRows, placedRows, lineRows}
 use Rattle.running.specs.Does.{doesLine, listsLine}
 use Rattle.running.specs.Running.{done, ran, ranBy, lineBy}
 use Rattle.running.proofs.Ends.{line-read}
+use Rattle.station.specs.declared.Outcome.{Outcome}
 use Rattle.station.specs.Outcomes.{After, after, outcome}
 use Rattle.station.specs.Table.{entryRows, frontRows, commandTable, lineOf, moreOf}
 use Rattle.station.specs.Station.{frontRead, readBy, doesFront, listsFront, accepted, refused, settled, readAs, commanded}
-use Rattle.station.proofs.Marked.{checked, entry-passed}
+use Rattle.station.proofs.Marked.{checked, entry-passed, entry-right}
 
 -- ---- a command call that ends there
 
@@ -94,7 +95,7 @@ answered s font w output input f a =
 abbrev fronted : Session → List ℕ → World → List ℕ → List ℕ → Front → After
 fronted s font w output input f = answered s font w output input f (answerOf (frontRows w s input (length output) f))
 
-pub command-passed :
+command-passed :
     (s : Session) (font : List ℕ) (w : World) (output input : List ℕ) (f : Front) (x : Bool) (a : Answer) (b : Bool) →
     x ≡ wrongLent w → a ≡ answerOf (entryRows x font s w []) → b ≡ isTaken a → not b ≡ false → frontOf input ≡ f →
     commanded s font w output input ≡ fronted s font w output input f
@@ -105,17 +106,17 @@ command-passed s font w output input f x a b q e g n h =
     (e ∙ ap (λ (k : Bool). answerOf (entryRows k font s w [])) q) g n)
     ∙ ap (fronted s font w output input) h
 
-pub front-short : (s : Session) (font : List ℕ) (w : World) (output input : List ℕ) → fronted s font w output input Short ≡ after (outcome Unended s 0 0) w output
+front-short : (s : Session) (font : List ℕ) (w : World) (output input : List ℕ) → fronted s font w output input Short ≡ after (outcome Unended s 0 0) w output
 unfolding answerOf isTaken numberOf
 front-short s font w output input = refl
 
-pub front-long :
+front-long :
     (s : Session) (font : List ℕ) (w : World) (output input : List ℕ) (k : ℕ) →
     fronted s font w output input (LongLine k) ≡ after (outcome Long s k 0) w output
 unfolding answerOf isTaken numberOf
 front-long s font w output input k = refl
 
-pub front-idle :
+front-idle :
     (s : Session) (font : List ℕ) (w : World) (output input : List ℕ) (k : ℕ) → fronted s font w output input (Idle k) ≡ after (outcome Taken s k 0) w output
 unfolding answerOf isTaken numberOf
 front-idle s font w output input k = refl
@@ -258,7 +259,7 @@ line-short s n k e = subst (λ (f : Front). lineIn f < 256) e (front-least s)
 line-least : (s : List ℕ) (n : ℕ) → n < 256 → ltb 255 (length (lineOf s n)) ≡ false
 line-least s n h = let z : length (take n s) ≤ n = omega (arith, length-take n s) in le-ltb 255 (length (take n s)) (omega (arith, z, h))
 
-pub front-line :
+front-line :
     (s : Session) (font : List ℕ) (w : World) (output input : List ℕ) (n k : ℕ) → wrongLent w ≡ false → n < 256 →
     fronted s font w output input (Line n k) ≡ readAs k (lineBy font w s (lineOf input n) (moreOf input n k) output)
 front-line s font w output input n k h l =
@@ -266,3 +267,31 @@ front-line s font w output input n k h l =
     (answerOf (lineRows w s (lineOf input n) (moreOf input n k) (length output) (readOf (rowsOf w) (lineOf input n)))) refl
     ∙ ap (readAs k)
     (line-read font w s (lineOf input n) (moreOf input n k) output (readOf (rowsOf w) (lineOf input n)) h (line-least input n l) refl)
+
+-- ---- a command call that passes the checks, from its own steps to `commanded`
+
+module _ (s : Session) (font : List ℕ) (w : World) (output input : List ℕ) (x : Bool) (a : Answer) (b : Bool)
+    (q : x ≡ wrongLent w) (e : a ≡ answerOf (entryRows x font s w [])) (g : b ≡ isTaken a) (n : not b ≡ false) where
+  pub command-short : (r : Outcome) → frontOf input ≡ Short → r ≡ outcome Unended s 0 0 → after r w output ≡ commanded s font w output input
+  command-short r h z =
+      ap (λ (o : Outcome). after o w output) z
+      ∙ sym (command-passed s font w output input Short x a b q e g n h ∙ front-short s font w output input)
+
+  pub command-long : (k : ℕ) (r : Outcome) → frontOf input ≡ LongLine k → r ≡ outcome Long s k 0 → after r w output ≡ commanded s font w output input
+  command-long k r h z =
+      ap (λ (o : Outcome). after o w output) z
+      ∙ sym (command-passed s font w output input (LongLine k) x a b q e g n h ∙ front-long s font w output input k)
+
+  pub command-idle : (k : ℕ) (r : Outcome) → frontOf input ≡ Idle k → r ≡ outcome Taken s k 0 → after r w output ≡ commanded s font w output input
+  command-idle k r h z =
+      ap (λ (o : Outcome). after o w output) z
+      ∙ sym (command-passed s font w output input (Idle k) x a b q e g n h ∙ front-idle s font w output input k)
+
+  pub command-line :
+      (m k : ℕ) (t : After) → frontOf input ≡ Line m k → t ≡ readAs k (lineBy font w s (lineOf input m) (moreOf input m k) output) →
+      t ≡ commanded s font w output input
+  command-line m k t h z =
+      z
+      ∙ sym
+      (command-passed s font w output input (Line m k) x a b q e g n h
+      ∙ front-line s font w output input m k (entry-right x (wrongLent w) font s w a b q e g n) (line-short input m k h))

@@ -1,6 +1,5 @@
 use mathlib.Core.Path.{sym, _∙_}
-use Rattle.station.proofs.Marked.{entry-right}
-use Rattle.station.proofs.Calls.{command-refused, command-passed, front-short, front-long, front-idle, line-short, front-line}
+use Rattle.station.proofs.Calls.{command-refused, command-short, command-long, command-idle, command-line, line-short}
 use borrow.Author.Needs.{needs}
 use Rattle.station.proofs.commands.command.Statement.{statement}
 use Rattle.station.proofs.commands.command.Tie as tie
@@ -78,9 +77,10 @@ same-length-10 : tie.Need-same-length-10
 same-length-10 c = search needs
 
 returns-2 : tie.Need-returns-2
-returns-2 c = rw (c .outcome2 .ensures)
-    (sym (command-passed _ _ _ _ _ _ _ _ _ (c .before .before .before .before .before .before .before .before .before .before .before .before .lengths-wrong .ensures) (c .before .before .before .before .before .before .entry-answer .ensures) (c .before .before .before .before .before .is-taken .ensures) (c .before .before .before .before .if1 .left)
-    (sym (c .before .before .before .front .ensures) ∙ c .before .enum-told .given .1) ∙ front-short _ (c .before .before .before .before .before .before .before .before .before .before .before .before .before .before .before .before .before .before .before .before .before .args .font .now) _ _ (c .before .before .before .before .before .before .before .before .before .before .before .before .before .before .before .before .before .before .before .before .before .args .input .now)))
+returns-2 c =
+    let f = c .before .before .before in let e = f .before .before .before in
+    command-short _ _ _ _ _ _ _ _ (e .before .before .before .before .before .before .lengths-wrong .ensures) (e .entry-answer .ensures) (f .before .before .is-taken .ensures) (f .before .if1 .left) _
+    (sym (f .front .ensures) ∙ c .before .enum-told .given .1) (c .outcome2 .ensures)
 
 same-length-11 : tie.Need-same-length-11
 same-length-11 c = search needs
@@ -98,9 +98,10 @@ same-length-15 : tie.Need-same-length-15
 same-length-15 c = search needs
 
 returns-3 : tie.Need-returns-3
-returns-3 c = rw (c .outcome3 .ensures)
-    (sym (command-passed _ _ _ _ _ _ _ _ _ (c .before .before .before .before .before .before .before .before .before .before .before .before .before .lengths-wrong .ensures) (c .before .before .before .before .before .before .before .entry-answer .ensures) (c .before .before .before .before .before .before .is-taken .ensures) (c .before .before .before .before .before .if1 .left)
-    (sym (c .before .before .before .before .front .ensures) ∙ c .before .before .k .given .1) ∙ front-long _ (c .before .before .before .before .before .before .before .before .before .before .before .before .before .before .before .before .before .before .before .before .before .before .args .font .now) _ _ (c .before .before .before .before .before .before .before .before .before .before .before .before .before .before .before .before .before .before .before .before .before .before .args .input .now) _))
+returns-3 c =
+    let f = c .before .before .before .before in let e = f .before .before .before in
+    command-long _ _ _ _ _ _ _ _ (e .before .before .before .before .before .before .lengths-wrong .ensures) (e .entry-answer .ensures) (f .before .before .is-taken .ensures) (f .before .if1 .left) _ _
+    (sym (f .front .ensures) ∙ c .before .before .k .given .1) (c .outcome3 .ensures)
 
 same-length-16 : tie.Need-same-length-16
 same-length-16 c = search needs
@@ -118,9 +119,10 @@ same-length-20 : tie.Need-same-length-20
 same-length-20 c = search needs
 
 returns-4 : tie.Need-returns-4
-returns-4 c = rw (c .outcome4 .ensures)
-    (sym (command-passed _ _ _ _ _ _ _ _ _ (c .before .before .before .before .before .before .before .before .before .before .before .before .before .lengths-wrong .ensures) (c .before .before .before .before .before .before .before .entry-answer .ensures) (c .before .before .before .before .before .before .is-taken .ensures) (c .before .before .before .before .before .if1 .left)
-    (sym (c .before .before .before .before .front .ensures) ∙ c .before .before .k2 .given .1) ∙ front-idle _ (c .before .before .before .before .before .before .before .before .before .before .before .before .before .before .before .before .before .before .before .before .before .before .args .font .now) _ _ (c .before .before .before .before .before .before .before .before .before .before .before .before .before .before .before .before .before .before .before .before .before .before .args .input .now) _))
+returns-4 c =
+    let f = c .before .before .before .before in let e = f .before .before .before in
+    command-idle _ _ _ _ _ _ _ _ (e .before .before .before .before .before .before .lengths-wrong .ensures) (e .entry-answer .ensures) (f .before .before .is-taken .ensures) (f .before .if1 .left) _ _
+    (sym (f .front .ensures) ∙ c .before .before .k2 .given .1) (c .outcome4 .ensures)
 
 same-length-21 : tie.Need-same-length-21
 same-length-21 c = search needs
@@ -141,9 +143,10 @@ same-length-26 : tie.Need-same-length-26
 same-length-26 c = search needs
 
 returns-5 : tie.Need-returns-5
-returns-5 c = c .before .before .before .before .before .before .before .before .before .before .before .before .on-front .ensures
-    ∙ sym (command-passed _ _ _ _ _ _ _ _ _ (c .before .before .before .before .before .before .before .before .before .before .before .before .before .before .before .before .before .before .before .before .before .before .before .before .before .before .before .before .before .before .before .lengths-wrong .ensures) (c .before .before .before .before .before .before .before .before .before .before .before .before .before .before .before .before .before .before .before .before .before .before .before .before .before .entry-answer .ensures) (c .before .before .before .before .before .before .before .before .before .before .before .before .before .before .before .before .before .before .before .before .before .before .before .before .is-taken .ensures) (c .before .before .before .before .before .before .before .before .before .before .before .before .before .before .before .before .before .before .before .before .before .before .before .if1 .left)
-    (sym (c .before .before .before .before .before .before .before .before .before .before .before .before .before .before .before .before .before .before .before .before .before .before .front .ensures) ∙ c .before .before .before .before .before .before .before .before .before .before .before .before .before .before .before .before .before .before .before .before .n .given .1) ∙ front-line _ _ _ _ _ _ _ (entry-right _ _ _ _ _ _ _ (c .before .before .before .before .before .before .before .before .before .before .before .before .before .before .before .before .before .before .before .before .before .before .before .before .before .before .before .before .before .before .before .lengths-wrong .ensures) (c .before .before .before .before .before .before .before .before .before .before .before .before .before .before .before .before .before .before .before .before .before .before .before .before .before .entry-answer .ensures) (c .before .before .before .before .before .before .before .before .before .before .before .before .before .before .before .before .before .before .before .before .before .before .before .before .is-taken .ensures) (c .before .before .before .before .before .before .before .before .before .before .before .before .before .before .before .before .before .before .before .before .before .before .before .if1 .left)) (line-short _ _ _ (sym (c .before .before .before .before .before .before .before .before .before .before .before .before .before .before .before .before .before .before .before .before .before .before .front .ensures) ∙ c .before .before .before .before .before .before .before .before .before .before .before .before .before .before .before .before .before .before .before .before .n .given .1)))
+returns-5 c =
+    let o = c .before .before .before .before .before .before .before .before .before .before .before .before in let f = o .before .before .before .before .before .before .before .before .before .before in let e = f .before .before .before in
+    command-line _ _ _ _ _ _ _ _ (e .before .before .before .before .before .before .lengths-wrong .ensures) (e .entry-answer .ensures) (f .before .before .is-taken .ensures) (f .before .if1 .left) _ _ _
+    (sym (f .front .ensures) ∙ o .before .before .before .before .before .before .before .before .n .given .1) (o .on-front .ensures)
 
 pub command-spec : {M : Type 1} → statement M
 command-spec = tie.close (tie.spec lengths-wrong-requires entry-answer-requires is-taken-requires outcome-requires same-length same-length-2 same-length-3 same-length-4 same-length-5 returns front-requires enum-told outcome-requires-2 enum-known-k outcome-requires-3 enum-known-k-2 outcome-requires-4 enum-known-n on-front-requires same-length-6 same-length-7 same-length-8 same-length-9 same-length-10 returns-2 same-length-11 same-length-12 same-length-13 same-length-14 same-length-15 returns-3 same-length-16 same-length-17 same-length-18 same-length-19 same-length-20 returns-4 same-length-21 same-length-22 same-length-23 same-length-24 same-length-25 same-length-26 returns-5)
