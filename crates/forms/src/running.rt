@@ -1,6 +1,7 @@
 // A form walked from its first line to its last: whether it is good, what it declares, and whether its pictures are stored.
 ghost use mathlib.Core.Path.{_≡_};
 ghost use Prim.Native.Nat.{_<_};
+ghost use lib.ListN.{length};
 ghost use Rattle.store.specs.Content.{content};
 ghost use Rattle.forms.specs.Form.{takes, declaring, hasStored, itemIn, formOk, declaredOf, picturesStored};
 ghost use Rattle.forms.specs.Walk.{started, walkOk, walkDeclared, walkHas};
@@ -56,15 +57,14 @@ fn see_line(line: &[u8], d: Declared) -> Seen
     }
 }
 
-fn judge_next(store: &[u8], links: &[u16], w: Walk) -> Walk
-    requires { ⌜ 0 < w .place .left ⌝ }
+fn judge_next(store: &[u8], links: &[u16], w: Walk, buffer: &mut [u8]) -> Walk
+    requires { ⌜ (0 < w .place .left) × (length (now buffer) ≡ 256) ⌝ }
     ensures { λ r. ⌜ (walkOk (now (store .entry)) (now (links .entry)) r ≡ walkOk (now (store .entry)) (now (links .entry)) w) × (r .place .left < w .place .left) ⌝ }
 {
-    let mut buffer = [0u8; 256];
     let d = w.declared;
     let place = w.place;
-    let next = next_line(store, links, place, &mut buffer);
-    let seen = see_line(front(&buffer, next.n), d);
+    let next = next_line(store, links, place, buffer);
+    let seen = see_line(front(buffer, next.n), d);
     let after = next.place;
     let declared = seen.declared;
     Walk {
@@ -74,15 +74,24 @@ fn judge_next(store: &[u8], links: &[u16], w: Walk) -> Walk
     }
 }
 
-// Whether the form of entry i is a row of normalised lines that recording would take one after another, presence of pictures aside.
-pub fn form_ok(store: &[u8], links: &[u16], directory: &[u8], i: usize) -> bool
+fn judge_all(store: &[u8], links: &[u16], directory: &[u8], i: usize, buffer: &mut [u8]) -> bool
+    requires { ⌜ length (now buffer) ≡ 256 ⌝ }
     ensures { λ r. ⌜ r ≡ formOk (content (now (store .entry)) (now (links .entry)) (now (directory .entry)) i) ⌝ }
 {
     let mut w = start(links, directory, i);
     while 0 < w.place.left {
-        w = judge_next(store, links, w);
+        w = judge_next(store, links, w, buffer);
     }
     w.good
+}
+
+// Whether the form of entry i is a row of normalised lines that recording would take one after another, presence of pictures aside. One buffer serves
+// all its lines.
+pub fn form_ok(store: &[u8], links: &[u16], directory: &[u8], i: usize) -> bool
+    ensures { λ r. ⌜ r ≡ formOk (content (now (store .entry)) (now (links .entry)) (now (directory .entry)) i) ⌝ }
+{
+    let mut buffer = [0u8; 256];
+    judge_all(store, links, directory, i, &mut buffer)
 }
 
 // Only a line that begins with V or C can declare, so that no other is read.

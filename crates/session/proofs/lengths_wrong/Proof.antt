@@ -2,12 +2,6 @@ use Rattle.session.specs.Lent.{lengthsWrong}
 use borrow.Author.Needs.{needs}
 use Rattle.session.proofs.lengths_wrong.Statement.{statement}
 use Rattle.session.proofs.lengths_wrong.Tie as tie
-use Rattle.session.proofs.lengths_wrong.Reads as reads
-use Rattle.session.proofs.lengths_wrong.Lts as lts
-use Rattle.session.proofs.directory_wrong.Reads as directory-wrong-reads
-use Rattle.session.proofs.either.Reads as either-reads
-use Rattle.session.proofs.page_wrong.Reads as page-wrong-reads
-use Rattle.session.proofs.store_wrong.Reads as store-wrong-reads
 
 page-wrong-requires : tie.Need-page-wrong-requires
 page-wrong-requires c κs = search needs

@@ -2,10 +2,6 @@ use Rattle.soundness.specs.Sound.{backgroundOk}
 use borrow.Author.Needs.{needs}
 use Rattle.soundness.proofs.background_ok.Statement.{statement}
 use Rattle.soundness.proofs.background_ok.Tie as tie
-use Rattle.soundness.proofs.background_ok.Reads as reads
-use Rattle.soundness.proofs.background_ok.Lts as lts
-use Rattle.dots.proofs.white_outside.Reads as white-outside-reads
-use Rattle.soundness.proofs.wide.Reads as wide-reads
 
 wide-requires : tie.Need-wide-requires
 wide-requires c κs = search needs

@@ -1,11 +1,6 @@
 use borrow.Author.Needs.{needs}
 use Rattle.soundness.proofs.numbers_ok.Statement.{statement}
 use Rattle.soundness.proofs.numbers_ok.Tie as tie
-use Rattle.soundness.proofs.numbers_ok.Reads as reads
-use Rattle.soundness.proofs.numbers_ok.Lts as lts
-use Rattle.soundness.proofs.both.Reads as both-reads
-use Rattle.soundness.proofs.is_in.Reads as is-in-reads
-use Rattle.soundness.proofs.wide.Reads as wide-reads
 
 wide-requires : tie.Need-wide-requires
 wide-requires c κs = search needs

@@ -4,14 +4,8 @@ use borrow.Author.Needs.{needs}
 use Rattle.forms.proofs.running.judge_next.Statement.{statement}
 use Rattle.forms.proofs.running.judge_next.Tie as tie
 
-slice-aggregate-next-line : tie.Need-slice-aggregate-next-line
-slice-aggregate-next-line c = search needs
-
 next-line-requires : tie.Need-next-line-requires
 next-line-requires c κs = search needs
-
-slice-aggregate-front : tie.Need-slice-aggregate-front
-slice-aggregate-front c = search needs
 
 front-requires : tie.Need-front-requires
 front-requires c κs = search needs
@@ -22,8 +16,25 @@ see-line-requires c κs = search needs
 both-requires : tie.Need-both-requires
 both-requires c κs = search needs
 
+same-length : tie.Need-same-length
+same-length c = search needs
+
 returns : tie.Need-returns
-returns c = let a = c .before .before .before .before .before .before .before .before .before .before .before .before .before .args in let n = c .before .before .before .before .before .before .before .next-line in let s = c .before .before .before .see-line in let h = c .before .before .before .before .before .before .before .before .before .before .before .before .before .pre in let l = c .before .before .before .before .front .ensures ∙ n .ensures .0 in (walk-ok _ _ _ _ _ _ _ _ _ h l (n .ensures .1) _ _ (a .w .good) _ _ (s .ensures .0) (s .ensures .1) (c .both .ensures), walk-less _ _ _ _ _ _ _ _ _ h l (n .ensures .1))
+returns c =
+    let a = c .before .before .before .before .before .before .before .before .before .before .before .before .before .before .before .args in
+    let n = c .before .before .before .before .before .before .before .before .next-line in
+    let s = c .before .before .before .see-line in
+    let h = c .before .before .before .before .before .before .before .before .before .before .before .before .before .before .before .pre .0 in
+    let l = c .before .before .before .before .front .ensures ∙ n .ensures .0 in
+    (walk-ok _ _ _ _ _ _ _ _ _ h l (n .ensures .1) _ _ (a .w .good) _ _ (s .ensures .0) (s .ensures .1) (c .both .ensures), walk-less _ _ _ _ _ _ _ _ _ h l (n .ensures .1))
 
 pub judge-next-spec : {M : Type 1} → statement M
-judge-next-spec = tie.close (tie.spec slice-aggregate-next-line next-line-requires slice-aggregate-front front-requires see-line-requires both-requires returns)
+judge-next-spec =
+    tie.close
+    (tie.spec
+    next-line-requires
+    front-requires
+    see-line-requires
+    both-requires
+    same-length
+    returns)

@@ -8,9 +8,6 @@ use Rattle.soundness.proofs.Entries.{contents-step, contents-stop, cont
 use borrow.Author.Needs.{needs}
 use Rattle.soundness.proofs.contents.all_ok.Statement.{statement}
 use Rattle.soundness.proofs.contents.all_ok.Tie as tie
-use Rattle.soundness.proofs.contents.all_ok.Reads as reads
-use Rattle.soundness.proofs.contents.all_ok.Lts as lts
-use Rattle.soundness.proofs.contents.content_ok.Reads as content-ok-reads
 
 abbrev Inv-loop : tie.InvT-loop
 Inv-loop store links directory buffer₀ n i₀ buffer i = (length buffer ≡ 32768) × (allTo (contentOk store links directory) i ≡ true)

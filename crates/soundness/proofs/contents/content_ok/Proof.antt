@@ -2,12 +2,6 @@ use Rattle.soundness.proofs.Entries.{content-form, content-picture, con
 use borrow.Author.Needs.{needs}
 use Rattle.soundness.proofs.contents.content_ok.Statement.{statement}
 use Rattle.soundness.proofs.contents.content_ok.Tie as tie
-use Rattle.soundness.proofs.contents.content_ok.Reads as reads
-use Rattle.soundness.proofs.contents.content_ok.Lts as lts
-use Rattle.forms.proofs.form_ok.Reads as form-ok-reads
-use Rattle.soundness.proofs.contents.picture_legal.Reads as picture-legal-reads
-use Rattle.store.proofs.is_of_kind.Reads as is-of-kind-reads
-use Rattle.store.proofs.kind_at.Reads as kind-at-reads
 
 kind-at-requires : tie.Need-kind-at-requires
 kind-at-requires c κs = search needs

@@ -2,12 +2,6 @@ use Rattle.soundness.proofs.Entries.{picture-long, picture-whole}
 use borrow.Author.Needs.{needs}
 use Rattle.soundness.proofs.contents.picture_legal.Statement.{statement}
 use Rattle.soundness.proofs.contents.picture_legal.Tie as tie
-use Rattle.soundness.proofs.contents.picture_legal.Reads as reads
-use Rattle.soundness.proofs.contents.picture_legal.Lts as lts
-use Rattle.picture.proofs.is_legal.Reads as is-legal-reads
-use Rattle.store.proofs.copy_out.Reads as copy-out-reads
-use Rattle.store.proofs.reader.Reads as reader-reads
-use Rattle.values.proofs.bytes.front.Reads as front-reads
 
 reader-requires : tie.Need-reader-requires
 reader-requires c κs = search needs
