@@ -17,7 +17,7 @@ static const struct station the_station = {peer_open, peer_command, peer_label};
 static const struct station the_station = {station_open, station_command, station_label};
 #endif
 
-enum { ROUNDS = 5 };
+enum { ROUNDS = 20 };
 
 struct work {
     struct desk desk;
