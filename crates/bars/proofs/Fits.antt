@@ -8,10 +8,10 @@ use native.Mathlib.Omega.{arith}
 use borrow.Author.Tests.{leb-true, eqb-true}
 use lib.Dec.{leb, ltb, eqb}
 use lib.ListN.{length}
-use Rattle.fit.specs.declared.Kind.{Kind}
-use Rattle.fit.specs.declared.Kind.the-variants.{Shown, Code39, Interleaved, Ean13, Code128}
-use Rattle.fit.specs.Bytes.{between, allIn}
-use Rattle.fit.specs.Fit.{inClass, fitLength, fit}
+use Rattle.kinds.specs.declared.Kind.{Kind}
+use Rattle.kinds.specs.declared.Kind.the-variants.{Shown, Code39, Interleaved, Ean13, Code128}
+use Rattle.kinds.specs.Bytes.{between, allIn}
+use Rattle.kinds.specs.Fit.{inClass, fitLength, fit}
 use Rattle.dots.proofs.Bits.{and-true}
 use Rattle.bars.specs.Drawing.{inLimits}
 

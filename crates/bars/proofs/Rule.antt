@@ -9,9 +9,9 @@ use native.Mathlib.Omega.{arith}
 use borrow.Author.Tests.{leb-true}
 use lib.Dec.{T, T-not, leb, eqb, eqb→eq, eqb-refl, leb→le}
 use lib.ListN.{length, getD}
-use Rattle.fit.specs.declared.Kind.the-variants.{Code128}
-use Rattle.fit.specs.Bytes.{between, allIn}
-use Rattle.fit.specs.Fit.{inClass, fitLength, fit}
+use Rattle.kinds.specs.declared.Kind.the-variants.{Code128}
+use Rattle.kinds.specs.Bytes.{between, allIn}
+use Rattle.kinds.specs.Fit.{inClass, fitLength, fit}
 use Rattle.dots.proofs.Bits.{and-true}
 use Rattle.bars.specs.Tables.{rows128}
 use Rattle.bars.specs.Elements

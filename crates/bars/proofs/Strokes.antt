@@ -17,8 +17,8 @@ use Rattle.dots.proofs.Pages.{Bytes, length-drawn}
 use Rattle.dots.proofs.Shapes.{then-black, cut-ext}
 use Rattle.figures.specs.Figures.{placed}
 use Rattle.figures.proofs.Placed.{placed-or, placed-ext, none-placed}
-use Rattle.fit.specs.declared.Kind.{Kind}
-use Rattle.fit.specs.Fit.{fit}
+use Rattle.kinds.specs.declared.Kind.{Kind}
+use Rattle.kinds.specs.Fit.{fit}
 use Rattle.bars.specs.Elements.{elementsIn, elements}
 use Rattle.bars.specs.Drawing.{dotsOf, widths, sum, inBar, bars}
 use Rattle.bars.specs.Laid.{Put}

@@ -2,9 +2,9 @@
 -- Assumes nothing.
 use mathlib.Core.Path.{_≡_, refl}
 use mathlib.Core.List.{[], _∷_}
-use Rattle.fit.specs.declared.Kind.the-variants.{Code39, Interleaved, Code128}
-use Rattle.fit.specs.Bytes.{between}
-use Rattle.fit.specs.Fit.{inClass, fitLength, fit}
+use Rattle.kinds.specs.declared.Kind.the-variants.{Code39, Interleaved, Code128}
+use Rattle.kinds.specs.Bytes.{between}
+use Rattle.kinds.specs.Fit.{inClass, fitLength, fit}
 use Rattle.bars.specs.Tables.{rows128, rows39, rows25}
 use Rattle.bars.specs.Elements
 use Rattle.bars.specs.Elements.{digits, each, six, weighed, check128, elements128, nine, spaced, elements39, five, woven, pairs, elements25, weights, checkDigit, elementsIn}

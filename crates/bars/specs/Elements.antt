@@ -6,9 +6,9 @@ use mathlib.Core.Bool.{cond}
 use mathlib.Core.List.{List, [], _∷_, _++_}
 use lib.ListN.{length, getD, drop}
 use lib.Dec.{eqb}
-use Rattle.fit.specs.declared.Kind.{Kind}
-use Rattle.fit.specs.declared.Kind.the-variants.{Shown, Code39, Interleaved, Ean13, Code128}
-use Rattle.fit.specs.Fit.{fit}
+use Rattle.kinds.specs.declared.Kind.{Kind}
+use Rattle.kinds.specs.declared.Kind.the-variants.{Shown, Code39, Interleaved, Ean13, Code128}
+use Rattle.kinds.specs.Fit.{fit}
 use Rattle.bars.specs.Tables.{rows128, rows39, rows25, rowsA, rowsB, rowsSet}
 
 -- the n digits of r, the highest first

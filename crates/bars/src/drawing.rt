@@ -4,14 +4,14 @@ ghost use mathlib.Core.Bool.{_&&_};
 ghost use mathlib.Core.List.{map};
 ghost use Prim.Native.Nat.{_*_, _≤_};
 ghost use lib.ListN.{length, getD};
-ghost use Rattle.fit.specs.Bytes.{between};
+ghost use Rattle.kinds.specs.Bytes.{between};
 ghost use Rattle.dots.specs.declared.Ink;
 ghost use Rattle.dots.specs.Dots.{drawn, cut};
 ghost use Rattle.figures.specs.Figures.{placed};
 ghost use Rattle.bars.specs.Drawing.{inLimits, dotsOf, sum, bars};
 use crate::row::widened;
 use dots::Ink;
-use fit::Kind;
+use kinds::Kind;
 
 fn is_between(lo: usize, hi: usize, n: usize) -> bool
     ensures { λ r. ⌜ r ≡ between lo hi n ⌝ }

@@ -16,7 +16,7 @@ ghost use mathlib.Core.Path.{_≡_};
 ghost use mathlib.Core.Bool.{true};
 ghost use Prim.Native.Nat.{_≤_};
 ghost use lib.ListN;
-ghost use Rattle.fit.specs.Fit.{fit};
+ghost use Rattle.kinds.specs.Fit.{fit};
 ghost use Rattle.bars.specs.Elements as Elements;
 ghost use Rattle.bars.specs.Elements.{elementsIn};
 ghost use Rattle.dots.specs.Dots.{drawn, cut};
@@ -24,7 +24,7 @@ ghost use Rattle.figures.specs.Figures.{placed};
 ghost use Rattle.bars.specs.Drawing.{dotsOf, widths, sum, bars, barsDrawn};
 ghost use Rattle.bars.specs.Laid.{Put};
 use dots::Ink;
-use fit::Kind;
+use kinds::Kind;
 
 fn fill(kind: Kind, bytes: &[u8], out: &mut [u8]) -> usize
     requires { ⌜ fit kind (now bytes) ≡ true ⌝ }
@@ -43,7 +43,7 @@ fn fill(kind: Kind, bytes: &[u8], out: &mut [u8]) -> usize
 pub fn elements(kind: Kind, bytes: &[u8], out: &mut [u8]) -> usize
     ensures { λ r. ⌜ (Put (Elements.elements kind (now (bytes .entry))) 0 (now (out .entry)) (now (out .exit)) r) × (r ≤ 1299) ⌝ }
 {
-    if fit::fits(kind, bytes) {
+    if kinds::fits(kind, bytes) {
         return fill(kind, bytes, out);
     }
     0
@@ -111,7 +111,7 @@ pub fn draw(
     ensures { λ _. ⌜ now (page .exit) ≡ barsDrawn width length x y r kind e f g (now (bytes .entry)) (now (page .entry)) ⌝ }
 {
     if drawing::in_limits(e, f, g) {
-        if fit::fits(kind, bytes) {
+        if kinds::fits(kind, bytes) {
             let mut ws = [0u8; 1299];
             place(page, width, length, x, y, r, kind, e, f, g, bytes, &mut ws);
         }

@@ -18,8 +18,8 @@ use Rattle.dots.proofs.Bits.{not-below}
 use Rattle.dots.proofs.WholePages.{white-outside-white}
 use Rattle.font.specs.Rules.{legal}
 use Rattle.store.specs.Chain.{isFree, portion}
-use Rattle.sound.specs.Sound.{lentOk, kindsOk, namesOk, uniquesOk, singlesOk, chainsOk, emptiesOk, freeOk, freesOk, tailsOk, storeSound}
-use Rattle.soundness.specs.Sound.{numbersOk, backgroundOk, contentsOk, activeBytes, activitySound, sound}
+use Rattle.store_sound.specs.Sound.{lentOk, kindsOk, namesOk, uniquesOk, singlesOk, chainsOk, emptiesOk, freeOk, freesOk, tailsOk, storeSound}
+use Rattle.sound.specs.Sound.{numbersOk, backgroundOk, contentsOk, activeBytes, activitySound, sound}
 use Rattle.read.specs.Front.{frontOf}
 use Rattle.session.specs.declared.Session.{Session}
 use Rattle.session.specs.declared.answers.Answer.{Answer}

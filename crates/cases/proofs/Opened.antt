@@ -2,8 +2,8 @@
 -- Drawing, soundness as a whole and the free portions are left shut: the laws say what is needed of them.
 -- Assumes nothing.
 use mathlib.Core.Bool.{Bool, true}
-use Rattle.fit.specs.Bytes as FitBytes
-use Rattle.fit.specs.Fit as Fit
+use Rattle.kinds.specs.Bytes as FitBytes
+use Rattle.kinds.specs.Fit as Fit
 use Rattle.fields.specs.Bytes as FieldBytes
 use Rattle.fields.specs.Field as Field
 use Rattle.fields.specs.Data as Elements
@@ -11,7 +11,7 @@ use Rattle.read.specs.Grammar as Grammar
 use Rattle.read.specs.Commands as Commands
 use Rattle.read.specs.Front as Front
 use Rattle.read.specs.Names as Names
-use Rattle.written.specs.Written as Written
+use Rattle.normal.specs.Written as Written
 use Rattle.listing.specs.Listing as Listing
 use Rattle.cells.specs.Cell as Cell
 use Rattle.cells.specs.Scan as Scan
@@ -21,8 +21,8 @@ use Rattle.store.specs.Content as Content
 use Rattle.store.specs.Lines as Lines
 use Rattle.moves.specs.Grow as Grow
 use Rattle.moves.specs.Start as Start
-use Rattle.sound.specs.Sound as Shelves
-use Rattle.soundness.specs.Sound as Sound
+use Rattle.store_sound.specs.Sound as Shelves
+use Rattle.sound.specs.Sound as Sound
 use Rattle.values.specs.Declarations as Declarations
 use Rattle.values.specs.Counters as Counters
 use Rattle.values.specs.Stored as Stored

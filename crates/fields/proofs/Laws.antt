@@ -12,7 +12,7 @@ use lib.ListN.{length, getD, drop, length-drop, length-take, drop-of-length-le, 
 use lib.Seq.{drop-cons}
 use borrow.Author.Tests.{le-leb, lt-leb, leb-true, ne-eqb, eqb-true}
 use Rattle.fields.specs.declared.Class.{Class}
-use Rattle.fit.specs.Bytes.{between}
+use Rattle.kinds.specs.Bytes.{between}
 use Rattle.fields.specs.Bytes.{inClass, run, digitOf, valueFrom}
 use Rattle.fields.specs.Field.{part, runAt, numberAt, textAt, textFault, Small}
 use Rattle.fields.specs.declared.Class.the-variants.{Digit, Quoted}

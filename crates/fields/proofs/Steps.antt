@@ -7,7 +7,7 @@ use native.Mathlib.Omega.{arith}
 use lib.Dec.{ltb, eqb}
 use lib.ListN.{length, getD}
 use borrow.Author.Tests.{ltb-true, eq-eqb, ne-eqb, lt-ltb, le-ltb}
-use Rattle.fit.specs.Bytes.{between}
+use Rattle.kinds.specs.Bytes.{between}
 use Rattle.fields.specs.Field.{numberAt, textAt, byteAt}
 use Rattle.fields.specs.Data.{first, last, middle, middle-dot, middle-n, modifierAt, quotedFrom, modified, heldAt, elementAt, pointed, after, follow, elementsFrom, elements, total, dataAt, whatGood, limits}
 use Rattle.fields.specs.declared.Field.{Field}

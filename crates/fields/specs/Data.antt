@@ -5,7 +5,7 @@ use mathlib.Core.Bool.{Bool, true, false, cond, _&&_}
 use mathlib.Core.List.{List, [], _∷_}
 use lib.ListN.{length, getD}
 use lib.Dec.{eqb, ltb}
-use Rattle.fit.specs.Bytes.{between}
+use Rattle.kinds.specs.Bytes.{between}
 use Rattle.fields.specs.Bytes.{digitOf}
 use Rattle.fields.specs.Field.{numberAt, textAt, byteAt}
 use Rattle.fields.specs.declared.Field.{Field}

@@ -6,8 +6,8 @@ use mathlib.Core.Bool.{cond, _&&_}
 use mathlib.Core.List.{List}
 use lib.ListN.{length, getD, take, drop}
 use lib.Dec.{leb, ltb, eqb}
-use Rattle.fit.specs.declared.Kind.{Kind}
-use Rattle.fit.specs.declared.Kind.the-variants.{Code39, Interleaved, Ean13, Code128}
+use Rattle.kinds.specs.declared.Kind.{Kind}
+use Rattle.kinds.specs.declared.Kind.the-variants.{Code39, Interleaved, Ean13, Code128}
 use Rattle.fields.specs.declared.Class.{Class}
 use Rattle.fields.specs.declared.Class.the-variants.{Digit, Quoted}
 use Rattle.fields.specs.declared.Field.{Field}

@@ -7,11 +7,11 @@
 ghost use mathlib.Core.Path.{_≡_};
 ghost use Prim.Native.Nat.{_+_, _-_, _≤_, _<_};
 ghost use lib.ListN.{length, getD, drop};
-ghost use Rattle.fit.specs.Bytes.{between};
+ghost use Rattle.kinds.specs.Bytes.{between};
 ghost use Rattle.fields.specs.Bytes.{inClass, run, digitOf, valueFrom};
 ghost use Rattle.fields.specs.Field.{part, numberAt, textAt, signedAt, letterAt, byteAt, typeAt, kindFrom, plus, minus, Small};
 ghost use Rattle.fields.specs.Data.{modifierAt, middle, quotedFrom, heldFrom, heldAt, pointed, elementAt, elements, dataAt, limits, partGood, whatGood};
-use fit::Kind;
+use kinds::Kind;
 
 pub enum Class {
     Digit,

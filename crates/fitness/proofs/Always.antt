@@ -9,11 +9,11 @@ use native.Mathlib.Omega.{arith}
 use lib.ListN.{length, replicate, length-append, length-replicate}
 use lib.Dec.{leb, eqb}
 use borrow.Author.Tests.{le-leb, leb-true, eq-eqb, eqb-true}
-use Rattle.fit.specs.declared.Kind.{Kind}
-use Rattle.fit.specs.declared.Kind.the-variants.{Shown, Code39, Interleaved, Ean13, Code128}
-use Rattle.fit.specs.Bytes.{between, isDigit, allIn}
-use Rattle.fit.specs.Fit.{inClass, fitLength, fit}
-use Rattle.fit.proofs.Laws.{or-first, or-second}
+use Rattle.kinds.specs.declared.Kind.{Kind}
+use Rattle.kinds.specs.declared.Kind.the-variants.{Shown, Code39, Interleaved, Ean13, Code128}
+use Rattle.kinds.specs.Bytes.{between, isDigit, allIn}
+use Rattle.kinds.specs.Fit.{inClass, fitLength, fit}
+use Rattle.kinds.proofs.Laws.{or-first, or-second}
 use Rattle.fields.specs.declared.Part.{Part}
 use Rattle.fields.specs.declared.What.{What}
 use Rattle.fields.specs.declared.What.the-variants.{Text, Variable, Counter}

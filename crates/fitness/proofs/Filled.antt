@@ -10,9 +10,9 @@ use native.Mathlib.Decide.{decLe}
 use lib.ListN.{getD, drop}
 use lib.Dec.{eqb, leb}
 use borrow.Author.Tests.{lt-ltb, le-ltb}
-use Rattle.fit.specs.declared.Kind.{Kind}
-use Rattle.fit.specs.Bytes.{allIn}
-use Rattle.fit.specs.Fit.{fit}
+use Rattle.kinds.specs.declared.Kind.{Kind}
+use Rattle.kinds.specs.Bytes.{allIn}
+use Rattle.kinds.specs.Fit.{fit}
 use Rattle.fields.specs.declared.Element.{Element}
 use Rattle.values.specs.declared.declarations.Declared.{Declared}
 use Rattle.values.specs.declared.counters.Counters.{Counters}

@@ -5,7 +5,7 @@ use mathlib.Core.List.{List}
 use Prim.Native.Nat.{ℕ, _-_, _≤_, min}
 use native.Mathlib.Omega.{arith}
 use lib.ListN.{length, drop, replicate, length-take, length-drop, length-replicate}
-use Rattle.fit.specs.Bytes.{allIn}
+use Rattle.kinds.specs.Bytes.{allIn}
 use Rattle.fields.specs.declared.Part.{Part}
 use Rattle.fields.specs.declared.Part.the-variants.{Whole, First, Last, Middle}
 use Rattle.values.specs.Data.{partOf}

@@ -7,9 +7,9 @@ use native.Mathlib.Omega.{arith}
 use native.Mathlib.Decide.{decLe}
 use lib.Dec.{leb}
 use borrow.Author.Tests.{lt-leb, ne-eqb}
-use Rattle.fit.specs.declared.Kind.{Kind}
-use Rattle.fit.specs.declared.Kind.the-variants.{Shown, Code39, Interleaved, Ean13, Code128}
-use Rattle.fit.specs.Fit.{fitLength}
+use Rattle.kinds.specs.declared.Kind.{Kind}
+use Rattle.kinds.specs.declared.Kind.the-variants.{Shown, Code39, Interleaved, Ean13, Code128}
+use Rattle.kinds.specs.Fit.{fitLength}
 use Rattle.fields.specs.declared.Element.{Element}
 use Rattle.values.specs.declared.declarations.Declared.{Declared}
 use Rattle.fitness.specs.declared.summary.Summary.{Summary as Sum}

@@ -3,7 +3,7 @@ use mathlib.Core.Path.{_≡_, refl, sym, ap, _∙_}
 use mathlib.Core.Bool.{Bool, true, false, cond, _||_}
 use mathlib.Core.List.{List}
 use Prim.Native.Nat.{ℕ}
-use Rattle.fit.specs.declared.Kind.{Kind}
+use Rattle.kinds.specs.declared.Kind.{Kind}
 use Rattle.fields.specs.declared.Element.{Element}
 use Rattle.fields.specs.declared.Step.the-variants.{Next, Stop}
 use Rattle.fields.specs.Data.{elementAt, elements, after}

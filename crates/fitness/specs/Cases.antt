@@ -5,10 +5,10 @@ use Prim.Native.String.{String}
 use mathlib.Core.Path.{_≡_, refl}
 use mathlib.Core.Bool.{Bool, true, false}
 use mathlib.Core.List.{[], _∷_}
-use Rattle.fit.specs.declared.Kind.{Kind}
-use Rattle.fit.specs.declared.Kind.the-variants.{Shown, Code39, Interleaved, Ean13, Code128}
-use Rattle.fit.specs.Bytes.{between}
-use Rattle.fit.specs.Fit.{inClass, fitLength}
+use Rattle.kinds.specs.declared.Kind.{Kind}
+use Rattle.kinds.specs.declared.Kind.the-variants.{Shown, Code39, Interleaved, Ean13, Code128}
+use Rattle.kinds.specs.Bytes.{between}
+use Rattle.kinds.specs.Fit.{inClass, fitLength}
 use Rattle.fields.specs.Text.{bytes}
 use Rattle.fields.specs.Bytes.{run, valueFrom}
 use Rattle.fields.specs.Field.{numberAt, textAt, byteAt}

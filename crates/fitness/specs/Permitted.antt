@@ -4,8 +4,8 @@ use Prim.Native.Nat.{ℕ, _^_, _<_}
 use mathlib.Core.Path.{_≡_}
 use mathlib.Core.Bool.{true}
 use mathlib.Core.List.{List}
-use Rattle.fit.specs.declared.Kind.{Kind}
-use Rattle.fit.specs.Fit.{fit}
+use Rattle.kinds.specs.declared.Kind.{Kind}
+use Rattle.kinds.specs.Fit.{fit}
 use Rattle.fields.specs.declared.Element.{Element}
 use Rattle.values.specs.declared.declarations.Declared.{Declared}
 use Rattle.values.specs.Declarations.{lengthAt, sideAt, widthAt}

@@ -6,10 +6,10 @@ use mathlib.Core.Bool.{Bool, true, false, _&&_, _||_, cond}
 use mathlib.Core.List.{List, [], _∷_}
 use lib.ListN.{length}
 use lib.Dec.{eqb}
-use Rattle.fit.specs.declared.Kind.{Kind}
-use Rattle.fit.specs.declared.Kind.the-variants.{Shown, Code39, Interleaved, Ean13, Code128}
-use Rattle.fit.specs.Bytes.{allIn}
-use Rattle.fit.specs.Fit.{inClass, fitLength}
+use Rattle.kinds.specs.declared.Kind.{Kind}
+use Rattle.kinds.specs.declared.Kind.the-variants.{Shown, Code39, Interleaved, Ean13, Code128}
+use Rattle.kinds.specs.Bytes.{allIn}
+use Rattle.kinds.specs.Fit.{inClass, fitLength}
 use Rattle.fields.specs.declared.Part.{Part}
 use Rattle.fields.specs.declared.Part.the-variants.{Whole, First, Last, Middle}
 use Rattle.fields.specs.declared.What.{What}

@@ -9,7 +9,7 @@ use crate::answers::undeclared_by;
 use crate::summary::Summary;
 use crate::summary::summary_of;
 use fields::Step;
-use fit::Kind;
+use kinds::Kind;
 use values::Declared;
 use values::bytes::either;
 

@@ -8,7 +8,7 @@ ghost use Rattle.fitness.specs.Summary.{partLength, fewest, takesAll, le
 use fields::Element;
 use fields::Part;
 use fields::What;
-use fit::Kind;
+use kinds::Kind;
 use values::Declared;
 use values::bytes::both;
 use values::bytes::front;
@@ -82,7 +82,7 @@ pub(crate) fn summary_of(line: &[u8], d: Declared, kind: Kind, e: Element) -> Su
         What::Text => {
             let t = values::piece(line, front(line, 0), e);
             let n = t.len();
-            let good = fit::all_in(kind, t);
+            let good = kinds::all_in(kind, t);
             Summary {
                 least: n,
                 most: n,
@@ -126,8 +126,8 @@ impl Summary {
     pub(crate) fn decide(self, kind: Kind) -> bool
         ensures { λ r. ⌜ r ≡ decided self kind ⌝ }
     {
-        let short = fit::fit_length(kind, self.least);
-        let long = fit::fit_length(kind, self.most);
+        let short = kinds::fit_length(kind, self.least);
+        let long = kinds::fit_length(kind, self.most);
         both(short, both(long, self.good))
     }
 }

@@ -15,7 +15,7 @@ use Rattle.store.specs.Lines.{lines, onto, linesOf, lineOf}
 use Rattle.values.specs.declared.declarations.Declared.{Declared}
 use Rattle.read.specs.Grammar.{headOf, find}
 use Rattle.read.specs.Commands.{readOf, headed}
-use Rattle.written.specs.Written.{isNormal}
+use Rattle.normal.specs.Written.{isNormal}
 use Rattle.forms.specs.declared.Stored.{Stored}
 use Rattle.forms.specs.declared.Stored.the-variants.{Holds, Nothing}
 use Rattle.read.specs.declared.Item.{Item}

@@ -17,7 +17,7 @@ use Rattle.read.specs.declared.Item.{Item}
 use Rattle.read.specs.declared.Command.{Command}
 use Rattle.read.specs.Grammar.{Form, forms, begins, find, headOf, Got, good, bad, rowOf, boundsOf, fieldsFrom, limitsFrom}
 use Rattle.read.specs.Commands.{itemOf, orderOf, isItem, commandOf, decided, judged, headed, readOf}
-use Rattle.written.specs.Written.{isNormal}
+use Rattle.normal.specs.Written.{isNormal}
 use Rattle.forms.specs.declared.Stored.{Stored}
 use Rattle.forms.specs.declared.Stored.the-variants.{Holds, Nothing}
 use Rattle.forms.specs.Judged.{declares}

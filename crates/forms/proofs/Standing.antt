@@ -30,7 +30,7 @@ use Rattle.read.specs.declared.Fault.{Fault}
 use Rattle.read.specs.declared.Fault.the-variants.{Form as form}
 use Rattle.read.specs.declared.Read.{Read}
 use Rattle.read.specs.declared.Read.the-variants.{Taken, Refused}
-use Rattle.written.specs.Written.{takenItem, isNormal, isOwn, ownRead, equal, normal}
+use Rattle.normal.specs.Written.{takenItem, isNormal, isOwn, ownRead, equal, normal}
 use Rattle.forms.specs.declared.Stored.the-variants.{Nothing}
 use Rattle.forms.specs.Form.{itemIn, heldRead, pickStored}
 

@@ -18,7 +18,7 @@ use Rattle.store.specs.Lines.{linesOf, lineOf, nextLine, lined}
 use Rattle.store.proofs.Reading.{length-bytes, length-ahead, ahead-after}
 use Rattle.store.proofs.Lines.{line-most}
 use Rattle.values.specs.declared.declarations.Declared.{Declared}
-use Rattle.forms.specs.declared.running.Walk.{Walk}
+use Rattle.forms.specs.declared.walked.Walk.{Walk}
 use Rattle.forms.specs.Form.{itemIn, takes, declaring, takesAll, declaredBy, hasStored, hasAll, formOk, declaredOf, picturesStored}
 use Rattle.forms.specs.Walk.{lineIn, behind, started, restOk, walkOk, walkDeclared, walkHas}
 use Rattle.forms.proofs.Bytes.{and-true, and-assoc}

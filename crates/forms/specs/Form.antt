@@ -38,7 +38,7 @@ use Rattle.read.specs.declared.Read.{Read}
 use Rattle.read.specs.declared.Read.the-variants.{Taken, Refused}
 use Rattle.read.specs.Commands.{readOf}
 use Rattle.read.specs.Names.{packedOf}
-use Rattle.written.specs.Written.{isNormal}
+use Rattle.normal.specs.Written.{isNormal}
 use Rattle.forms.specs.declared.Stored.{Stored}
 use Rattle.forms.specs.declared.Stored.the-variants.{Holds, Nothing}
 use Rattle.forms.specs.Judged.{judged, declares, isTaken}

@@ -4,8 +4,8 @@
 use Prim.Native.Nat.{ℕ}
 use mathlib.Core.Bool.{Bool, true, false}
 use mathlib.Core.List.{List}
-use Rattle.fit.specs.declared.Kind.{Kind}
-use Rattle.fit.specs.declared.Kind.the-variants.{Shown}
+use Rattle.kinds.specs.declared.Kind.{Kind}
+use Rattle.kinds.specs.declared.Kind.the-variants.{Shown}
 use Rattle.values.specs.declared.declarations.Declared.{Declared}
 use Rattle.fitness.specs.declared.answers.DataAnswer.{DataAnswer}
 use Rattle.fitness.specs.declared.answers.DataAnswer.the-variants.{Good, Undeclared as NotDeclared, Past as Reaches}

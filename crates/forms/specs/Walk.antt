@@ -11,7 +11,7 @@ use Rattle.values.specs.Declarations.{nothing}
 use Rattle.store.specs.Content.{ahead, cursorAt}
 use Rattle.store.specs.Lines.{linesOf, lineOf}
 use Rattle.forms.specs.Form.{takesAll, declaredBy, hasAll}
-use Rattle.forms.specs.declared.running.Walk.{Walk}
+use Rattle.forms.specs.declared.walked.Walk.{Walk}
 
 -- the first line of some bytes. What no form may have, a line of more than 255 bytes or bytes with no LF, is as an empty line
 unfoldable pub lineIn : List ℕ → List ℕ

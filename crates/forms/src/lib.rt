@@ -5,7 +5,7 @@
 // the crates below; which command has a place when, and what it changes, is left to the crates above.
 mod judged; // judged.rt: an item judged, and what it declares
 mod lines; // lines.rt: a stored line, and a form's lines one after another
-pub mod running; // running.rt: a form walked
+pub mod walked; // walked.rt: a form walked
 mod drawing; // drawing.rt: what an item draws
 pub mod labels; // labels.rt: a form drawn on a label
 
@@ -15,9 +15,9 @@ pub use judged::is_declaration;
 pub use judged::judge;
 pub use labels::draw_form;
 use read::Item;
-pub use running::declared_at;
-pub use running::form_ok;
-pub use running::pictures_stored;
+pub use walked::declared_at;
+pub use walked::form_ok;
+pub use walked::pictures_stored;
 
 // What recording answers for an item: taken, or 12 to 15.
 pub enum Verdict {

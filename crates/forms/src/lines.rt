@@ -43,7 +43,7 @@ fn held_command(c: Command) -> Stored
 pub(crate) fn stored_item(line: &[u8]) -> Stored
     ensures { λ r. ⌜ r ≡ itemIn (now (line .entry)) ⌝ }
 {
-    let what = written::own_line(line);
+    let what = normal::own_line(line);
     match what {
         Read::Taken(c) => held_command(c),
         Read::Refused(_) => Stored::Nothing,

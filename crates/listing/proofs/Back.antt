@@ -6,13 +6,13 @@ use mathlib.Core.Path.{_≡_, refl, ap, _∙_}
 use mathlib.Core.List.{List, [], _∷_, _++_, append-assoc}
 use lib.Dec.{T}
 use lib.ListN.{length, take, length-append}
-use Rattle.fit.specs.Bytes.{between}
+use Rattle.kinds.specs.Bytes.{between}
 use Rattle.fields.specs.declared.Class.the-variants.{Quoted}
 use Rattle.fields.specs.declared.Field.the-variants.{Is}
 use Rattle.fields.specs.Field.{numberAt, textAt, byteAt}
 use Rattle.store.specs.Entry.{nameLength, name, size}
-use Rattle.written.specs.Written.{decimal}
-use Rattle.written.proofs.Back.{allIn, number-back, byte-back, text-back}
+use Rattle.normal.specs.Written.{decimal}
+use Rattle.normal.proofs.Back.{allIn, number-back, byte-back, text-back}
 use Rattle.listing.specs.Listing.{listingLine}
 use Rattle.read.specs.Reading.{listedAt}
 use Rattle.read.specs.declared.reader.Listed.the-variants.{Entry}

@@ -8,7 +8,7 @@ use lib.Seq.{sets}
 use Rattle.cells.proofs.Cells.{cell-at}
 use Rattle.cells.proofs.Sets.{sets-front}
 use Rattle.store.specs.Entry.{entry, nameLength, name, size}
-use Rattle.written.specs.Written.{decimal}
+use Rattle.normal.specs.Written.{decimal}
 use Rattle.listing.specs.Listing.{commaName, listingLine}
 use Rattle.listing.proofs.Decimal.{decimal-short}
 

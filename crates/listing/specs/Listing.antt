@@ -6,7 +6,7 @@ use mathlib.Core.List.{List, [], _∷_, _++_}
 use lib.ListN.{take}
 use lib.Dec.{eqb}
 use Rattle.store.specs.Entry.{entries, entry, kind, nameLength, name, size}
-use Rattle.written.specs.Written.{decimal}
+use Rattle.normal.specs.Written.{decimal}
 
 -- "A listing line is size, comma, quoted name", and LF
 abbrev pub commaName : List ℕ → List ℕ

@@ -40,7 +40,7 @@ fn line_into(directory: &[u8], i: usize, line: &mut [u8]) -> usize
     requires { ⌜ (i < length (now directory) / 16) × (length (now line) ≡ 32) ⌝ }
     ensures { λ r. ⌜ (r ≡ length (listingLine (entry (now (directory .entry)) i))) × (now (line .exit) ≡ sets (now (line .entry)) 0 (listingLine (entry (now (directory .entry)) i))) ⌝ }
 {
-    let n = written::put_decimal(store::size_at(directory, i), line, 0);
+    let n = normal::put_decimal(store::size_at(directory, i), line, 0);
     put_name(directory, i, line, n)
 }
 

@@ -10,7 +10,7 @@ use native.Mathlib.Decide.{decLt}
 use lib.Dec.{T, leb, ltb, eqb, leb→le, ltb→lt}
 use lib.ListN.{length, getD, set, take, drop, replicate, length-append, length-take, length-drop, drop-of-length-le, List·getD-append, List·getD-eq-default}
 use lib.Seq.{take-all, drop-cons, drop-drop, getD-drop, sets, sets-eq}
-use Rattle.fit.specs.Bytes.{between}
+use Rattle.kinds.specs.Bytes.{between}
 use Rattle.fields.specs.declared.Field.{Field}
 use Rattle.fields.specs.declared.Field.the-variants.{Is, Not}
 use Rattle.fields.specs.declared.Limits.the-variants.{Within, Outside}

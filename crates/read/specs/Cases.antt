@@ -3,8 +3,8 @@
 use mathlib.Core.Path.{_≡_, refl}
 use mathlib.Core.Bool.{true, false}
 use lib.ListN.{replicate}
-use Rattle.fit.specs.Bytes.{between}
-use Rattle.fit.specs.declared.Kind.the-variants.{Ean13}
+use Rattle.kinds.specs.Bytes.{between}
+use Rattle.kinds.specs.declared.Kind.the-variants.{Ean13}
 use Rattle.fields.specs.Text.{bytes}
 use Rattle.fields.specs.Bytes.{run, valueFrom}
 use Rattle.fields.specs.Field.{numberAt, textAt, signedAt, byteAt, typeAt, kindFrom}

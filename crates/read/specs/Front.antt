@@ -5,7 +5,7 @@ use mathlib.Core.Bool.{cond, _||_}
 use mathlib.Core.List.{List}
 use lib.ListN.{length, getD, take}
 use lib.Dec.{leb, ltb, eqb}
-use Rattle.fit.specs.Bytes.{between}
+use Rattle.kinds.specs.Bytes.{between}
 use Rattle.fields.specs.Bytes.{run}
 use Rattle.fields.specs.declared.Class.the-variants.{Inside}
 use Rattle.read.specs.Grammar.{Got, good, bad, rowOf, headOf, fieldsFrom}

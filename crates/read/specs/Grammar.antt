@@ -8,7 +8,7 @@ use mathlib.Core.List.{List, [], _∷_}
 use lib.ListN.{length, getD, drop}
 use lib.Seq.{sets}
 use lib.Dec.{ltb, eqb}
-use Rattle.fit.specs.Bytes.{between}
+use Rattle.kinds.specs.Bytes.{between}
 use Rattle.fields.specs.Text.{bytes}
 use Rattle.fields.specs.Field.{numberAt, textAt, signedAt, byteAt, letterAt, typeAt, runAt, nought}
 use Rattle.fields.specs.Data.{dataAt, elements, limits}

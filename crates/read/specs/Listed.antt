@@ -1,7 +1,7 @@
 -- Lines of a listing and what reading them back gives: antt computes each.
 -- Assumes nothing.
 use mathlib.Core.Path.{_≡_, refl}
-use Rattle.fit.specs.Bytes.{between}
+use Rattle.kinds.specs.Bytes.{between}
 use Rattle.fields.specs.Text.{bytes}
 use Rattle.fields.specs.Bytes.{run, valueFrom}
 use Rattle.fields.specs.Field.{numberAt, textAt, byteAt}

@@ -1,7 +1,7 @@
 // Whether the fields of a line are within their limits.
 ghost use mathlib.Core.Path.{_≡_};
 ghost use mathlib.Core.Bool.{_||_, cond};
-ghost use Rattle.fit.specs.Bytes.{between};
+ghost use Rattle.kinds.specs.Bytes.{between};
 ghost use Rattle.read.specs.Grammar.{rowOf, Form, boundsOf, named, starred, limited, isNumber, beyond, fieldLimits, limitsFrom};
 use crate::table::bound_by;
 use crate::table::line_up;

@@ -17,7 +17,7 @@ pub mod table;
 
 ghost use mathlib.Core.Path.{_≡_};
 ghost use Rattle.read.specs.Commands.{readOf};
-use fit::Kind;
+use kinds::Kind;
 
 // The row of the grammar that a line's letters name.
 pub enum Head {

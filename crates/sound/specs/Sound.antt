@@ -1,127 +1,84 @@
--- The store's part of **sound**, one Bool for each clause, in the order of paper 01: "names upper-case, legal, unique per kind (1 and 3 are one
--- kind); at most one entry of kind 3; each chain of exactly size/256 rounded up, at least one, portions; no portion in two chains; all others free;
--- unused bytes zero". Each has a value on any memory.
-use mathlib.Core.List.{List}
-use mathlib.Core.Bool.{Bool, false, not, _&&_, _||_, cond}
-use Prim.Native.Nat.{ℕ, _-_, _*_}
-use lib.ListN.{length, getD, drop}
-use lib.Dec.{eqb, ltb, leb}
-use Rattle.cells.specs.Count.{times, sumTo, allTo, allZero}
-use Rattle.store.specs.declared.Found.{Found}
-use Rattle.store.specs.declared.Found.the-variants.{At, Nothing}
-use Rattle.store.specs.Chain.{needed, portion, isFree, chain, chainOk}
-use Rattle.store.specs.Entry.{entries, entry, kind, nameLength, name, first, size, many}
-use Rattle.store.specs.Find.{isEmpty, isRecording, recorded, titledAt}
-use Rattle.moves.specs.Grow.{lastOf}
+-- Paper 01: "Sound means: ..", one named test a clause, in its order and words. A test takes only what it reads.
+-- Assumes nothing.
+use Prim.Native.Nat.{ℕ, _+_}
+use mathlib.Core.Bool.{Bool, true, false, not, _&&_, _||_, cond}
+use mathlib.Core.List.{List, []}
+use lib.Dec.{eqb, leb}
+use Rattle.kinds.specs.Bytes.{between}
+use Rattle.cells.specs.Count.{allTo}
+use Rattle.dots.specs.Whole.{whiteOutside}
+use Rattle.store.specs.Entry.{entries, entry, kind, ofKind}
+use Rattle.store.specs.Find.{recorded}
+use Rattle.store.specs.Content.{content}
+use Rattle.store_sound.specs.Sound.{storeSound}
+use Rattle.values.specs.declared.declarations.Declared.{Declared}
+use Rattle.values.specs.declared.counters.Counters.{Counters}
+use Rattle.values.specs.Stored.{valuesSound, allSet}
+use Rattle.picture.specs.Rules.{legal}
+use Rattle.forms.specs.Form.{formOk, declaredOf, picturesStored, isAt}
+use Rattle.session.specs.declared.Session.{Session}
+use Rattle.session.specs.Lent.{World, rowsOf}
 
--- "Store: 1 to 2,024 portions of 256 bytes. Links: one for each portion. Directory: 1 to 512 entries of 16 bytes"
-unfoldable pub lentOk : List ℕ → List ℕ → List ℕ → Bool
-lentOk store links directory =
-    leb (length links) 2024
-    && (leb 1 (length links)
-    && (eqb (length store) (length links * 256)
-    && (eqb (length directory) (entries directory * 16) && (leb 1 (entries directory) && leb (entries directory) 512))))
+-- "these numbers in their ranges; length at most N"
+unfoldable pub numbersOk : ℕ → Session → Bool
+numbersOk rows s =
+    between 80 608 (s .width) && (between 1 rows (s .length) && (leb (s .turn) 1 && (leb (s .x) 2048 && leb (s .y) 4096)))
 
--- "these numbers in their ranges": the kinds, 0 to 3
-abbrev pub kindOk : List ℕ → ℕ → Bool
-kindOk directory i = leb (kind (entry directory i)) 3
+-- "no background dot outside width by length"
+unfoldable pub backgroundOk : ℕ → ℕ → List ℕ → Bool
+backgroundOk width length background = whiteOutside width length background
 
-unfoldable pub kindsOk : List ℕ → Bool
-kindsOk directory = allTo (kindOk directory) (entries directory)
+-- "names upper-case, legal, unique per kind; at most one entry of kind 3; each chain of exactly size/256 rounded up, at least one, portions; no
+-- portion in two chains; all others free; unused bytes zero" is `storeSound` of crate `sound`
 
--- "names upper-case, legal": 1 to 8 bytes, codes 32 to 126 without `*` and quote, no letter a to z; the 8 bytes zero-filled
-unfoldable pub legalByte : ℕ → Bool
-legalByte b =
-    (leb 32 b && leb b 126) && (not (eqb b 42) && (not (eqb b 34) && not (leb 97 b && leb b 122)))
+-- "each form a row of normalised lines that recording would take one after another (presence of pictures aside)"
+abbrev pub formSound : List ℕ → List ℕ → List ℕ → ℕ → Bool
+formSound store links directory i = not (ofKind false (kind (entry directory i))) || formOk (content store links directory i)
 
-unfoldable pub nameByteOk : ℕ → List ℕ → ℕ → Bool
-nameByteOk n title k = cond (ltb k n) (legalByte (getD title k 0)) (eqb (getD title k 0) 0)
+-- "each picture legal"
+abbrev pub pictureSound : List ℕ → List ℕ → List ℕ → ℕ → Bool
+pictureSound store links directory i = not (ofKind true (kind (entry directory i))) || legal (content store links directory i)
 
-unfoldable pub nameOk : List ℕ → Bool
-nameOk e = (leb 1 (nameLength e) && leb (nameLength e) 8) && allTo (nameByteOk (nameLength e) (name e)) 8
+unfoldable pub contentOk : List ℕ → List ℕ → List ℕ → ℕ → Bool
+contentOk store links directory i = formSound store links directory i && pictureSound store links directory i
 
-abbrev pub namedOk : List ℕ → ℕ → Bool
-namedOk directory i = isEmpty directory i || nameOk (entry directory i)
+unfoldable pub contentsOk : List ℕ → List ℕ → List ℕ → Bool
+contentsOk store links directory = allTo (contentOk store links directory) (entries directory)
 
-unfoldable pub namesOk : List ℕ → Bool
-namesOk directory = allTo (namedOk directory) (entries directory)
+-- "the active form a stored one": none (65535), or an entry of kind 1
+unfoldable pub activeOk : List ℕ → ℕ → Bool
+activeOk directory active = eqb active 65535 || eqb (kind (entry directory active)) 1
 
--- "unique per kind (1 and 3 are one kind)": an entry is the one that is found by its kind and name
-abbrev pub isHere : ℕ → Found → Bool
-isHere i (At j) = eqb j i
-isHere i Nothing = false
+-- the bytes of the active form; none without one
+unfoldable pub activeBytes : List ℕ → List ℕ → List ℕ → ℕ → List ℕ
+activeBytes store links directory active = cond (eqb active 65535) [] (content store links directory active)
 
-unfoldable pub uniqueOk : List ℕ → ℕ → Bool
-uniqueOk directory i =
-    isEmpty directory i || isHere i (titledAt directory (eqb (kind (entry directory i)) 2) (name (entry directory i)))
+-- "set values fit its declarations, undeclared ones unset"
+abbrev pub valuesOk : List ℕ → List ℕ → Counters → Bool
+valuesOk bytes values counters = valuesSound (declaredOf bytes) values counters
 
-unfoldable pub uniquesOk : List ℕ → Bool
-uniquesOk directory = allTo (uniqueOk directory) (entries directory)
+-- "owed plus drawn at most 65,535"
+abbrev pub countsOk : Session → Bool
+countsOk s = leb (s .owed + s .drawn) 65535
 
--- "at most one entry of kind 3": one that is of kind 3 is the one that is found
-unfoldable pub singleOk : List ℕ → ℕ → Bool
-singleOk directory i = not (isRecording directory i) || isHere i (recorded directory)
+-- "labels owed only when nothing is recorded, all declared values are set and the pictures exist"; d is what the active form declares
+abbrev pub owedWith : Declared → ℕ → List ℕ → List ℕ → List ℕ → Counters → Bool
+owedWith d owed directory bytes values counters =
+    eqb owed 0 || (not (isAt (recorded directory)) && (allSet d values counters && picturesStored directory bytes))
 
-unfoldable pub singlesOk : List ℕ → Bool
-singlesOk directory = allTo (singleOk directory) (entries directory)
+unfoldable pub owedOk : ℕ → List ℕ → List ℕ → List ℕ → Counters → Bool
+owedOk owed directory bytes values counters = owedWith (declaredOf bytes) owed directory bytes values counters
 
--- ---- chains
+-- the clauses of the active form and the labels owed
+unfoldable pub activitySound : Session → List ℕ → List ℕ → List ℕ → Bool
+activitySound s directory bytes values =
+    activeOk directory (s .active)
+    && (valuesOk bytes values (s .counters) && (countsOk s && owedOk (s .owed) directory bytes values (s .counters)))
 
--- the first portions and the counts of portions of a directory's entries
-abbrev pub firsts : List ℕ → ℕ → ℕ
-firsts directory i = first (entry directory i)
-
-abbrev pub counts : List ℕ → ℕ → ℕ
-counts directory i = many (entry directory i)
-
--- how often portion q stands in the chains 0 .. n - 1, of which chain i has (ns i) portions from (fs i) on
-abbrev pub uses : List ℕ → (ℕ → ℕ) → (ℕ → ℕ) → ℕ → ℕ → ℕ
-uses links fs ns q n = sumTo (λ i. times q (chain links (fs i) (ns i))) n
-
--- "each chain of exactly size/256 rounded up, at least one, portions"
-abbrev pub chained : List ℕ → (ℕ → ℕ) → (ℕ → ℕ) → ℕ → Bool
-chained links fs ns i = eqb (ns i) 0 || chainOk links (fs i) (ns i)
-
--- "no portion in two chains; all others free": portion q is free and stands in no chain, or stands in one chain, once
-unfoldable pub portionOk : List ℕ → (ℕ → ℕ) → (ℕ → ℕ) → ℕ → ℕ → Bool
-portionOk links fs ns n q = eqb (uses links fs ns q n) (cond (eqb (getD links q 0) 65535) 0 1)
-
-unfoldable pub linksOk : List ℕ → (ℕ → ℕ) → (ℕ → ℕ) → ℕ → Bool
-linksOk links fs ns n = allTo (chained links fs ns) n && allTo (portionOk links fs ns n) (length links)
-
-abbrev pub chainsOk : List ℕ → List ℕ → Bool
-chainsOk links directory = linksOk links (firsts directory) (counts directory) (entries directory)
-
--- ---- "unused bytes zero"
-
--- "An empty entry is all zero"
-abbrev pub emptyOk : List ℕ → ℕ → Bool
-emptyOk directory i = not (isEmpty directory i) || allZero (entry directory i)
-
-unfoldable pub emptiesOk : List ℕ → Bool
-emptiesOk directory = allTo (emptyOk directory) (entries directory)
-
--- the bytes of free portions
-abbrev pub freeOk : List ℕ → List ℕ → ℕ → Bool
-freeOk store links q = not (isFree links q) || allZero (portion store q)
-
-unfoldable pub freesOk : List ℕ → List ℕ → Bool
-freesOk store links = allTo (freeOk store links) (length links)
-
--- the tail of each chain's last portion: what lies behind the bytes of the entry's size
-unfoldable pub tailOf : List ℕ → List ℕ → List ℕ → List ℕ
-tailOf store links e = drop (size e - 256 * (needed (size e) - 1)) (portion store (lastOf links e))
-
-abbrev pub tailOk : List ℕ → List ℕ → List ℕ → ℕ → Bool
-tailOk store links directory i = isEmpty directory i || allZero (tailOf store links (entry directory i))
-
-unfoldable pub tailsOk : List ℕ → List ℕ → List ℕ → Bool
-tailsOk store links directory = allTo (tailOk store links directory) (entries directory)
-
--- ---- all of it
-
-unfoldable pub storeSound : List ℕ → List ℕ → List ℕ → Bool
-storeSound store links directory =
-    lentOk store links directory
-    && ((kindsOk directory && (namesOk directory && (uniquesOk directory && singlesOk directory)))
-    && (chainsOk links directory && (emptiesOk directory && (freesOk store links && tailsOk store links directory))))
+unfoldable pub sound : Session → World → Bool
+sound s w =
+    numbersOk (rowsOf w) s
+    && (backgroundOk (s .width) (s .length) (w .background)
+    && (storeSound (w .store) (w .links) (w .directory)
+    && (contentsOk (w .store) (w .links) (w .directory)
+    && activitySound s (w .directory) (activeBytes (w .store) (w .links) (w .directory) (s .active)) (w .values))))

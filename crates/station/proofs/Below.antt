@@ -7,7 +7,7 @@ use borrow.Author.Tests.{eq-eqb, ne-eqb}
 use Rattle.store.specs.Content.{content}
 use Rattle.forms.specs.Draw.{Setting, formDrawn}
 use Rattle.forms.proofs.Growing.{formDrawn-empty}
-use Rattle.soundness.specs.Sound.{activeBytes}
+use Rattle.sound.specs.Sound.{activeBytes}
 
 -- the bytes of the active form: none where there is none
 active-none : (store links directory : List ℕ) (a : ℕ) → a ≡ 65535 → activeBytes store links directory a ≡ []

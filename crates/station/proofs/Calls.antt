@@ -43,17 +43,17 @@ use Rattle.read.specs.declared.Front.the-variants.{Short, Long as LongLine, Idl
 use Rattle.read.specs.Commands.{readOf}
 use Rattle.read.specs.Front.{frontOf, lineFront, asked}
 use Rattle.font.specs.Rules.{legal}
-use Rattle.soundness.specs.Sound.{sound}
+use Rattle.sound.specs.Sound.{sound}
 use Rattle.session.specs.declared.Session.{Session}
 use Rattle.session.specs.declared.answers.Answer.{Answer}
 use Rattle.session.specs.declared.answers.Answer.the-variants.{Taken, Unended, Long}
 use Rattle.session.specs.Answers.{Row, row, answerOf, isTaken, numberOf}
 use Rattle.session.specs.Lent.{World, rowsOf, wrongLent}
-use Rattle.running.specs.World.{State}
-use Rattle.running.specs.Rows.{recordRows, runRows, placedRows, lineRows}
-use Rattle.running.specs.Does.{doesLine, listsLine}
-use Rattle.running.specs.Running.{done, ran, ranBy, lineBy}
-use Rattle.running.proofs.Ends.{line-read}
+use Rattle.commands.specs.World.{State}
+use Rattle.commands.specs.Rows.{recordRows, runRows, placedRows, lineRows}
+use Rattle.commands.specs.Does.{doesLine, listsLine}
+use Rattle.commands.specs.Running.{done, ran, ranBy, lineBy}
+use Rattle.commands.proofs.Ends.{line-read}
 use Rattle.station.specs.declared.Outcome.{Outcome}
 use Rattle.station.specs.Outcomes.{After, after, outcome}
 use Rattle.station.specs.Table.{entryRows, frontRows, commandTable, lineOf, moreOf}

@@ -10,17 +10,17 @@ use borrow.Author.Tests.{not-true, not-false, eq-eqb, ne-eqb}
 use Rattle.dots.specs.Whole.{copied}
 use Rattle.font.specs.Rules.{legal}
 use Rattle.forms.specs.Draw.{setting, formDrawn}
-use Rattle.soundness.specs.Sound.{sound}
+use Rattle.sound.specs.Sound.{sound}
 use Rattle.session.specs.declared.Session.{Session}
 use Rattle.session.specs.declared.answers.Answer.{Answer}
 use Rattle.session.specs.declared.answers.Answer.the-variants.{Taken, Lengths, Font, Unsound, NoneOwed}
 use Rattle.session.specs.Answers.{Row, row, answerOf, isTaken, numberOf}
 use Rattle.session.specs.Lent.{World, world}
-use Rattle.running.specs.World.{activeOf}
+use Rattle.commands.specs.World.{activeOf}
 use Rattle.station.specs.Outcomes.{Drawn, drawnBy, labelled}
 use Rattle.station.specs.Table.{entryRows, labelTable}
 use Rattle.station.specs.Station.{turnedBy, labelPage, labelSession, settledLabel, labelledBy}
-use Rattle.running.proofs.Answers.{cond-true, cond-false, answer-skip, answer-stop}
+use Rattle.commands.proofs.Answers.{cond-true, cond-false, answer-skip, answer-stop}
 
 -- ---- 1, 2 and 3
 

@@ -10,12 +10,12 @@ use Rattle.read.specs.declared.Front.{Front}
 use Rattle.read.specs.declared.Front.the-variants.{Short, Long as LongLine, Idle, Line}
 use Rattle.read.specs.Commands.{readOf}
 use Rattle.read.specs.Front.{frontOf}
-use Rattle.soundness.specs.Sound.{sound}
+use Rattle.sound.specs.Sound.{sound}
 use Rattle.session.specs.declared.Session.{Session}
 use Rattle.session.specs.declared.answers.Answer.the-variants.{Lengths, Font, Unsound, Unended, Long, NoneOwed}
 use Rattle.session.specs.Answers.{Row, row}
 use Rattle.session.specs.Lent.{World, rowsOf, wrongLent}
-use Rattle.running.specs.Rows.{lineRows}
+use Rattle.commands.specs.Rows.{lineRows}
 
 -- ---- 1, 2, 3: every call. [2] is "checked by every read and label call"
 

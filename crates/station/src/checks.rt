@@ -25,7 +25,7 @@ pub fn entry_answer(
     if !font::is_legal(font) {
         return Answer::Font;
     }
-    if !soundness::is_sound(session, background, store, links, directory, values) {
+    if !sound::is_sound(session, background, store, links, directory, values) {
         return Answer::Unsound;
     }
     Answer::Taken

@@ -3,7 +3,7 @@ ghost use mathlib.Core.Path.{_≡_};
 ghost use Prim.Native.Nat.{_<_};
 ghost use lib.ListN.{drop};
 ghost use Rattle.session.specs.Lent.{world};
-ghost use Rattle.running.specs.Running.{lineBy};
+ghost use Rattle.commands.specs.Running.{lineBy};
 ghost use Rattle.station.specs.Outcomes.{after, outcome};
 ghost use Rattle.station.specs.Table.{lineOf, moreOf};
 ghost use Rattle.station.specs.Station.{readAs, commanded};
@@ -35,7 +35,7 @@ fn on_front(
 {
     let line = first(input, n);
     let more = first(read::input::rest(input, n + 1), less(k, n + 1));
-    let d = running::run_line(
+    let d = commands::run_line(
         session,
         font,
         line,

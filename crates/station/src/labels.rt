@@ -3,7 +3,7 @@ ghost use mathlib.Core.Path.{_≡_};
 ghost use mathlib.Core.List.{[]};
 ghost use lib.ListN.{length};
 ghost use Rattle.forms.specs.Draw.{setting, formDrawn};
-ghost use Rattle.soundness.specs.Sound.{activeBytes};
+ghost use Rattle.sound.specs.Sound.{activeBytes};
 ghost use Rattle.session.specs.Answers.{answerOf};
 ghost use Rattle.session.specs.Lent.{world};
 ghost use Rattle.station.specs.Outcomes.{drawnBy};
@@ -113,7 +113,7 @@ fn count(session: Session, store: &[u8], links: &[u16], directory: &[u8]) -> Ses
 {
     let active = session.active;
     let counters = session.counters;
-    let d = soundness::active_declared(store, links, directory, active);
+    let d = sound::active_declared(store, links, directory, active);
     session.counted(values::counters::move_all(d, counters))
 }
 

@@ -9,7 +9,7 @@ use native.Mathlib.Omega.{arith}
 use lib.ListN.{length, take, drop, replicate}
 use lib.Dec.{leb}
 use borrow.Author.Tests.{le-leb, leb-true}
-use Rattle.fit.specs.Bytes.{between, isDigit, allIn}
+use Rattle.kinds.specs.Bytes.{between, isDigit, allIn}
 use Rattle.values.specs.Counters.{digits}
 use Rattle.values.specs.Stored.{every}
 

@@ -10,8 +10,8 @@ use lib.ListN.{length, getD, set, take, drop, replicate, length-append, length-r
 use lib.Seq.{sets, sets-eq, take-at, drop-at, take-set-le, drop-set-lt, drop-set-add, getD-set-same, getD-set-other}
 use lib.Dec.{eqb, ltb}
 use borrow.Author.Tests.{le-leb, lt-ltb, eqb-true, ltb-true}
-use Rattle.fit.specs.Bytes.{allIn}
-use Rattle.fit.proofs.Laws.{or-first, or-second}
+use Rattle.kinds.specs.Bytes.{allIn}
+use Rattle.kinds.proofs.Laws.{or-first, or-second}
 use Rattle.values.specs.declared.declarations.Declared.{Declared}
 use Rattle.values.specs.declared.counters.Counters.{Counters}
 use Rattle.values.specs.Declarations.{tenth, lengthAt, sideAt, widthAt, minusAt, stepAt, variableDeclared, counterDeclared}

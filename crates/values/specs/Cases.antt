@@ -3,7 +3,7 @@
 use mathlib.Core.Path.{_≡_, refl}
 use mathlib.Core.Bool.{true, false}
 use mathlib.Core.List.{[]}
-use Rattle.fit.specs.Bytes.{between}
+use Rattle.kinds.specs.Bytes.{between}
 use Rattle.fields.specs.Text.{bytes}
 use Rattle.fields.specs.Bytes.{run, valueFrom}
 use Rattle.fields.specs.Field.{numberAt, textAt, byteAt}

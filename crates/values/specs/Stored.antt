@@ -6,7 +6,7 @@ use mathlib.Core.List.{List, [], _∷_, _++_}
 use lib.ListN.{length, getD, take, drop, replicate}
 use lib.Seq.{sets}
 use lib.Dec.{eqb, leb, ltb}
-use Rattle.fit.specs.Bytes.{between, isDigit, allIn}
+use Rattle.kinds.specs.Bytes.{between, isDigit, allIn}
 use Rattle.values.specs.declared.declarations.Declared.{Declared}
 use Rattle.values.specs.declared.counters.Counters.{Counters}
 use Rattle.values.specs.declared.counters.Entered.{Entered}

@@ -1,4 +1,4 @@
-use Rattle.fit.proofs.Laws.{between-from}
+use Rattle.kinds.proofs.Laws.{between-from}
 use mathlib.Core.Path.{sym}
 use Rattle.fields.proofs.Laws.{below-range}
 use Rattle.fields.proofs.counts.Statement.{statement}

@@ -3,7 +3,7 @@ use native.Mathlib.Omega.{arith}
 use mathlib.Core.Path.{sym}
 use mathlib.Core.Bool.{true, false}
 use borrow.Author.Tests.{ne-eqb}
-use Rattle.fit.specs.Bytes.{between}
+use Rattle.kinds.specs.Bytes.{between}
 use Rattle.fields.specs.Bytes.{inClass}
 use Rattle.fields.specs.declared.Class.the-variants.{Digit, Named}
 use borrow.Author.Needs.{needs}

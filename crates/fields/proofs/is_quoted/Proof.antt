@@ -3,7 +3,7 @@ use native.Mathlib.Omega.{arith}
 use native.Mathlib.Decide.{decLt}
 use mathlib.Core.Path.{sym}
 use mathlib.Core.Bool.{true, false}
-use Rattle.fit.specs.Bytes.{between}
+use Rattle.kinds.specs.Bytes.{between}
 use Rattle.fields.specs.Bytes.{inClass}
 use Rattle.fields.specs.declared.Class.the-variants.{Quoted}
 use Rattle.fields.proofs.is_quoted.Statement.{statement}

@@ -1,6 +1,6 @@
 -- `drawing::is_between` meets its contract. Assumes nothing.
 use mathlib.Core.Path.{sym}
-use Rattle.fit.proofs.Laws.{between-below, between-from}
+use Rattle.kinds.proofs.Laws.{between-below, between-from}
 use Rattle.bars.proofs.drawing.is_between.Statement.{statement}
 use Rattle.bars.proofs.drawing.is_between.Tie as tie
 

@@ -3,7 +3,7 @@ use mathlib.Core.Bool.{Bool, true, false}
 use mathlib.Core.List.{List}
 use Prim.Native.Nat.{ℕ}
 use denote.Ref.{now}
-use Rattle.fit.specs.declared.Kind.{Kind}
+use Rattle.kinds.specs.declared.Kind.{Kind}
 use Rattle.fields.specs.Data.{elements}
 use Rattle.values.specs.declared.declarations.Declared.{Declared}
 use Rattle.fitness.specs.declared.answers.DataAnswer.{DataAnswer}

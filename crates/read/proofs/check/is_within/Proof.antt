@@ -1,5 +1,5 @@
 use mathlib.Core.Path.{sym}
-use Rattle.fit.proofs.Laws.{between-below, between-from}
+use Rattle.kinds.proofs.Laws.{between-below, between-from}
 use Rattle.read.proofs.check.is_within.Statement.{statement}
 use Rattle.read.proofs.check.is_within.Tie as tie
 

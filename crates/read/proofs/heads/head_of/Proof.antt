@@ -1,6 +1,6 @@
 use borrow.Author.Tests.{ne-eqb}
 use Rattle.read.specs.Grammar.{headOf, find}
-use Rattle.fit.specs.Bytes.{between}
+use Rattle.kinds.specs.Bytes.{between}
 use borrow.Author.Needs.{needs}
 use Rattle.read.proofs.heads.head_of.Statement.{statement}
 use Rattle.read.proofs.heads.head_of.Tie as tie

@@ -2,7 +2,7 @@ use Prim.Native.Nat.{_+_}
 use native.Mathlib.Omega.{arith}
 use denote.Ref.{now}
 use borrow.Author.Tests.{le-ltb, lt-ltb}
-use Rattle.fit.specs.Bytes.{between}
+use Rattle.kinds.specs.Bytes.{between}
 use Rattle.fields.proofs.Laws.{past}
 use Rattle.read.specs.Names.{nameByte, capital}
 use borrow.Author.Needs.{needs}

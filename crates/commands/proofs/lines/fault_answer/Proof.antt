@@ -1,0 +1,21 @@
+use Rattle.commands.specs.Running.{faulted}
+use borrow.Author.Needs.{needs}
+use Rattle.commands.proofs.lines.fault_answer.Statement.{statement}
+use Rattle.commands.proofs.lines.fault_answer.Tie as tie
+
+enum-told : tie.Need-enum-told
+enum-told c = search needs
+
+enum-told-2 : tie.Need-enum-told-2
+enum-told-2 c = search needs
+
+returns : tie.Need-returns
+unfolding faulted
+returns c = rw (c .enum-told .given .1)
+
+returns-2 : tie.Need-returns-2
+unfolding faulted
+returns-2 c = rw (c .enum-told2 .given .1)
+
+pub fault-answer-spec : {M : Type 1} → statement M
+fault-answer-spec = tie.close (tie.spec enum-told enum-told-2 returns returns-2)

@@ -1,0 +1,147 @@
+// "While recording only R, V, C, A, B, LO, LE, LW, X, GG and FE have a place."
+ghost use mathlib.Core.Path.{_≡_};
+ghost use mathlib.Core.Bool.{not};
+ghost use mathlib.Core.List.{[], _∷_};
+ghost use Prim.Native.Nat.{_+_, _<_};
+ghost use lib.ListN.{length};
+ghost use Rattle.store.specs.Entry.{entry};
+ghost use Rattle.store.specs.Content.{content};
+ghost use Rattle.read.specs.declared.Command.the-variants.{Item as It, End};
+ghost use Rattle.normal.specs.Written.{normal};
+ghost use Rattle.forms.specs.Form.{declaredOf};
+ghost use Rattle.moves.specs.Grow.{canGrow};
+ghost use Rattle.session.specs.declared.answers.Answer.the-variants.{Full};
+ghost use Rattle.session.specs.Answers.{row, answerOf};
+ghost use Rattle.session.specs.Lent.{world};
+ghost use Rattle.session.specs.declared.answers.Answer.the-variants.{Taken};
+ghost use Rattle.commands.specs.Rows.{verdictRows, itemRows};
+ghost use Rattle.commands.specs.Running.{done, ran, recordBy, short};
+use crate::Done;
+use forms::Verdict;
+use read::Command;
+use read::Item;
+use read::input::first;
+use session::Answer;
+use session::Session;
+use session::answers::is_taken;
+use values::Declared;
+
+// An answer, with the session after it.
+pub fn answered(answer: Answer, session: Session) -> Done
+    ensures { λ r. ⌜ r ≡ done answer session 0 ⌝ }
+{
+    Done {
+        answer: answer,
+        session: session,
+        written: 0,
+    }
+}
+
+pub fn taken(session: Session) -> Done
+    ensures { λ r. ⌜ r ≡ done Taken session 0 ⌝ }
+{
+    Done {
+        answer: Answer::Taken,
+        session: session,
+        written: 0,
+    }
+}
+
+// What a verdict answers: [12] to [15], or taken.
+fn answer_of(v: Verdict) -> Answer
+    ensures { λ r. ⌜ r ≡ answerOf (verdictRows v []) ⌝ }
+{
+    match v {
+        Verdict::Taken => Answer::Taken,
+        Verdict::Again => Answer::Again,
+        Verdict::Undeclared => Answer::Undeclared,
+        Verdict::Past => Answer::Past,
+        Verdict::Unfit => Answer::Unfit,
+    }
+}
+
+// [11] to [15] for an item, after the declarations d.
+pub fn item_answer(directory: &[u8], line: &[u8], item: Item, d: Declared) -> Answer
+    ensures { λ r. ⌜ r ≡ answerOf (itemRows d (now (directory .entry)) (now (line .entry)) item []) ⌝ }
+{
+    if forms::has_picture(directory, line, item) {
+        return answer_of(forms::judge(line, item, d));
+    }
+    Answer::Missing
+}
+
+// [11] to [15], then [19], for an item recorded in entry i as n bytes and LF.
+fn record_answer(
+    store: &[u8],
+    links: &[u16],
+    directory: &[u8],
+    line: &[u8],
+    i: usize,
+    item: Item,
+    n: usize,
+) -> Answer
+    requires { ⌜ n < 256 ⌝ }
+    ensures { λ r. ⌜ r ≡ answerOf (itemRows (declaredOf (content (now (store .entry)) (now (links .entry)) (now (directory .entry)) i)) (now (directory .entry)) (now (line .entry)) item (row Full (not (canGrow (now (links .entry)) (entry (now (directory .entry)) i) (n + 1))) ∷ [])) ⌝ }
+{
+    let d = forms::declared_at(store, links, directory, i);
+    let a = item_answer(directory, line, item, d);
+    if !is_taken(a) {
+        return a;
+    }
+    if moves::can_grow(links, directory, i, n + 1) {
+        return Answer::Taken;
+    }
+    Answer::Full
+}
+
+// "A recorded line is checked and kept, not run", in normal form and with its LF.
+fn record_item(
+    session: Session,
+    store: &mut [u8],
+    links: &mut [u16],
+    directory: &mut [u8],
+    line: &[u8],
+    i: usize,
+    item: Item,
+) -> Done
+    requires { ⌜ length (normal (now line)) < 256 ⌝ }
+    ensures { λ r. ⌜ ran r (world [] (now (store .exit)) (now (links .exit)) (now (directory .exit)) []) [] ≡ recordBy (world [] (now (store .entry)) (now (links .entry)) (now (directory .entry)) []) session (now (line .entry)) i [] (It item) ⌝ }
+{
+    // every byte is LF, so that one stands behind the line
+    let mut buffer = [10u8; 256];
+    let n = normal::write(line, &mut buffer);
+    let a = record_answer(store, links, directory, line, i, item, n);
+    if !is_taken(a) {
+        return answered(a, session);
+    }
+    moves::append(store, links, directory, i, first(&buffer, n + 1));
+    taken(session)
+}
+
+// FE: kind 3 to 1.
+fn end_form(session: Session, directory: &mut [u8], i: usize) -> Done
+    ensures { λ r. ⌜ ran r (world [] [] [] (now (directory .exit)) []) [] ≡ recordBy (world [] [] [] (now (directory .entry)) []) session [] i [] End ⌝ }
+{
+    moves::finish(directory, i);
+    taken(session)
+}
+
+// A command while the form of entry i is recorded. `on_command` asks, for a command that was read from this line, whose normal form is short.
+pub(crate) fn record(
+    session: Session,
+    command: Command,
+    line: &[u8],
+    i: usize,
+    store: &mut [u8],
+    links: &mut [u16],
+    directory: &mut [u8],
+) -> Done
+    requires { ⌜ short command (now line) ⌝ }
+    ensures { λ r. ⌜ ran r (world [] (now (store .exit)) (now (links .exit)) (now (directory .exit)) []) [] ≡ recordBy (world [] (now (store .entry)) (now (links .entry)) (now (directory .entry)) []) session (now (line .entry)) i [] command ⌝ }
+{
+    match command {
+        Command::Item(item) => record_item(session, store, links, directory, line, i, item),
+        Command::End => end_form(session, directory, i),
+        _ => answered(Answer::Misplaced, session),
+    }
+}

@@ -1,0 +1,136 @@
+-- FK and GK: forms and pictures are erased.
+-- Assumes nothing.
+use mathlib.Core.Path.{_≡_, refl, sym, ap, _∙_, subst}
+use mathlib.Core.Bool.{Bool, true, false, cond, false≢true}
+use mathlib.Core.List.{List}
+use Prim.Native.Nat.{ℕ, _/_, _<_}
+use native.Mathlib.Omega.{arith}
+use lib.ListN.{getD}
+use lib.Dec.{eqb}
+use borrow.Author.Tests.{ne-eqb, eqb-false}
+use Rattle.cells.proofs.Counts.{and-left}
+use Rattle.cells.proofs.Scan.{lowest-passes}
+use Rattle.store.specs.declared.Found.{Found}
+use Rattle.store.specs.declared.Found.the-variants.{At, Nothing}
+use Rattle.store.specs.Entry.{entries, entry, kind, ofKind}
+use Rattle.store.specs.Find.{sameName, titled, titledAt}
+use Rattle.store.proofs.Finding.{at-says}
+use Rattle.moves.specs.Memory.{Memory}
+use Rattle.moves.specs.Erase.{erasedAt, erasedAll}
+use Rattle.store_sound.specs.Shelf.{Held, nothing, shelfOf, pickHeld, swept}
+use Rattle.store_sound.proofs.Listing.{shelf-at}
+use Rattle.store_sound.proofs.Moving.{Moved}
+use Rattle.store_sound.proofs.Erase.{erase-moved}
+use Rattle.store_sound.proofs.EraseAll.{Swept, erase-all-moved}
+use Rattle.read.specs.declared.Named.{Named}
+use Rattle.read.specs.declared.Command.the-variants.{EraseForm, ErasePicture}
+use Rattle.read.specs.Names.{packedOf}
+use Rattle.session.specs.declared.Session.{Session}
+use Rattle.session.specs.Lent.{World}
+use Rattle.commands.specs.World.{state, memoryOf}
+use Rattle.commands.specs.Rows.{named}
+use Rattle.commands.specs.Does.{erasedNamed, erasedEvery, erasedForm, pickState, inactive, runs}
+use Rattle.keeps_sound.specs.Good.{Good}
+use Rattle.keeps_sound.proofs.Stored.{heldOk, contentsOf, contents-at, contents-of, contents-moved, good-stored, good-moved, good-ended}
+
+-- ---- what is found
+
+-- an entry that is found by a name is one of its kind
+pub named-is : (directory : List ℕ) (picture : Bool) (n : List ℕ) (i : ℕ) → titledAt directory picture n ≡ At i
+    → (i < entries directory) × (ofKind picture (kind (entry directory i)) ≡ true)
+unfolding titled
+named-is directory picture n i e =
+    let a = at-says (titled directory picture n) (entries directory) i e in
+    let t : titled directory picture n i ≡ true = ap (titled directory picture n) (sym (a .0)) ∙ lowest-passes (titled directory picture n) (entries directory) (omega (arith, a .0, a .1)) in
+    (a .1, and-left (ofKind picture (kind (entry directory i))) (sameName (entry directory i) n) t)
+
+some-kind : (picture : Bool) (k : ℕ) → ofKind picture k ≡ true → k ≡ 0 → ⊥
+some-kind true k o z = false≢true (rw z at o)
+some-kind false k o z = false≢true (rw z at o)
+
+-- ---- one entry
+
+erasedAt-moved : (s : Session) (w : World) → Good s w → (i : ℕ) → i < entries (w .directory) → (kind (entry (w .directory) i) ≡ 0 → ⊥)
+    → Moved (memoryOf w) (erasedAt (memoryOf w) i) i nothing
+erasedAt-moved s w g i b n = rw (ne-eqb (kind (entry (w .directory) i)) 0 n) (erase-moved (w .store) (w .links) (w .directory) i (g .store) b)
+
+-- ---- all of a kind
+
+held-swept : (picture : Bool) (h : Held) → heldOk h ≡ true → heldOk (swept picture h) ≡ true
+held-swept picture h k = go (ofKind picture (h .kind))
+  where
+    go : (b : Bool) → heldOk (pickHeld b nothing h) ≡ true
+    go true = refl
+    go false = k
+
+swept-contents : (picture : Bool) (m m′ : Memory) → Swept picture m m′ 0 (entries (m .directory)) → contentsOf m ≡ true → contentsOf m′ ≡ true
+swept-contents picture m m′ v h = contents-of m′ (λ j l.
+    let b : j < entries (m .directory) = subst (λ (n : ℕ). j < n / 16) (v .long) l in
+    ap heldOk (v .behind j (omega arith) (omega arith)) ∙ held-swept picture (getD (shelfOf m) j nothing) (contents-at m h j b))
+
+-- GK"*" leaves a form as it is
+form-stays : (m : Memory) (j : ℕ) → j < entries (m .directory) → kind (entry (m .directory) j) ≡ 1 → swept true (getD (shelfOf m) j nothing) ≡ getD (shelfOf m) j nothing
+form-stays m j b k =
+    let q : getD (shelfOf m) j nothing .kind ≡ 1 = ap (λ (x : Held). x .kind) (shelf-at (m .store) (m .links) (m .directory) j b) ∙ k in
+    ap (λ (n : ℕ). pickHeld (ofKind true n) nothing (getD (shelfOf m) j nothing)) q
+
+-- ---- the commands
+
+module _ (s : Session) (w : World) (g : Good s w) (z : s .owed ≡ 0) where
+  erased-form : (n : List ℕ) (f : Found) → titledAt (w .directory) false n ≡ f → Good (erasedForm s w f .session) (erasedForm s w f .world)
+  erased-form n (At i) e =
+      let a = named-is (w .directory) false n i e in
+      let v = erasedAt-moved s w g i (a .0) (some-kind false (kind (entry (w .directory) i)) (a .1)) in
+      let c = contents-moved (memoryOf w) (erasedAt (memoryOf w) i) i nothing v (a .0) (g .contents) refl in
+      go (eqb (s .active) i) refl (good-ended s w g z (erasedAt (memoryOf w) i) (v .sound) (v .long-directory) c)
+      (λ ne. good-moved s w g z (erasedAt (memoryOf w) i) i nothing v (a .0) refl (λ q k. ne q))
+    where
+      go : (b : Bool) → eqb (s .active) i ≡ b → Good (inactive s (erasedNamed w (At i)) .session) (inactive s (erasedNamed w (At i)) .world)
+          → ((s .active ≡ i → ⊥) → Good s (erasedNamed w (At i)))
+          → Good (pickState b (inactive s (erasedNamed w (At i))) (state s (erasedNamed w (At i))) .session)
+          (pickState b (inactive s (erasedNamed w (At i))) (state s (erasedNamed w (At i))) .world)
+      go true q x y = x
+      go false q x y = y (eqb-false (s .active) i q)
+  erased-form n Nothing e = go (eqb (s .active) 65535) (good-ended s w g z (memoryOf w) (g .store) refl (g .contents))
+    where
+      go : (b : Bool) → Good (inactive s w .session) (inactive s w .world)
+          → Good (pickState b (inactive s w) (state s w) .session) (pickState b (inactive s w) (state s w) .world)
+      go true x = x
+      go false x = g
+
+  erased-forms : Good (inactive s (erasedEvery w false) .session) (inactive s (erasedEvery w false) .world)
+  erased-forms =
+      let v = erase-all-moved false (memoryOf w) (g .store) in
+      good-ended s w g z (erasedAll false (memoryOf w)) (v .sound) (v .long) (swept-contents false (memoryOf w) (erasedAll false (memoryOf w)) v (g .contents))
+
+  -- FK: a form or all forms
+  pub keeps-erase-form : (font line more : List ℕ) (n : Named)
+      → Good (runs font w s line more (EraseForm n) .session) (runs font w s line more (EraseForm n) .world)
+  keeps-erase-form font line more n = go (n .all)
+    where
+      go : (b : Bool) → Good (pickState b (inactive s (erasedEvery w false)) (erasedForm s w (named w false line n)) .session)
+          (pickState b (inactive s (erasedEvery w false)) (erasedForm s w (named w false line n)) .world)
+      go true = erased-forms
+      go false = erased-form (packedOf line (n .at) (n .length)) (named w false line n) refl
+
+  erased-picture : (n : List ℕ) (f : Found) → titledAt (w .directory) true n ≡ f → Good s (erasedNamed w f)
+  erased-picture n (At i) e =
+      let a = named-is (w .directory) true n i e in
+      let v = erasedAt-moved s w g i (a .0) (some-kind true (kind (entry (w .directory) i)) (a .1)) in
+      good-moved s w g z (erasedAt (memoryOf w) i) i nothing v (a .0) refl (λ q k. false≢true (ap (ofKind true) (sym k) ∙ a .1))
+  erased-picture n Nothing e = g
+
+  erased-pictures : Good s (erasedEvery w true)
+  erased-pictures =
+      let v = erase-all-moved true (memoryOf w) (g .store) in
+      good-stored s w g z (erasedAll true (memoryOf w)) (v .sound) (v .long) (swept-contents true (memoryOf w) (erasedAll true (memoryOf w)) v (g .contents))
+      (λ j b e k. v .behind j (omega arith) (omega arith) ∙ form-stays (memoryOf w) j b k)
+
+  -- GK: a picture or all pictures
+  pub keeps-erase-picture : (font line more : List ℕ) (n : Named)
+      → Good (runs font w s line more (ErasePicture n) .session) (runs font w s line more (ErasePicture n) .world)
+  keeps-erase-picture font line more n = go (n .all)
+    where
+      go : (b : Bool) → Good s (cond b (erasedEvery w true) (erasedNamed w (named w true line n)))
+      go true = erased-pictures
+      go false = erased-picture (packedOf line (n .at) (n .length)) (named w true line n) refl

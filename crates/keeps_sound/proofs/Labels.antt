@@ -1,0 +1,170 @@
+-- A label call leads from a sound world to a sound one, and counts each label once.
+-- Assumes nothing.
+use mathlib.Core.Path.{_≡_, refl, _∙_}
+use mathlib.Core.Bool.{Bool, true, false, not, _&&_, _||_, cond, true≢false}
+use mathlib.Core.List.{List}
+use Prim.Native.Nat.{ℕ, zero, suc, _+_, _-_}
+use native.Mathlib.Omega.{arith}
+use lib.ListN.{length, set, length-set}
+use lib.Dec.{eqb}
+use borrow.Author.Tests.{eqb-false, leb-true, le-leb}
+use Rattle.kinds.proofs.Laws.{or-second}
+use Rattle.store.specs.Find.{recorded}
+use Rattle.values.specs.declared.declarations.Declared.{Declared}
+use Rattle.values.specs.declared.counters.Counters.{Counters}
+use Rattle.values.specs.Counters.{movedAll, movedFrom, movedAt}
+use Rattle.values.specs.Stored.{allSet}
+use Rattle.values.proofs.Sound.{all-set-moved, sound-moved}
+use Rattle.forms.specs.Form.{declaredOf, picturesStored, isAt}
+use Rattle.sound.specs.Sound.{numbersOk, owedOk, sound}
+use Rattle.session.specs.declared.Session.{Session}
+use Rattle.session.specs.declared.answers.Answer.{Answer}
+use Rattle.session.specs.declared.answers.Answer.the-variants.{Taken, Lengths}
+use Rattle.session.specs.Answers.{numberOf, isTaken, answerOf}
+use Rattle.session.specs.Session.{session, counting}
+use Rattle.session.specs.Lent.{World, wrongLent}
+use Rattle.commands.specs.World.{activeOf, activeDeclared}
+use Rattle.commands.proofs.Answers.{or-none}
+use Rattle.station.specs.Outcomes.{Drawn, drawnBy, labelled}
+use Rattle.station.specs.Table.{labelTable}
+use Rattle.station.specs.Station.{labelPage, labelSession, settledLabel, labelledBy}
+use Rattle.keeps_sound.specs.Good.{Good}
+use Rattle.keeps_sound.specs.Tens.{Tens}
+use Rattle.keeps_sound.proofs.Layers.{good-sound, sound-good}
+use Rattle.keeps_sound.proofs.Tables.{clear, taken-is}
+use Rattle.keeps_sound.proofs.Stored.{activity-facts, facts-activity}
+
+-- ---- counters that move
+
+length-from : (d : Declared) (c : Counters) (n k : ℕ) (out : List ℕ) → length (movedFrom d c n k out) ≡ length out
+length-from d c zero k out = refl
+length-from d c (suc n) k out = length-from d c n (suc k) (set out k (movedAt d c k)) ∙ length-set out k (movedAt d c k)
+
+moved-flags : (d : Declared) (c : Counters) → length (movedAll d c .set) ≡ length (c .set)
+unfolding movedAll
+moved-flags d c = refl
+
+moved-values : (d : Declared) (c : Counters) → length (movedAll d c .value) ≡ length (c .value)
+unfolding movedAll
+moved-values d c = length-from d c 10 0 (c .value)
+
+-- ---- labels owed
+
+owed-moved : (n : ℕ) (directory bytes values : List ℕ) (c : Counters) → owedOk n directory bytes values c ≡ true → owedOk n directory bytes values (movedAll (declaredOf bytes) c) ≡ true
+unfolding owedOk
+owed-moved n directory bytes values c e = rw (all-set-moved (declaredOf bytes) values c) e
+
+or-left-no : (a b : Bool) → a ≡ false → (a || b) ≡ true → b ≡ true
+or-left-no true b z e = absurd (true≢false z)
+or-left-no false b z e = e
+
+-- what holds while labels are owed holds of any number of them
+owed-other : (n m : ℕ) (directory bytes values : List ℕ) (c : Counters) → eqb n 0 ≡ false → owedOk n directory bytes values c ≡ true → owedOk m directory bytes values c ≡ true
+unfolding owedOk
+owed-other n m directory bytes values c z e =
+    or-second (eqb m 0) _ (or-left-no (eqb n 0) (not (isAt (recorded directory)) && (allSet (declaredOf bytes) values c && picturesStored directory bytes)) z e)
+
+-- ---- the session of a label
+
+module _ (s : Session) (w : World) (g : Good s w) (t : Tens s) where
+  abbrev c′ : Counters
+  c′ = movedAll (activeDeclared w s) (s .counters)
+
+  abbrev one-less : Session
+  one-less = session (s .width) (s .length) (s .turn) (s .x) (s .y) (s .active) (s .owed - 1) (s .drawn + 1) c′
+
+  counted-good : (b : Bool) → (eqb (s .owed) 0 || eqb (s .drawn) 65535) ≡ b → Good (cond b (counting s c′) one-less) w
+  unfolding numbersOk
+  counted-good true e =
+      let a = activity-facts s (w .directory) (activeOf w s) (w .values) (g .activity) in
+      record {
+        lengths = g .lengths;
+        numbers = g .numbers;
+        background = g .background;
+        store = g .store;
+        contents = g .contents;
+        activity = facts-activity (counting s c′) (w .directory) (activeOf w s) (w .values) (record {
+          form = a .form;
+          fit = sound-moved (activeDeclared w s) (w .values) (s .counters) (a .fit) (t .values);
+          counts = a .counts;
+          owed = owed-moved (s .owed) (w .directory) (activeOf w s) (w .values) (s .counters) (a .owed);
+        });
+      }
+  counted-good false e =
+      let a = activity-facts s (w .directory) (activeOf w s) (w .values) (g .activity) in
+      let z = or-none (eqb (s .owed) 0) (eqb (s .drawn) 65535) e .0 in
+      let some : s .owed ≡ 0 → ⊥ = eqb-false _ _ z in
+      record {
+        lengths = g .lengths;
+        numbers = g .numbers;
+        background = g .background;
+        store = g .store;
+        contents = g .contents;
+        activity = facts-activity one-less (w .directory) (activeOf w s) (w .values) (record {
+          form = a .form;
+          fit = sound-moved (activeDeclared w s) (w .values) (s .counters) (a .fit) (t .values);
+          counts = le-leb (s .owed - 1 + (s .drawn + 1)) 65535 (omega (arith, leb-true (s .owed + s .drawn) 65535 (a .counts), some));
+          owed = owed-other (s .owed) (s .owed - 1) (w .directory) (activeOf w s) (w .values) c′ z (owed-moved (s .owed) (w .directory) (activeOf w s) (w .values) (s .counters) (a .owed));
+        });
+      }
+
+  counted-tens : (b : Bool) → Tens (cond b (counting s c′) one-less)
+  counted-tens true = record { flags = moved-flags (activeDeclared w s) (s .counters) ∙ t .flags; values = moved-values (activeDeclared w s) (s .counters) ∙ t .values }
+  counted-tens false = record { flags = moved-flags (activeDeclared w s) (s .counters) ∙ t .flags; values = moved-values (activeDeclared w s) (s .counters) ∙ t .values }
+
+  counted-same : (b : Bool) → (eqb (s .owed) 0 || eqb (s .drawn) 65535) ≡ b → cond b (counting s c′) one-less .owed + cond b (counting s c′) one-less .drawn ≡ s .owed + s .drawn
+  counted-same true e = refl
+  counted-same false e =
+      let some : s .owed ≡ 0 → ⊥ = eqb-false _ _ (or-none (eqb (s .owed) 0) (eqb (s .drawn) 65535) e .0) in
+      omega (arith, some)
+
+  pub label-session-good : Good (labelSession s w) w
+  unfolding labelSession
+  label-session-good = counted-good (eqb (s .owed) 0 || eqb (s .drawn) 65535) refl
+
+  pub label-session-tens : Tens (labelSession s w)
+  unfolding labelSession
+  label-session-tens = counted-tens (eqb (s .owed) 0 || eqb (s .drawn) 65535)
+
+  -- owed and drawn together stay
+  pub label-counts : labelSession s w .owed + labelSession s w .drawn ≡ s .owed + s .drawn
+  unfolding labelSession
+  label-counts = counted-same (eqb (s .owed) 0 || eqb (s .drawn) 65535) refl
+
+  -- ---- the call, taken or refused
+
+  settled-good : (b : Bool) (a : Answer) (p q : List ℕ) → Good (settledLabel b (drawnBy (labelled Taken (labelSession s w)) p) (drawnBy (labelled a s) q) .outcome .session) w
+  settled-good true a p q = label-session-good
+  settled-good false a p q = g
+
+  settled-tens : (b : Bool) (a : Answer) (p q : List ℕ) → Tens (settledLabel b (drawnBy (labelled Taken (labelSession s w)) p) (drawnBy (labelled a s) q) .outcome .session)
+  settled-tens true a p q = label-session-tens
+  settled-tens false a p q = t
+
+  pub label-good : (font page : List ℕ) → Good (labelledBy s font w page .outcome .session) w
+  unfolding labelledBy
+  label-good font page =
+      settled-good (isTaken (answerOf (labelTable s font w (length page)))) (answerOf (labelTable s font w (length page))) (labelPage font s w page) page
+
+  pub label-tens : (font page : List ℕ) → Tens (labelledBy s font w page .outcome .session)
+  unfolding labelledBy
+  label-tens font page =
+      settled-tens (isTaken (answerOf (labelTable s font w (length page)))) (answerOf (labelTable s font w (length page))) (labelPage font s w page) page
+
+-- with lent lengths that are wrong nothing is taken, so sound alone is enough
+label-lengths : (s : Session) (font : List ℕ) (w : World) (page : ℕ) → answerOf (labelTable s font w page) ≡ Taken → wrongLent w ≡ false
+unfolding labelTable isTaken numberOf
+label-lengths s font w page a = or-none (wrongLent w) (not (eqb page (length (w .background)))) (clear Lengths _ _ refl a .0) .0
+
+settled-sound :
+    (s : Session) (w : World) (b : Bool) (x y : Drawn) → (b ≡ true → sound (x .outcome .session) w ≡ true) → sound (y .outcome .session) w ≡ true →
+    sound (settledLabel b x y .outcome .session) w ≡ true
+settled-sound s w true x y h k = h refl
+settled-sound s w false x y h k = k
+
+pub label-sound : (s : Session) (font : List ℕ) (w : World) (page : List ℕ) → sound s w ≡ true → Tens s → sound (labelledBy s font w page .outcome .session) w ≡ true
+unfolding labelledBy
+label-sound s font w page h t =
+    let a = answerOf (labelTable s font w (length page)) in
+    settled-sound s w (isTaken a) _ _
+    (λ e. good-sound _ _ (label-session-good s w (sound-good s w (label-lengths s font w (length page) (taken-is a e)) h) t)) h

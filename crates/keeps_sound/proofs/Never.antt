@@ -1,0 +1,162 @@
+-- On a sound world of right lengths no call answers 3.
+-- Assumes nothing.
+use mathlib.Core.Path.{_≡_, refl, sym, ap, _∙_}
+use mathlib.Core.Bool.{Bool, true, false, not, _&&_, _||_, true≢false, false≢true}
+use mathlib.Core.List.{List, [], _∷_}
+use Prim.Native.Nat.{ℕ}
+use lib.ListN.{length}
+use lib.Dec.{eqb}
+use Rattle.store.specs.declared.Found.{Found}
+use Rattle.store.specs.declared.Found.the-variants.{At, Nothing}
+use Rattle.store.specs.Find.{recorded}
+use Rattle.read.specs.declared.Command.{Command}
+use Rattle.read.specs.declared.Command.the-variants.{
+  Item as item,
+  Length,
+  Width,
+  Turn,
+  Start,
+  End,
+  Retrieve,
+  EraseForm,
+  ListForms,
+  PrintForm,
+  Store,
+  ListPictures,
+  ErasePicture,
+  SetVariable,
+  SetCounter,
+  Clear,
+  Print,
+  White,
+}
+use Rattle.read.specs.declared.Fault.the-variants.{Form as form, Limit}
+use Rattle.read.specs.declared.Front.{Front}
+use Rattle.read.specs.declared.Front.the-variants.{Short, Long as LongLine, Idle, Line}
+use Rattle.read.specs.declared.Read.{Read}
+use Rattle.read.specs.declared.Read.the-variants.{Taken as Reads, Refused}
+use Rattle.read.specs.Commands.{readOf}
+use Rattle.read.specs.Front.{frontOf}
+use Rattle.sound.specs.Sound.{sound}
+use Rattle.session.specs.declared.Session.{Session}
+use Rattle.session.specs.declared.answers.Answer.{Answer}
+use Rattle.session.specs.declared.answers.Answer.the-variants.{Taken, Unsound}
+use Rattle.session.specs.Answers.{Row, numberOf, isTaken, pickAnswer, answerOf}
+use Rattle.session.specs.Lent.{World, rowsOf}
+use Rattle.commands.specs.Rows.{recordRows, runRows, placedRows, lineRows}
+use Rattle.station.specs.Outcomes.{After, Drawn, drawnBy, labelled}
+use Rattle.station.specs.Table.{lineOf, moreOf, frontRows, commandTable, labelTable}
+use Rattle.station.specs.Station.{readBy, settled, refused, commanded, settledLabel, labelledBy}
+use Rattle.keeps_sound.proofs.Layers.{first-of, second-of}
+
+-- ---- tables none of whose rows gives 3
+
+abbrev harmless : List Row → Bool
+harmless [] = true
+harmless (r ∷ rs) = (not (eqb (numberOf (r .answer)) 3) || not (r .applies)) && harmless rs
+
+picked-not : (b : Bool) (a x : Answer) → (not (eqb (numberOf a) 3) || not b) ≡ true → (x ≡ Unsound → ⊥) → pickAnswer b a x ≡ Unsound → ⊥
+unfolding numberOf
+picked-not true a x h n e = false≢true (ap (λ (k : Answer). not (eqb (numberOf k) 3) || false) (sym e) ∙ h)
+picked-not false a x h n e = n e
+
+harmless-answer : (rs : List Row) → harmless rs ≡ true → answerOf rs ≡ Unsound → ⊥
+unfolding answerOf numberOf isTaken
+harmless-answer [] h e = true≢false (ap isTaken e)
+harmless-answer (r ∷ rs) h e =
+    picked-not (r .applies) (r .answer) (answerOf rs) (first-of (not (eqb (numberOf (r .answer)) 3) || not (r .applies)) (harmless rs) h)
+    (harmless-answer rs (second-of (not (eqb (numberOf (r .answer)) 3) || not (r .applies)) (harmless rs) h)) e
+
+module _ (w : World) (s : Session) (line more : List ℕ) (room : ℕ) where
+  record-harmless : (i : ℕ) (c : Command) → harmless (recordRows w line i c) ≡ true
+  unfolding numberOf
+  record-harmless i (item it) = refl
+  record-harmless i (Length l) = refl
+  record-harmless i (Width m) = refl
+  record-harmless i (Turn t) = refl
+  record-harmless i (Start n) = refl
+  record-harmless i End = refl
+  record-harmless i (Retrieve n) = refl
+  record-harmless i (EraseForm n) = refl
+  record-harmless i ListForms = refl
+  record-harmless i (PrintForm n) = refl
+  record-harmless i (Store p) = refl
+  record-harmless i ListPictures = refl
+  record-harmless i (ErasePicture n) = refl
+  record-harmless i (SetVariable v) = refl
+  record-harmless i (SetCounter c) = refl
+  record-harmless i Clear = refl
+  record-harmless i (Print p) = refl
+  record-harmless i White = refl
+
+  run-harmless : (c : Command) → harmless (runRows w s line more room c) ≡ true
+  unfolding numberOf
+  run-harmless (item it) = refl
+  run-harmless (Length l) = refl
+  run-harmless (Width m) = refl
+  run-harmless (Turn t) = refl
+  run-harmless (Start n) = refl
+  run-harmless End = refl
+  run-harmless (Retrieve n) = refl
+  run-harmless (EraseForm n) = refl
+  run-harmless ListForms = refl
+  run-harmless (PrintForm n) = refl
+  run-harmless (Store p) = refl
+  run-harmless ListPictures = refl
+  run-harmless (ErasePicture n) = refl
+  run-harmless (SetVariable v) = refl
+  run-harmless (SetCounter c) = refl
+  run-harmless Clear = refl
+  run-harmless (Print p) = refl
+  run-harmless White = refl
+
+  placed-harmless : (f : Found) (c : Command) → harmless (placedRows w s line more room c f) ≡ true
+  placed-harmless (At i) c = record-harmless i c
+  placed-harmless Nothing c = run-harmless c
+
+  line-harmless : (r : Read) → harmless (lineRows w s line more room r) ≡ true
+  unfolding numberOf
+  line-harmless (Refused (form p)) = refl
+  line-harmless (Refused (Limit p)) = refl
+  line-harmless (Reads c) = placed-harmless (recorded (w .directory)) c
+
+front-harmless : (w : World) (s : Session) (input : List ℕ) (room : ℕ) (f : Front) → harmless (frontRows w s input room f) ≡ true
+unfolding numberOf
+front-harmless w s input room Short = refl
+front-harmless w s input room (LongLine k) = refl
+front-harmless w s input room (Idle k) = refl
+front-harmless w s input room (Line n k) = line-harmless w s (lineOf input n) (moreOf input n k) room (readOf (rowsOf w) (lineOf input n))
+
+-- ---- the calls
+
+module _ (s : Session) (font : List ℕ) (w : World) (h : sound s w ≡ true) where
+  command-harmless : (room : ℕ) (input : List ℕ) → harmless (commandTable s font w room input) ≡ true
+  unfolding commandTable numberOf
+  command-harmless room input = rw h (front-harmless w s input room (frontOf input))
+
+  label-harmless : (page : ℕ) → harmless (labelTable s font w page) ≡ true
+  unfolding labelTable numberOf
+  label-harmless page = rw h
+
+  settled-never : (b : Bool) (x y : After) → x .outcome .answer ≡ Taken → (y .outcome .answer ≡ Unsound → ⊥) → settled b x y .outcome .answer ≡ Unsound → ⊥
+  unfolding isTaken numberOf
+  settled-never true x y p q e = true≢false (ap isTaken (sym p ∙ e))
+  settled-never false x y p q e = q e
+
+  settled-label-never : (b : Bool) (x y : Drawn) → x .outcome .answer ≡ Taken → (y .outcome .answer ≡ Unsound → ⊥) → settledLabel b x y .outcome .answer ≡ Unsound → ⊥
+  unfolding isTaken numberOf
+  settled-label-never true x y p q e = true≢false (ap isTaken (sym p ∙ e))
+  settled-label-never false x y p q e = q e
+
+  pub command-never : (output input : List ℕ) → commanded s font w output input .outcome .answer ≡ Unsound → ⊥
+  unfolding commanded
+  command-never output input =
+      let rows = commandTable s font w (length output) input in
+      settled-never (isTaken (answerOf rows)) _ (refused (answerOf rows) (readBy (answerOf rows) input) s w output) refl
+      (harmless-answer rows (command-harmless (length output) input))
+
+  pub label-never : (page : List ℕ) → labelledBy s font w page .outcome .answer ≡ Unsound → ⊥
+  unfolding labelledBy
+  label-never page =
+      let rows = labelTable s font w (length page) in
+      settled-label-never (isTaken (answerOf rows)) _ (drawnBy (labelled (answerOf rows) s) page) refl (harmless-answer rows (label-harmless (length page)))

@@ -1,0 +1,204 @@
+-- While a form is recorded: a line is kept behind it, FE ends it.
+-- Assumes nothing.
+use mathlib.Core.Path.{_≡_, refl, sym, ap, _∙_}
+use mathlib.Core.Bool.{Bool, true, false, _&&_, _||_, false≢true}
+use mathlib.Core.List.{List, [], _∷_, _++_}
+use Prim.Native.Nat.{ℕ, _≤_, _<_}
+use native.Mathlib.Omega.{arith}
+use lib.ListN.{length, length-append}
+use lib.Dec.{eqb, leb}
+use borrow.Author.Tests.{eq-eqb, eqb-true, le-leb}
+use Rattle.cells.proofs.Counts.{and-left, and-both}
+use Rattle.cells.proofs.Scan.{lowest-passes}
+use Rattle.store.specs.declared.Found.the-variants.{At}
+use Rattle.store.specs.Entry.{entries, entry, kind, name}
+use Rattle.store.specs.Find.{isRecording, recorded}
+use Rattle.store.proofs.Finding.{at-says}
+use Rattle.moves.specs.Memory.{memory}
+use Rattle.moves.specs.Grow.{canGrow, appended}
+use Rattle.moves.specs.Start.{finished}
+use Rattle.store_sound.specs.Shelf.{held, heldOf}
+use Rattle.store_sound.proofs.Listing.{shelf-at}
+use Rattle.store_sound.proofs.Grow.{append-moved}
+use Rattle.store_sound.proofs.Finish.{finish-moved}
+use Rattle.values.specs.declared.declarations.Declared.{Declared}
+use Rattle.values.specs.Stored.{allSet}
+use Rattle.read.specs.Commands.{readOf}
+use Rattle.read.specs.declared.Item.{Item}
+use Rattle.read.specs.declared.Command.{Command}
+use Rattle.read.specs.declared.Command.the-variants.{
+  Item as item,
+  Length,
+  Width,
+  Turn,
+  Start,
+  End,
+  Retrieve,
+  EraseForm,
+  ListForms,
+  PrintForm,
+  Store,
+  ListPictures,
+  ErasePicture,
+  SetVariable,
+  SetCounter,
+  Clear,
+  Print,
+  White,
+}
+use Rattle.read.specs.declared.Read.the-variants.{Taken as Reads}
+use Rattle.normal.specs.Written.{normal, takenItem, equal, isNormal}
+use Rattle.normal.proofs.Round.{normal-line, item-rows}
+use Rattle.normal.proofs.Short.{normal-short}
+use Rattle.forms.specs.declared.Verdict.{Verdict}
+use Rattle.forms.specs.declared.Verdict.the-variants.{Taken as Fine, Again as Before, Undeclared as Unknown, Past as Reaches, Unfit as Wrong}
+use Rattle.forms.specs.declared.Stored.the-variants.{Holds, Nothing as NoItem}
+use Rattle.forms.specs.Judged.{judged, isTaken as isFine}
+use Rattle.forms.specs.Form.{formOk, declaredOf, itemIn, heldRead, pickStored, takesStored, takes, picturesStored}
+use Rattle.forms.proofs.Growing.{formOk-grows}
+use Rattle.sound.specs.Sound.{owedOk}
+use Rattle.session.specs.declared.Session.{Session}
+use Rattle.session.specs.declared.answers.Answer.the-variants.{Taken, Missing, Again, Undeclared, Past, Unfit, Full}
+use Rattle.session.specs.Answers.{Row, isTaken, numberOf, answerOf}
+use Rattle.session.specs.Lent.{World, rowsOf}
+use Rattle.commands.specs.World.{memoryOf, contentAt, activeOf, activeDeclared}
+use Rattle.commands.specs.Rows.{isBefore, isUnknown, isReaching, isWrong, verdictRows, recordRows}
+use Rattle.commands.specs.Does.{records}
+use Rattle.keeps_sound.specs.Good.{Good}
+use Rattle.keeps_sound.proofs.Tables.{clear, not-no}
+use Rattle.keeps_sound.proofs.OneLine.{normal-inside}
+use Rattle.keeps_sound.proofs.Judging.{normal-judged}
+use Rattle.keeps_sound.proofs.Stored.{heldOk, contents-at, activity-facts, good-moved}
+
+-- ---- the form that is recorded
+
+pub recorded-is : (directory : List ℕ) (i : ℕ) → recorded directory ≡ At i → (i < entries directory) × (kind (entry directory i) ≡ 3)
+recorded-is directory i e =
+    let a = at-says (isRecording directory) (entries directory) i e in
+    let t : isRecording directory i ≡ true = ap (isRecording directory) (sym (a .0)) ∙ lowest-passes (isRecording directory) (entries directory) (omega (arith, a .0, a .1)) in
+    (a .1, eqb-true _ 3 t)
+
+none-left : (n : ℕ) (b : Bool) → (eqb n 0 || (false && b)) ≡ true → n ≡ 0
+none-left n b h = go (eqb n 0) refl h
+  where
+    go : (t : Bool) → eqb n 0 ≡ t → (t || false) ≡ true → n ≡ 0
+    go true e k = eqb-true n 0 e
+    go false e k = absurd (false≢true k)
+
+-- "labels owed only when nothing is recorded"
+pub recording-owes-none : (s : Session) (w : World) (i : ℕ) → Good s w → recorded (w .directory) ≡ At i → s .owed ≡ 0
+unfolding owedOk
+recording-owes-none s w i g e =
+    let o = activity-facts s (w .directory) (activeOf w s) (w .values) (g .activity) .owed in
+    none-left (s .owed) (allSet (activeDeclared w s) (w .values) (s .counters) && picturesStored (w .directory) (activeOf w s)) (rw e at o)
+
+-- what is recorded so far is a form
+recorded-form : (s : Session) (w : World) (i : ℕ) → Good s w → i < entries (w .directory) → kind (entry (w .directory) i) ≡ 3 → formOk (contentAt w i) ≡ true
+recorded-form s w i g b k =
+    let h : heldOk (heldOf (w .store) (w .links) (entry (w .directory) i)) ≡ true =
+    ap heldOk (sym (shelf-at (w .store) (w .links) (w .directory) i b)) ∙ contents-at (memoryOf w) (g .contents) i b in
+    and-left (formOk (contentAt w i)) _ (rw k at h)
+
+not-active : (k : ℕ) → k ≡ 3 → k ≡ 1 → ⊥
+not-active k a b = omega arith
+
+module _ (s : Session) (w : World) (g : Good s w) (i : ℕ) (e : recorded (w .directory) ≡ At i) where
+  here : i < entries (w .directory)
+  here = recorded-is (w .directory) i e .0
+
+  three : kind (entry (w .directory) i) ≡ 3
+  three = recorded-is (w .directory) i e .1
+
+  none-owed : s .owed ≡ 0
+  none-owed = recording-owes-none s w i g e
+
+  form : formOk (contentAt w i) ≡ true
+  form = recorded-form s w i g here three
+
+  -- FE
+  pub keeps-end : (line : List ℕ) → Good (records w s line i End .session) (records w s line i End .world)
+  keeps-end line =
+      good-moved s w g none-owed (memory (w .store) (w .links) (finished (w .directory) i)) i (held 1 (name (entry (w .directory) i)) (contentAt w i))
+      (finish-moved (w .store) (w .links) (w .directory) i (g .store) here three) here (rw form) (λ a. not-active _ three)
+
+-- ---- a line
+
+verdict-fine : (v : Verdict) (rows : List Row) → answerOf (verdictRows v rows) ≡ Taken → (v ≡ Fine) × (answerOf rows ≡ Taken)
+unfolding isTaken numberOf
+verdict-fine v rows h =
+    let a = clear Again _ _ refl h in
+    let b = clear Undeclared _ _ refl (a .1) in
+    let c = clear Past _ _ refl (b .1) in
+    let d = clear Unfit _ _ refl (c .1) in
+    (go v (a .0) (b .0) (c .0) (d .0), d .1)
+  where
+    go : (v : Verdict) → isBefore v ≡ false → isUnknown v ≡ false → isReaching v ≡ false → isWrong v ≡ false → v ≡ Fine
+    go Fine p q r t = refl
+    go Before p q r t = absurd (false≢true (sym p))
+    go Unknown p q r t = absurd (false≢true (sym q))
+    go Reaches p q r t = absurd (false≢true (sym r))
+    go Wrong p q r t = absurd (false≢true (sym t))
+
+equal-self : (l : List ℕ) → equal l l ≡ true
+unfolding equal
+equal-self [] = refl
+equal-self (x ∷ l) = and-both (eqb x x) (equal l l) (eq-eqb x x refl) (equal-self l)
+
+-- a line in normal form holds what it is read as
+normal-holds : (l : List ℕ) (i : Item) → length l ≤ 255 → readOf 1 l ≡ Reads (item i) → normal l ≡ l → itemIn l ≡ Holds i
+unfolding itemIn isNormal
+normal-holds l i h r n =
+    let t : (leb (length l) 255 && (takenItem (readOf 1 l) && equal (normal l) l)) ≡ true =
+    and-both _ _ (le-leb (length l) 255 h) (and-both _ _ (ap takenItem r) (ap (λ (x : List ℕ). equal x l) n ∙ equal-self l)) in
+    ap (λ (b : Bool). pickStored b (heldRead (readOf 1 l)) NoItem) t ∙ ap heldRead r
+
+-- "recording would take" the normal form of a line that is taken
+pub normal-takes : (rows : ℕ) (d : Declared) (line : List ℕ) (it : Item) → readOf rows line ≡ Reads (item it) → length line ≤ 255
+    → judged d line it ≡ Fine → takes d (normal line) ≡ true
+unfolding takes
+normal-takes rows d line it r h v =
+    let n = normal-line rows line it r in
+    ap (takesStored d (normal line)) (normal-holds (normal line) (n .back) (normal-short rows line it r h) (item-rows rows 1 (normal line) (n .back) (n .read)) (n .again))
+    ∙ ap isFine (normal-judged rows d line it r n ∙ v)
+
+module _ (s : Session) (w : World) (g : Good s w) (i : ℕ) (e : recorded (w .directory) ≡ At i) where
+  -- a recorded line
+  pub keeps-recorded : (line : List ℕ) (it : Item) → readOf (rowsOf w) line ≡ Reads (item it) → length line ≤ 255
+      → answerOf (recordRows w line i (item it)) ≡ Taken
+      → Good (records w s line i (item it) .session) (records w s line i (item it) .world)
+  unfolding isTaken numberOf
+  keeps-recorded line it r h c =
+      let c₁ = clear Missing _ _ refl c in
+      let c₂ = verdict-fine (judged (declaredOf (contentAt w i)) line it) _ (c₁ .1) in
+      let c₃ = clear Full _ _ refl (c₂ .1) in
+      let more : List ℕ = normal line ++ (10 ∷ []) in
+      let can : canGrow (w .links) (entry (w .directory) i) (length more) ≡ true =
+      ap (canGrow (w .links) (entry (w .directory) i)) (length-append (normal line) (10 ∷ [])) ∙ not-no _ (c₃ .0) in
+      let grown : formOk (contentAt w i ++ more) ≡ true =
+      formOk-grows (contentAt w i) (normal line) (form s w g i e) (normal-inside (rowsOf w) line it r)
+      (normal-takes (rowsOf w) (declaredOf (contentAt w i)) line it r h (c₂ .0)) in
+      good-moved s w g (none-owed s w g i e) (appended (memoryOf w) i more) i (held (kind (entry (w .directory) i)) (name (entry (w .directory) i)) (contentAt w i ++ more))
+      (append-moved (w .store) (w .links) (w .directory) i more (g .store) (here s w g i e) can) (here s w g i e)
+      (rw (three s w g i e, grown)) (λ a. not-active _ (three s w g i e))
+
+  -- every command while a form is recorded
+  pub keeps-records : (line : List ℕ) (c : Command) → readOf (rowsOf w) line ≡ Reads c → length line ≤ 255
+      → answerOf (recordRows w line i c) ≡ Taken → Good (records w s line i c .session) (records w s line i c .world)
+  keeps-records line (item it) r h a = keeps-recorded line it r h a
+  keeps-records line (Length l) r h a = g
+  keeps-records line (Width m) r h a = g
+  keeps-records line (Turn t) r h a = g
+  keeps-records line (Start n) r h a = g
+  keeps-records line End r h a = keeps-end s w g i e line
+  keeps-records line (Retrieve n) r h a = g
+  keeps-records line (EraseForm n) r h a = g
+  keeps-records line ListForms r h a = g
+  keeps-records line (PrintForm n) r h a = g
+  keeps-records line (Store p) r h a = g
+  keeps-records line ListPictures r h a = g
+  keeps-records line (ErasePicture n) r h a = g
+  keeps-records line (SetVariable v) r h a = g
+  keeps-records line (SetCounter c) r h a = g
+  keeps-records line Clear r h a = g
+  keeps-records line (Print p) r h a = g
+  keeps-records line White r h a = g

@@ -1,0 +1,105 @@
+-- FS and GM: a new entry, empty or with all its bytes.
+-- Assumes nothing.
+use mathlib.Core.Path.{_≡_, refl, sym}
+use mathlib.Core.Bool.{true, false, false≢true}
+use mathlib.Core.List.{List, []}
+use Prim.Native.Nat.{ℕ, _<_}
+use native.Mathlib.Omega.{arith}
+use lib.ListN.{length}
+use borrow.Author.Tests.{eqb-true, lt-ltb}
+use Rattle.cells.proofs.Counts.{and-both}
+use Rattle.cells.proofs.Scan.{lowest-passes}
+use Rattle.store.specs.declared.Found.{Found}
+use Rattle.store.specs.declared.Found.the-variants.{At, Nothing}
+use Rattle.store.specs.Entry.{entries, entry, kind}
+use Rattle.store.specs.Find.{isEmpty, recorded}
+use Rattle.moves.specs.Start.{lowestEntry, hasRoom, started, canKeep, kept}
+use Rattle.store_sound.specs.Shelf.{held}
+use Rattle.store_sound.proofs.Start.{MayStart, room-says, start-moved}
+use Rattle.store_sound.proofs.Keep.{keep-moved}
+use Rattle.picture.specs.Rules.{legal}
+use Rattle.picture.proofs.Rules.{legal-says}
+use Rattle.read.specs.declared.Named.{Named}
+use Rattle.read.specs.declared.StorePicture.{StorePicture}
+use Rattle.read.specs.declared.Command.the-variants.{Start, Store}
+use Rattle.read.specs.declared.Read.the-variants.{Taken as Reads}
+use Rattle.read.specs.Commands.{readOf}
+use Rattle.read.specs.Names.{packedOf}
+use Rattle.forms.specs.Form.{isAt}
+use Rattle.forms.proofs.Growing.{formOk-empty}
+use Rattle.session.specs.declared.Session.{Session}
+use Rattle.session.specs.declared.answers.Answer.the-variants.{Taken, InUse, Illegal, Full}
+use Rattle.session.specs.Answers.{isTaken, numberOf, answerOf}
+use Rattle.session.specs.Lent.{World, rowsOf}
+use Rattle.commands.specs.World.{memoryOf}
+use Rattle.commands.specs.Rows.{lookup, named, runRows}
+use Rattle.commands.specs.Does.{runs}
+use Rattle.keeps_sound.specs.Good.{Good}
+use Rattle.keeps_sound.proofs.Tables.{clear, not-no}
+use Rattle.keeps_sound.proofs.Titles.{start-title, store-title}
+use Rattle.keeps_sound.proofs.Stored.{good-moved}
+
+none-found : (f : Found) → isAt f ≡ false → f ≡ Nothing
+none-found (At i) e = absurd (false≢true (sym e))
+none-found Nothing e = refl
+
+-- the entry that is taken is empty: it is not the active form's
+empty-there : (links directory : List ℕ) (size : ℕ) → hasRoom links directory size ≡ true
+    → (lowestEntry directory < entries directory) × (kind (entry directory (lowestEntry directory)) ≡ 0)
+empty-there links directory size h =
+    let b = room-says links directory size h .0 in
+    (b, eqb-true _ 0 (lowest-passes (isEmpty directory) (entries directory) b))
+
+module _ (s : Session) (w : World) (g : Good s w) (z : s .owed ≡ 0) (quiet : recorded (w .directory) ≡ Nothing) where
+  apart : (size : ℕ) → hasRoom (w .links) (w .directory) size ≡ true → s .active ≡ lowestEntry (w .directory)
+      → kind (entry (w .directory) (lowestEntry (w .directory))) ≡ 1 → ⊥
+  apart size h e k = let o = empty-there (w .links) (w .directory) size h .1 in let x : ⊥ = omega arith in x
+
+  -- FS
+  pub keeps-start : (font line more : List ℕ) (room : ℕ) (n : Named) → readOf (rowsOf w) line ≡ Reads (Start n)
+      → answerOf (runRows w s line more room (Start n)) ≡ Taken
+      → Good (runs font w s line more (Start n) .session) (runs font w s line more (Start n) .world)
+  unfolding isTaken numberOf
+  keeps-start font line more room n r c =
+      let c₁ = clear InUse _ _ refl c in
+      let c₂ = clear Full _ _ refl (c₁ .1) in
+      let title : List ℕ = packedOf line (n .at) (n .length) in
+      let can : hasRoom (w .links) (w .directory) 0 ≡ true = not-no _ (c₂ .0) in
+      let may : MayStart (w .store) (w .links) (w .directory) 3 title = record {
+        sound = g .store;
+        some = omega arith;
+        low = omega arith;
+        long = refl;
+        legal = start-title (rowsOf w) line n r;
+        fresh = none-found (named w false line n) (c₁ .0);
+        quiet = λ e. quiet;
+      } in
+      good-moved s w g z (started (memoryOf w) 3 title) (lowestEntry (w .directory)) (held 3 title [])
+      (start-moved (w .store) (w .links) (w .directory) 3 title may can)
+      (empty-there (w .links) (w .directory) 0 can .0) (rw formOk-empty) (apart 0 can)
+
+  -- GM
+  pub keeps-picture : (font line more : List ℕ) (room : ℕ) (p : StorePicture) → readOf (rowsOf w) line ≡ Reads (Store p)
+      → answerOf (runRows w s line more room (Store p)) ≡ Taken
+      → Good (runs font w s line more (Store p) .session) (runs font w s line more (Store p) .world)
+  unfolding isTaken numberOf
+  keeps-picture font line more room p r c =
+      let c₁ = clear InUse _ _ refl c in
+      let c₂ = clear Illegal _ _ refl (c₁ .1) in
+      let c₃ = clear Full _ _ refl (c₂ .1) in
+      let title : List ℕ = packedOf line (p .at) (p .length) in
+      let fine : legal more ≡ true = not-no _ (c₂ .0) in
+      let can : hasRoom (w .links) (w .directory) (length more) ≡ true = not-no _ (c₃ .0) in
+      let keep : canKeep (memoryOf w) (length more) ≡ true = and-both _ _ (lt-ltb (length more) 4294967296 (omega (arith, legal-says more fine .header .long))) can in
+      let may : MayStart (w .store) (w .links) (w .directory) 2 title = record {
+        sound = g .store;
+        some = omega arith;
+        low = omega arith;
+        long = refl;
+        legal = store-title (rowsOf w) line p r;
+        fresh = none-found (lookup w true line (p .at) (p .length)) (c₁ .0);
+        quiet = λ e. quiet;
+      } in
+      good-moved s w g z (kept (memoryOf w) 2 title more) (lowestEntry (w .directory)) (held 2 title more)
+      (keep-moved (w .store) (w .links) (w .directory) 2 title more may keep)
+      (empty-there (w .links) (w .directory) (length more) can .0) fine (apart (length more) can)

@@ -1,0 +1,306 @@
+-- The name under which FS and GM store: a line that is read gives one that an entry may bear.
+-- Assumes nothing.
+use mathlib.Core.Path.{_≡_, refl, sym, ap, _∙_, subst}
+use mathlib.Core.Bool.{Bool, true, false, not, cond, _&&_, _||_, false≢true, and-false}
+use mathlib.Core.List.{List, [], _∷_}
+use mathlib.Core.Logic.{⊎-elim}
+use Prim.Native.Nat.{ℕ, zero, suc, _+_, _≤_, _<_}
+use native.Mathlib.Omega.{arith}
+use lib.ListN.{length, getD, drop}
+use lib.Seq.{getD-drop}
+use lib.Dec.{eqb, leb, ltb}
+use borrow.Author.Tests.{eq-eqb, eqb-true, leb-true, leb-false, le-leb, lt-leb, lt-ltb, le-ltb, ltb-true, ltb-false}
+use Rattle.kinds.specs.Bytes.{between}
+use Rattle.cells.specs.Count.{allTo}
+use Rattle.cells.specs.Scan.{lowest}
+use Rattle.cells.proofs.Counts.{same?, and-both, all-at, all-of}
+use Rattle.cells.proofs.Scan.{either, lowest-passes, lowest-first, lowest-most}
+use Rattle.fields.specs.declared.Class.{Class}
+use Rattle.fields.specs.declared.Class.the-variants.{Named as NameByte}
+use Rattle.fields.specs.declared.Limits.{Limits}
+use Rattle.fields.specs.declared.Limits.the-variants.{Within, Outside}
+use Rattle.fields.specs.Bytes.{inClass, run}
+use Rattle.fields.specs.Field.{runAt}
+use Rattle.moves.specs.Start.{nameEnd}
+use Rattle.store_sound.specs.Sound.{legalByte, nameByteOk}
+use Rattle.store_sound.specs.Shelf.{titleOk}
+use Rattle.read.specs.Grammar.{Got, good, bad, rowOf, boundsOf, headOf, fieldsFrom, limitsFrom, fieldLimits, firstOf, isNumber, beyond, spread, free, named}
+use Rattle.read.specs.Names.{capital, nameByte, packedOf}
+use Rattle.read.specs.Commands.{readOf, headed, judged, decided, commandOf, itemOf, orderOf, isItem}
+use Rattle.read.specs.declared.Head.{Head}
+use Rattle.read.specs.declared.Head.the-variants.{Row, Unknown}
+use Rattle.read.specs.declared.Read.the-variants.{Taken as Reads}
+use Rattle.read.specs.declared.Named.{Named}
+use Rattle.read.specs.declared.StorePicture.{StorePicture}
+use Rattle.read.specs.declared.Command.{Command}
+use Rattle.read.specs.declared.Command.the-variants.{
+  Item as item,
+  Length,
+  Width,
+  Turn,
+  Start,
+  End,
+  Retrieve,
+  EraseForm,
+  ListForms,
+  PrintForm,
+  Store,
+  ListPictures,
+  ErasePicture,
+  SetVariable,
+  SetCounter,
+  Clear,
+  Print,
+  White,
+}
+
+-- ---- a name in capitals is a title
+
+-- a byte of a name, made a capital, is legal
+legal-case : ℕ → Bool
+legal-case b = not (inClass NameByte b) || legalByte (capital b)
+
+all-legal : allTo legal-case 127 ≡ true
+unfolding legal-case legalByte capital between
+all-legal = refl
+
+name-small : (b : ℕ) → inClass NameByte b ≡ true → b < 127
+unfolding between
+name-small b h = ⊎-elim
+    (λ (y : leb b 126 ≡ true). omega (arith, leb-true b 126 y))
+    (λ (y : leb b 126 ≡ false).
+    let l : 126 < b = leb-false b 126 y in
+    absurd (false≢true (sym (simp (lt-leb b 33 (omega arith), lt-leb b 41 (omega arith), lt-leb b 126 (omega arith), and-false)) ∙ h)))
+    (either (leb b 126))
+
+capital-legal : (b : ℕ) → inClass NameByte b ≡ true → legalByte (capital b) ≡ true
+unfolding legal-case
+capital-legal b h = rw h at (all-at legal-case 127 all-legal b (name-small b h))
+
+-- a legal byte is no zero
+legal-some : (c : ℕ) → legalByte c ≡ true → c ≡ 0 → ⊥
+unfolding legalByte
+legal-some c h e = false≢true (rw e at h)
+
+-- the bytes of a run are of its class
+run-at : (k : Class) (l : List ℕ) (i : ℕ) → i < run k l → inClass k (getD l i 0) ≡ true
+unfolding run
+run-at k [] i h = absurd (omega arith)
+run-at k (b ∷ bs) i h = go (inClass k b) refl i h (run-at k bs)
+  where
+    go : (t : Bool) → inClass k b ≡ t → (i : ℕ) → i < cond t (suc (run k bs)) 0 → ((j : ℕ) → j < run k bs → inClass k (getD bs j 0) ≡ true)
+        → inClass k (getD (b ∷ bs) i 0) ≡ true
+    go true e zero h r = e
+    go true e (suc i) h r = r i (omega arith)
+    go false e i h r = absurd (omega arith)
+
+module _ (s : List ℕ) (p n : ℕ) (some : 1 ≤ n) (few : n ≤ 8) (name : runAt NameByte s (p + 1) ≡ n) where
+  abbrev title : List ℕ
+  title = packedOf s p n
+
+  title-at : (k : ℕ) → k < 8 → getD title k 0 ≡ nameByte s p n k
+  title-at zero h = refl
+  title-at (suc zero) h = refl
+  title-at (suc (suc zero)) h = refl
+  title-at (suc (suc (suc zero))) h = refl
+  title-at (suc (suc (suc (suc zero)))) h = refl
+  title-at (suc (suc (suc (suc (suc zero))))) h = refl
+  title-at (suc (suc (suc (suc (suc (suc zero)))))) h = refl
+  title-at (suc (suc (suc (suc (suc (suc (suc zero))))))) h = refl
+  title-at (suc (suc (suc (suc (suc (suc (suc (suc k)))))))) h = absurd (omega arith)
+
+  title-in : (k : ℕ) → k < n → legalByte (getD title k 0) ≡ true
+  unfolding nameByte
+  title-in k h =
+      let c : inClass NameByte (getD s (p + 1 + k) 0) ≡ true = rw (getD-drop (p + 1) s k 0) at (run-at NameByte (drop (p + 1) s) k (omega arith)) in
+      ap legalByte (title-at k (omega arith) ∙ rw (lt-ltb k n h)) ∙ capital-legal (getD s (p + 1 + k) 0) c
+
+  title-out : (k : ℕ) → n ≤ k → k < 8 → getD title k 0 ≡ 0
+  unfolding nameByte
+  title-out k h l = title-at k l ∙ rw (le-ltb k n h)
+
+  abbrev isZero : ℕ → Bool
+  isZero k = eqb (getD title k 0) 0
+
+  title-end : nameEnd title ≡ n
+  unfolding nameEnd
+  title-end =
+      let most = lowest-most isZero 8 in
+      let up : lowest isZero 8 ≤ n = ⊎-elim
+      (λ (y : n ≡ 8). omega arith)
+      (λ (y : n ≡ 8 → ⊥). lowest-first isZero 8 n (omega arith) (eq-eqb _ 0 (title-out n (omega arith) (omega arith))))
+      (same? n 8) in
+      ⊎-elim
+      (λ (y : lowest isZero 8 ≡ n). y)
+      (λ (y : lowest isZero 8 ≡ n → ⊥).
+      let l : lowest isZero 8 < n = omega arith in
+      absurd (legal-some (getD title (lowest isZero 8) 0) (title-in (lowest isZero 8) l) (eqb-true _ 0 (lowest-passes isZero 8 (omega arith)))))
+      (same? (lowest isZero 8) n)
+
+  title-byte : (k : ℕ) → k < 8 → nameByteOk n title k ≡ true
+  unfolding nameByteOk
+  title-byte k l = ⊎-elim
+      (λ (y : ltb k n ≡ true). rw y (title-in k (ltb-true k n y)))
+      (λ (y : ltb k n ≡ false). rw y (eq-eqb _ 0 (title-out k (ltb-false k n y) l)))
+      (either (ltb k n))
+
+  pub title-legal : titleOk (packedOf s p n) ≡ true
+  unfolding titleOk
+  title-legal = rw title-end (and-both _ _ (and-both _ _ (le-leb 1 n some) (le-leb n 8 few)) (all-of (nameByteOk n title) 8 title-byte))
+
+-- ---- a line that is read: its row, its fields, within their limits
+
+pub record Parted (rows : ℕ) (s : List ℕ) (c : Command) : Type 0 where
+  pub row : ℕ
+  pub vs : List ℕ
+  pub ps : List ℕ
+  pub within : limitsFrom (rowOf row .fields) (boundsOf row rows) s 0 vs ps ≡ Within
+  pub command : commandOf row s vs ps ≡ c
+
+pub line-parted : (rows : ℕ) (s : List ℕ) (c : Command) → readOf rows s ≡ Reads c → Parted rows s c
+unfolding readOf headed judged
+line-parted rows s c h = go (headOf (getD s 0 0) (getD s 1 0)) h
+  where
+    within : (row : ℕ) (vs ps : List ℕ) (l : Limits) → limitsFrom (rowOf row .fields) (boundsOf row rows) s 0 vs ps ≡ l
+        → decided l (commandOf row s vs ps) ≡ Reads c → Parted rows s c
+    within row vs ps Within e d = record { row = row; vs = vs; ps = ps; within = e; command = cc }
+    within row vs ps (Outside p) e d = absurd (let z : _≡_ {A = ℕ} 0 1 = cc in omega arith)
+
+    fields : (row : ℕ) (g : Got) → judged row rows s g ≡ Reads c → Parted rows s c
+    fields row (good vs ps) d = within row vs ps (limitsFrom (rowOf row .fields) (boundsOf row rows) s 0 vs ps) refl d
+    fields row (bad p) d = absurd (let z : _≡_ {A = ℕ} 0 1 = cc in omega arith)
+
+    go : (x : Head) → headed x rows s ≡ Reads c → Parted rows s c
+    go (Row row) d = fields row (fieldsFrom (rowOf row .fields) s 0) d
+    go Unknown d = absurd (let z : _≡_ {A = ℕ} 0 1 = cc in omega arith)
+
+-- what a command says of the row that it is read by: an item is the row's, and of FS and GM the third field is the name
+unfoldable pub ReadBy : ℕ → List ℕ → List ℕ → Command → Type 0
+ReadBy row vs ps (item i) = (isItem row ≡ true) × (itemOf row vs ps ≡ i)
+ReadBy row vs ps (Length l) = Unit {0}
+ReadBy row vs ps (Width m) = Unit {0}
+ReadBy row vs ps (Turn t) = Unit {0}
+ReadBy row vs ps (Start n) = (row ≡ 12) × ((n .at ≡ getD ps 2 0) × (n .length ≡ getD vs 2 0))
+ReadBy row vs ps End = Unit {0}
+ReadBy row vs ps (Retrieve n) = Unit {0}
+ReadBy row vs ps (EraseForm n) = Unit {0}
+ReadBy row vs ps ListForms = Unit {0}
+ReadBy row vs ps (PrintForm n) = Unit {0}
+ReadBy row vs ps (Store p) = (row ≡ 20) × ((p .at ≡ getD ps 2 0) × (p .length ≡ getD vs 2 0))
+ReadBy row vs ps ListPictures = Unit {0}
+ReadBy row vs ps (ErasePicture n) = Unit {0}
+ReadBy row vs ps (SetVariable v) = Unit {0}
+ReadBy row vs ps (SetCounter c) = Unit {0}
+ReadBy row vs ps Clear = Unit {0}
+ReadBy row vs ps (Print p) = Unit {0}
+ReadBy row vs ps White = Unit {0}
+
+pub choice : {A : Type 0} (q : A → Type 0) (b : Bool) (x y : A) → (b ≡ true → q x) → q y → q (cond b x y)
+choice q true x y f g = f refl
+choice q false x y f g = g
+
+pub read-by : (row : ℕ) (s vs ps : List ℕ) → ReadBy row vs ps (commandOf row s vs ps)
+unfolding ReadBy orderOf
+read-by row s vs ps =
+    let q : (Command → Type 0) = ReadBy row vs ps in
+    choice q (isItem row) _ _ (λ e. (e, refl))
+    (choice q (eqb row 0) _ _ (λ e. tt)
+    (choice q (eqb row 1) _ _ (λ e. tt)
+    (choice q (eqb row 3) _ _ (λ e. tt)
+    (choice q (eqb row 4) _ _ (λ e. tt)
+    (choice q (eqb row 12) _ _ (λ e. (eqb-true row 12 e, (refl, refl)))
+    (choice q (eqb row 13) _ _ (λ e. tt)
+    (choice q (eqb row 14) _ _ (λ e. tt)
+    (choice q (eqb row 15) _ _ (λ e. tt)
+    (choice q (eqb row 16) _ _ (λ e. tt)
+    (choice q (eqb row 17) _ _ (λ e. tt)
+    (choice q (eqb row 18) _ _ (λ e. tt)
+    (choice q (eqb row 19) _ _ (λ e. tt)
+    (choice q (eqb row 20) _ _ (λ e. (eqb-true row 20 e, (refl, refl)))
+    (choice q (eqb row 21) _ _ (λ e. tt)
+    (choice q (eqb row 24) _ _ (λ e. tt)
+    (choice q (eqb row 25) _ _ (λ e. tt)
+    (choice q (eqb row 26) _ _ (λ e. tt)
+    tt)))))))))))))))))
+
+-- ---- its name is within its limits
+
+pub first-within : (a b : Limits) → firstOf a b ≡ Within → (a ≡ Within) × (b ≡ Within)
+first-within Within b h = (refl, h)
+first-within (Outside p) b h = absurd (let z : _≡_ {A = ℕ} 0 1 = cc in omega arith)
+
+third : (l : List ℕ) → getD (drop 1 (drop 1 l)) 0 0 ≡ getD l 2 0
+third [] = refl
+third (x ∷ []) = refl
+third (x ∷ (y ∷ l)) = refl
+
+-- a name field: 1 to 8 bytes, all of them a name's
+pub record Name (s : List ℕ) (p n : ℕ) : Type 0 where
+  pub some : 1 ≤ n
+  pub few : n ≤ 8
+  pub bytes : runAt NameByte s (p + 1) ≡ n
+
+name-field : (s : List ℕ) (u v p : ℕ) → fieldLimits 97 (1, 8) s u v p ≡ Within → Name s p v
+unfolding fieldLimits beyond between
+name-field s u v p h = go (leb 1 v) (leb v 8) (named s p v) refl refl refl h
+  where
+    go : (a b c : Bool) → leb 1 v ≡ a → leb v 8 ≡ b → named s p v ≡ c → cond ((a && b) && c) Within (Outside p) ≡ Within → Name s p v
+    go true true true x y z k = record { some = leb-true 1 v x; few = leb-true v 8 y; bytes = eqb-true (runAt NameByte s (p + 1)) v z }
+    go true true false x y z k = absurd (let w : _≡_ {A = ℕ} 0 1 = cc in omega arith)
+    go true false c x y z k = absurd (let w : _≡_ {A = ℕ} 0 1 = cc in omega arith)
+    go false b c x y z k = absurd (let w : _≡_ {A = ℕ} 0 1 = cc in omega arith)
+
+pub limits-rest : (f : ℕ) (fs : List ℕ) (ls : List (ℕ × ℕ)) (s : List ℕ) (u : ℕ) (vs ps : List ℕ) → limitsFrom (f ∷ fs) ls s u vs ps ≡ Within
+    → limitsFrom fs (drop 1 ls) s (cond (isNumber f) (getD vs 0 0) u) (drop 1 vs) (drop 1 ps) ≡ Within
+unfolding limitsFrom
+limits-rest f fs ls s u vs ps h =
+    first-within (fieldLimits f (getD ls 0 free) s u (getD vs 0 0) (getD ps 0 0))
+    (limitsFrom fs (drop 1 ls) s (cond (isNumber f) (getD vs 0 0) u) (drop 1 vs) (drop 1 ps)) h .1
+
+limits-name : (fs : List ℕ) (ls : List (ℕ × ℕ)) (s : List ℕ) (u : ℕ) (vs ps : List ℕ) → getD ls 0 free ≡ (1, 8) → limitsFrom (97 ∷ fs) ls s u vs ps ≡ Within
+    → Name s (getD ps 0 0) (getD vs 0 0)
+unfolding limitsFrom
+limits-name fs ls s u vs ps e h =
+    name-field s u (getD vs 0 0) (getD ps 0 0)
+    (ap (λ (l : ℕ × ℕ). fieldLimits 97 l s u (getD vs 0 0) (getD ps 0 0)) (sym e)
+    ∙ first-within (fieldLimits 97 (getD ls 0 free) s u (getD vs 0 0) (getD ps 0 0))
+    (limitsFrom fs (drop 1 ls) s (cond (isNumber 97) (getD vs 0 0) u) (drop 1 vs) (drop 1 ps)) h .0)
+
+third-name : (f g : ℕ) (fs : List ℕ) (ls : List (ℕ × ℕ)) (s : List ℕ) (u : ℕ) (vs ps : List ℕ) → getD (drop 1 (drop 1 ls)) 0 free ≡ (1, 8)
+    → limitsFrom (f ∷ (g ∷ (97 ∷ fs))) ls s u vs ps ≡ Within → Name s (getD ps 2 0) (getD vs 2 0)
+third-name f g fs ls s u vs ps e h =
+    let a = limits-rest f (g ∷ (97 ∷ fs)) ls s u vs ps h in
+    let b = limits-rest g (97 ∷ fs) (drop 1 ls) s (cond (isNumber f) (getD vs 0 0) u) (drop 1 vs) (drop 1 ps) a in
+    let c = limits-name fs (drop 1 (drop 1 ls)) s (cond (isNumber g) (getD (drop 1 vs) 0 0) (cond (isNumber f) (getD vs 0 0) u)) (drop 1 (drop 1 vs)) (drop 1 (drop 1 ps)) e b in
+    rw (third ps, third vs) at c
+
+start-name : (rows : ℕ) (s vs ps : List ℕ) → limitsFrom (rowOf 12 .fields) (boundsOf 12 rows) s 0 vs ps ≡ Within → Name s (getD ps 2 0) (getD vs 2 0)
+unfolding spread
+start-name rows s vs ps h = third-name 70 83 [] (boundsOf 12 rows) s 0 vs ps refl h
+
+store-name : (rows : ℕ) (s vs ps : List ℕ) → limitsFrom (rowOf 20 .fields) (boundsOf 20 rows) s 0 vs ps ≡ Within → Name s (getD ps 2 0) (getD vs 2 0)
+unfolding spread
+store-name rows s vs ps h = third-name 71 77 (44 ∷ (110 ∷ [])) (boundsOf 20 rows) s 0 vs ps refl h
+
+name-title : (s : List ℕ) (p n p′ n′ : ℕ) → p′ ≡ p → n′ ≡ n → Name s p n → titleOk (packedOf s p′ n′) ≡ true
+name-title s p n p′ n′ e f a = rw (e, f) (title-legal s p n (a .some) (a .few) (a .bytes))
+
+pub start-title : (rows : ℕ) (s : List ℕ) (n : Named) → readOf rows s ≡ Reads (Start n) → titleOk (packedOf s (n .at) (n .length)) ≡ true
+unfolding ReadBy
+start-title rows s n h =
+    let p = line-parted rows s (Start n) h in
+    let t : (p .row ≡ 12) × ((n .at ≡ getD (p .ps) 2 0) × (n .length ≡ getD (p .vs) 2 0)) =
+    subst (ReadBy (p .row) (p .vs) (p .ps)) (p .command) (read-by (p .row) s (p .vs) (p .ps)) in
+    name-title s (getD (p .ps) 2 0) (getD (p .vs) 2 0) (n .at) (n .length) (t .1 .0) (t .1 .1)
+    (start-name rows s (p .vs) (p .ps)
+    (subst (λ (k : ℕ). limitsFrom (rowOf k .fields) (boundsOf k rows) s 0 (p .vs) (p .ps) ≡ Within) (t .0) (p .within)))
+
+pub store-title : (rows : ℕ) (s : List ℕ) (x : StorePicture) → readOf rows s ≡ Reads (Store x) → titleOk (packedOf s (x .at) (x .length)) ≡ true
+unfolding ReadBy
+store-title rows s x h =
+    let p = line-parted rows s (Store x) h in
+    let t : (p .row ≡ 20) × ((x .at ≡ getD (p .ps) 2 0) × (x .length ≡ getD (p .vs) 2 0)) =
+    subst (ReadBy (p .row) (p .vs) (p .ps)) (p .command) (read-by (p .row) s (p .vs) (p .ps)) in
+    name-title s (getD (p .ps) 2 0) (getD (p .vs) 2 0) (x .at) (x .length) (t .1 .0) (t .1 .1)
+    (store-name rows s (p .vs) (p .ps)
+    (subst (λ (k : ℕ). limitsFrom (rowOf k .fields) (boundsOf k rows) s 0 (p .vs) (p .ps) ≡ Within) (t .0) (p .within)))

@@ -1,0 +1,26 @@
+-- Calls one after another: each is given the session that the call before it answered, and the lent memory as that call left it.
+-- Assumes nothing.
+use mathlib.Core.List.{List, [], _∷_}
+use Prim.Native.Nat.{ℕ}
+use Rattle.commands.specs.World.{State, state}
+use Rattle.station.specs.Station.{opened, commanded, labelledBy}
+use Rattle.session.specs.Lent.{World}
+
+-- a command call with its font, output and input, or a label call with its font and page
+pub data Call : Type 0 where
+  command : List ℕ → List ℕ → List ℕ → Call
+  label : List ℕ → List ℕ → Call
+
+abbrev pub called : State → Call → State
+called st (command font output input) =
+    state (commanded (st .session) font (st .world) output input .outcome .session) (commanded (st .session) font (st .world) output input .world)
+called st (label font page) = state (labelledBy (st .session) font (st .world) page .outcome .session) (st .world)
+
+-- what calls leave, one after another
+abbrev pub through : State → List Call → State
+through st [] = st
+through st (c ∷ cs) = through (called st c) cs
+
+-- what opening leaves
+abbrev pub openedState : List ℕ → World → State
+openedState page w = state (opened page w .outcome .session) (opened page w .world)

@@ -1,0 +1,16 @@
+-- Sound lent memory of right lengths, layer by layer.
+-- Assumes nothing.
+use mathlib.Core.Path.{_≡_}
+use mathlib.Core.Bool.{true, false}
+use Rattle.store_sound.specs.Sound.{storeSound}
+use Rattle.sound.specs.Sound.{numbersOk, backgroundOk, contentsOk, activeBytes, activitySound}
+use Rattle.session.specs.declared.Session.{Session}
+use Rattle.session.specs.Lent.{World, rowsOf, wrongLent}
+
+pub record Good (s : Session) (w : World) : Type 0 where
+  pub lengths : wrongLent w ≡ false
+  pub numbers : numbersOk (rowsOf w) s ≡ true
+  pub background : backgroundOk (s .width) (s .length) (w .background) ≡ true
+  pub store : storeSound (w .store) (w .links) (w .directory) ≡ true
+  pub contents : contentsOk (w .store) (w .links) (w .directory) ≡ true
+  pub activity : activitySound s (w .directory) (activeBytes (w .store) (w .links) (w .directory) (s .active)) (w .values) ≡ true

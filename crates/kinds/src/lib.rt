@@ -1,0 +1,122 @@
+// What data is for, and which bytes are fit for it.
+//
+// Paper 01 says under "Fit data" how many bytes a text or a bar symbol takes, and which. This crate has that paragraph for
+// bytes that are known: `fits` answers true exactly when the definition `fit` (specs/Fit.antt) holds. What becomes of data with
+// variables and counters in it stands in crate `values`, and the bars themselves in crate `bars`.
+ghost use mathlib.Core.Path.{_≡_};
+ghost use mathlib.Core.Bool.{_&&_};
+ghost use lib.ListN.{length};
+ghost use Rattle.kinds.specs.Bytes.{between, allIn};
+ghost use Rattle.kinds.specs.Fit.{inClass, fitLength, fit};
+
+// What the data is for: text that is shown (A), or bars of type 3, 2, E30 or 1 (B).
+pub enum Kind {
+    Shown,
+    Code39,
+    Interleaved,
+    Ean13,
+    Code128,
+}
+
+// Whether b is one of the bytes lo to hi.
+pub fn is_between(lo: u8, hi: u8, b: u8) -> bool
+    ensures { λ r. ⌜ r ≡ between lo hi b ⌝ }
+{
+    if b < lo {
+        return false;
+    }
+    b <= hi
+}
+
+fn is_39(b: u8) -> bool
+    ensures { λ r. ⌜ r ≡ inClass Kind.Code39 b ⌝ }
+{
+    if is_between(48, 57, b) {
+        return true;
+    }
+    if is_between(65, 90, b) {
+        return true;
+    }
+    match b {
+        b'-' => true,
+        b'.' => true,
+        b' ' => true,
+        b'$' => true,
+        b'/' => true,
+        b'+' => true,
+        b'%' => true,
+        _ => false,
+    }
+}
+
+// Whether a byte may stand in data of a kind.
+pub fn in_class(k: Kind, b: u8) -> bool
+    ensures { λ r. ⌜ r ≡ inClass k b ⌝ }
+{
+    match k {
+        Kind::Shown => true,
+        Kind::Code39 => is_39(b),
+        Kind::Interleaved => is_between(48, 57, b),
+        Kind::Ean13 => is_between(48, 57, b),
+        Kind::Code128 => is_between(32, 126, b),
+    }
+}
+
+// Whether every byte may.
+pub fn all_in(k: Kind, s: &[u8]) -> bool
+    ensures { λ r. ⌜ r ≡ allIn (inClass k) (now (s .entry)) ⌝ }
+{
+    let mut i = 0;
+    while i < s.len() {
+        if in_class(k, s[i]) {
+            i += 1;
+        } else {
+            return false;
+        }
+    }
+    true
+}
+
+fn some(n: usize) -> bool
+    ensures { λ r. ⌜ r ≡ fitLength Kind.Code39 n ⌝ }
+{
+    if n < 1 {
+        return false;
+    }
+    n <= 128
+}
+
+fn pairs(n: usize) -> bool
+    ensures { λ r. ⌜ r ≡ fitLength Kind.Interleaved n ⌝ }
+{
+    if n < 2 {
+        return false;
+    }
+    if 128 < n {
+        return false;
+    }
+    n % 2 == 0
+}
+
+// Whether data of a kind may have n bytes.
+pub fn fit_length(k: Kind, n: usize) -> bool
+    ensures { λ r. ⌜ r ≡ fitLength k n ⌝ }
+{
+    match k {
+        Kind::Shown => n <= 128,
+        Kind::Code39 => some(n),
+        Kind::Interleaved => pairs(n),
+        Kind::Ean13 => n == 12,
+        Kind::Code128 => some(n),
+    }
+}
+
+// Whether bytes are fit for a kind.
+pub fn fits(k: Kind, s: &[u8]) -> bool
+    ensures { λ r. ⌜ r ≡ fit k (now (s .entry)) ⌝ }
+{
+    if fit_length(k, s.len()) {
+        return all_in(k, s);
+    }
+    false
+}

@@ -1,0 +1,458 @@
+-- Each letter of the grammar: its field, written, reads back as it was, is written again the same, and stays within its limits.
+use mathlib.Core.Path.{_≡_, _∙_, refl, sym, ap}
+use mathlib.Core.Bool.{Bool, true, false, cond, _&&_, _||_}
+use mathlib.Core.List.{List, [], _∷_, _++_, append-assoc, append-nil}
+use Prim.Native.Nat.{ℕ, suc, _+_, _-_, _<_}
+use native.Mathlib.Omega.{arith}
+use native.Mathlib.Decide.{ℕ-discrete}
+use lib.Dec.{T, ltb, eqb}
+use lib.ListN.{length, getD, take, drop, length-append}
+use lib.Seq.{getD-append-seam, getD-append-add, drop-append-add, drop-cons, take-append-seam}
+use borrow.Author.Tests.{eq-eqb, ne-eqb, eqb-true}
+use Rattle.kinds.specs.Bytes.{between}
+use Rattle.fields.specs.declared.Class.the-variants.{Digit, Named, Mode, Side}
+use Rattle.fields.specs.declared.Field.the-variants.{Is, Not}
+use Rattle.fields.specs.declared.What.the-variants.{Text as Quote}
+use Rattle.fields.specs.declared.Limits.the-variants.{Within, Outside}
+use Rattle.fields.specs.Bytes.{inClass}
+use Rattle.fields.specs.Field.{runAt, textAt, typeAt, byteAt}
+use Rattle.fields.specs.Data.{elements}
+use Rattle.fields.proofs.Laws.{inside}
+use Rattle.read.specs.Grammar.{fieldAt, named, starred, beyond, fieldLimits}
+use Rattle.read.specs.Names.{capital}
+use Rattle.normal.specs.Written.{kept, cased, dataWritten, writtenField}
+use Rattle.normal.specs.Contents.{held}
+use Rattle.normal.proofs.Writes.{cased-kept}
+use Rattle.normal.proofs.Back.{allIn, run-all, run-in, number-back, text-back, byte-back, letter-back, signed-back, kept-back, number-fits, signed-fits, byte-fits, letter-fits, text-fits, cased-quoted, cased-named, cased-length, cased-twice, cased-quotes}
+use Rattle.normal.proofs.Data.{chain-of, data-inside, elements-back, data-back, data-again, limits-back, pieces-back}
+
+-- a byte that stands for itself
+pub record Plain (f : ℕ) : Type 0 where
+  pub no-n : eqb f 110 ≡ false
+  pub no-w : eqb f 119 ≡ false
+  pub no-s : eqb f 115 ≡ false
+  pub no-t : eqb f 116 ≡ false
+  pub no-u : eqb f 117 ≡ false
+  pub no-a : eqb f 97 ≡ false
+  pub no-z : eqb f 122 ≡ false
+  pub no-m : eqb f 109 ≡ false
+  pub no-j : eqb f 106 ≡ false
+  pub no-k : eqb f 107 ≡ false
+  pub no-d : eqb f 100 ≡ false
+
+pub data Letter : ℕ → Type 0 where
+  a-number : Letter 110
+  a-wide : Letter 119
+  a-step : Letter 115
+  a-prompt : Letter 116
+  a-text : Letter 117
+  a-name : Letter 97
+  a-star : Letter 122
+  a-mode : Letter 109
+  a-side : Letter 106
+  a-type : Letter 107
+  some-data : Letter 100
+  itself : {f : ℕ} → Plain f → Letter f
+
+pub letter-of : (f : ℕ) → Letter f
+letter-of f =
+    go (ℕ-discrete f 110) (ℕ-discrete f 119) (ℕ-discrete f 115) (ℕ-discrete f 116) (ℕ-discrete f 117) (ℕ-discrete f 97) (ℕ-discrete f 122)
+    (ℕ-discrete f 109)
+    (ℕ-discrete f 106)
+    (ℕ-discrete f 107)
+    (ℕ-discrete f 100)
+  where
+    go : Dec (f ≡ 110) → Dec (f ≡ 119) → Dec (f ≡ 115) → Dec (f ≡ 116) → Dec (f ≡ 117) → Dec (f ≡ 97) → Dec (f ≡ 122) → Dec (f ≡ 109)
+        → Dec (f ≡ 106)
+        → Dec (f ≡ 107)
+        → Dec (f ≡ 100)
+        → Letter f
+    go (yes e) b c d g h i j k l m = rw e a-number
+    go (no a) (yes e) c d g h i j k l m = rw e a-wide
+    go (no a) (no b) (yes e) d g h i j k l m = rw e a-step
+    go (no a) (no b) (no c) (yes e) g h i j k l m = rw e a-prompt
+    go (no a) (no b) (no c) (no d) (yes e) h i j k l m = rw e a-text
+    go (no a) (no b) (no c) (no d) (no g) (yes e) i j k l m = rw e a-name
+    go (no a) (no b) (no c) (no d) (no g) (no h) (yes e) j k l m = rw e a-star
+    go (no a) (no b) (no c) (no d) (no g) (no h) (no i) (yes e) k l m = rw e a-mode
+    go (no a) (no b) (no c) (no d) (no g) (no h) (no i) (no j) (yes e) l m = rw e a-side
+    go (no a) (no b) (no c) (no d) (no g) (no h) (no i) (no j) (no k) (yes e) m = rw e a-type
+    go (no a) (no b) (no c) (no d) (no g) (no h) (no i) (no j) (no k) (no l) (yes e) = rw e some-data
+    go (no a) (no b) (no c) (no d) (no g) (no h) (no i) (no j) (no k) (no l) (no m) =
+        itself
+        (record {
+          no-n = ne-eqb f 110 a;
+          no-w = ne-eqb f 119 b;
+          no-s = ne-eqb f 115 c;
+          no-t = ne-eqb f 116 d;
+          no-u = ne-eqb f 117 g;
+          no-a = ne-eqb f 97 h;
+          no-z = ne-eqb f 122 i;
+          no-m = ne-eqb f 109 j;
+          no-j = ne-eqb f 106 k;
+          no-k = ne-eqb f 107 l;
+          no-d = ne-eqb f 100 m;
+        })
+
+-- what a field asks of the bytes after it
+abbrev pub After : {f : ℕ} → Letter f → List ℕ → Type 0
+After a-number rest = inClass Digit (getD rest 0 0) ≡ false
+After a-wide rest = inClass Digit (getD rest 0 0) ≡ false
+After a-step rest = inClass Digit (getD rest 0 0) ≡ false
+After a-prompt rest = Unit {0}
+After a-text rest = Unit {0}
+After a-name rest = Unit {0}
+After a-star rest = Unit {0}
+After a-mode rest = Unit {0}
+After a-side rest = Unit {0}
+After a-type rest = Unit {0}
+After some-data rest = rest ≡ []
+After (itself p) rest = Unit {0}
+
+-- a field of value v at a place of s, in the line w at another
+pub record Moved (f : ℕ) (s : List ℕ) (v p : ℕ) (w : List ℕ) (q : ℕ) : Type 0 where
+  pub read : fieldAt f w q ≡ Is v (q + length (writtenField f s v p))
+  pub again : writtenField f w v q ≡ writtenField f s v p
+  pub limit : (l : ℕ × ℕ) (u : ℕ) → fieldLimits f l s u v p ≡ Within → fieldLimits f l w u v q ≡ Within
+  pub content : held f w v q ≡ held f s v p
+
+limit-move : (t : Bool) (p q : ℕ) → cond t Within (Outside p) ≡ Within → cond t Within (Outside q) ≡ Within
+limit-move true p q h = refl
+limit-move false p q h = absurd (let z : _≡_ {A = ℕ} 0 1 = cc in omega arith)
+
+limit-both : (a b c : Bool) (p q : ℕ) → (b ≡ true → c ≡ true) → cond (a && b) Within (Outside p) ≡ Within → cond (a && c) Within (Outside q) ≡ Within
+limit-both true true c p q k h = rw (k refl)
+limit-both true false c p q k h = absurd (let z : _≡_ {A = ℕ} 0 1 = cc in omega arith)
+limit-both false b c p q k h = absurd (let z : _≡_ {A = ℕ} 0 1 = cc in omega arith)
+
+take-front : (xs ys : List ℕ) (n : ℕ) → length xs ≡ n → take n (xs ++ ys) ≡ xs
+take-front xs ys n e = rw (← e) (take-append-seam xs ys)
+
+quote-unnamed : inClass Named 34 ≡ false
+unfolding between
+quote-unnamed = refl
+
+star-kept : (s : List ℕ) (p n : ℕ) → n ≡ 1 → getD s p 0 ≡ 42 → kept s p n ≡ 42 ∷ []
+star-kept s p n e z = let l : p < length s = inside s p (omega arith) in rw (e, drop-cons s p 0 l, z)
+
+star-cased : (b : Bool) → cased b (42 ∷ []) ≡ 42 ∷ []
+unfolding cased capital between
+star-cased true = refl
+star-cased false = refl
+
+-- ---- a quoted text, in capitals or as it is
+module _ (b : Bool) (s : List ℕ) (at v e : ℕ) (h : textAt s at ≡ Is v e) (pre rest : List ℕ) where
+  inner : List ℕ
+  inner = cased b (text-fits s at v e h .text)
+
+  outer : List ℕ
+  outer = cased b (kept s at (v + 2))
+
+  line : List ℕ
+  line = pre ++ (outer ++ rest)
+
+  inner-is : inner ≡ cased b (text-fits s at v e h .text)
+  unfolding inner
+  inner-is = refl
+
+  outer-is : outer ≡ 34 ∷ (inner ++ (34 ∷ []))
+  unfolding outer inner
+  outer-is = let q = text-fits s at v e h in rw (q .whole) (cased-quotes b (q .text))
+
+  inner-length : length inner ≡ v
+  unfolding inner
+  inner-length = let q = text-fits s at v e h in cased-length b (q .text) ∙ q .count
+
+  outer-length : length outer ≡ v + 2
+  outer-length = rw outer-is (let z = length-append inner (34 ∷ []) in let k = inner-length in omega arith)
+
+  line-is : line ≡ pre ++ (34 ∷ (inner ++ (34 ∷ rest)))
+  unfolding line
+  line-is = rw (outer-is, append-assoc inner (34 ∷ []) rest)
+
+  text-moved : textAt line (length pre) ≡ Is v (length pre + length outer)
+  text-moved =
+      let q = text-fits s at v e h in
+      let k : length pre + 1 + v + 1 ≡ length pre + length outer = (let z = outer-length in omega arith) in
+      rw line-is (text-back pre rest inner (unfold inner in cased-quoted b (q .text) (q .legal)) ∙ rw (inner-length, k))
+
+  text-again : cased b (kept line (length pre) (v + 2)) ≡ outer
+  text-again =
+      let k : kept line (length pre) (length outer) ≡ outer = unfold line in kept-back pre outer rest in
+      let d : cased b outer ≡ outer = unfold outer in cased-twice b (kept s at (v + 2)) in
+      ap (λ n. cased b (kept line (length pre) n)) (sym outer-length) ∙ ap (cased b) k ∙ d
+
+  inner-at : drop (length pre + 1) line ≡ inner ++ (34 ∷ rest)
+  inner-at = rw line-is (drop-append-add pre (34 ∷ (inner ++ (34 ∷ rest))) 1)
+
+  text-content : cased b (kept line (length pre + 1) v) ≡ cased b (kept s (at + 1) v)
+  text-content =
+      let q = text-fits s at v e h in
+      let k : take v (inner ++ (34 ∷ rest)) ≡ inner = take-front inner (34 ∷ rest) v inner-length in
+      rw (inner-at, k, q .inner) (unfold inner in cased-twice b (q .text))
+
+  name-moved : named s at v ≡ true → named line (length pre) v ≡ true
+  name-moved k =
+      let q = text-fits s at v e h in
+      let r : runAt Named s (at + 1) ≡ v = eqb-true (runAt Named s (at + 1)) v k in
+      let t : T (allIn Named (q .text)) = rw (← q .inner) (rw r at (run-in Named (drop (at + 1) s))) in
+      let a : T (allIn Named inner) = rw inner-is (cased-named b (q .text) t) in
+      let n : runAt Named line (length pre + 1) ≡ v = rw inner-at (run-all Named inner (34 ∷ rest) a quote-unnamed ∙ inner-length) in
+      eq-eqb (runAt Named line (length pre + 1)) v n
+
+  star-moved : starred s at v ≡ true → starred line (length pre) v ≡ true
+  star-moved k = go (eqb v 1) refl k
+    where
+      go : (a : Bool) → eqb v 1 ≡ a → (a && eqb (getD s (at + 1) 0) 42) ≡ true → (a && eqb (getD line (length pre + 1) 0) 42) ≡ true
+      go true p r =
+          let q = text-fits s at v e h in
+          let one : v ≡ 1 = eqb-true v 1 p in
+          let z : getD s (at + 1) 0 ≡ 42 = eqb-true (getD s (at + 1) 0) 42 r in
+          let y : q .text ≡ 42 ∷ [] = sym (q .inner) ∙ star-kept s (at + 1) v one z in
+          let x : inner ≡ 42 ∷ [] = inner-is ∙ rw y (star-cased b) in
+          let g : getD line (length pre + 1) 0 ≡ 42 =
+          (let d = getD-append-add pre (34 ∷ (inner ++ (34 ∷ rest))) 1 0 in rw line-is (d ∙ rw x)) in
+          eq-eqb (getD line (length pre + 1) 0) 42 g
+      go false p r = r
+
+-- ---- a bar type
+pub data TypeFits (s : List ℕ) (at : ℕ) : ℕ → Type 0 where
+  one : kept s at 1 ≡ 49 ∷ [] → TypeFits s at 1
+  two : kept s at 1 ≡ 50 ∷ [] → TypeFits s at 2
+  three : kept s at 1 ≡ 51 ∷ [] → TypeFits s at 3
+  ean : kept s at 3 ≡ 69 ∷ (51 ∷ (48 ∷ [])) → TypeFits s at 30
+
+kept-one : (s : List ℕ) (p b : ℕ) → 0 < b → getD s p 0 ≡ b → kept s p 1 ≡ b ∷ []
+kept-one s p b k z = let l : p < length s = inside s p (omega arith) in rw (drop-cons s p 0 l, z)
+
+kept-three : (s : List ℕ) (p : ℕ) → getD s p 0 ≡ 69 → getD s (p + 1) 0 ≡ 51 → getD s (p + 2) 0 ≡ 48 → kept s p 3 ≡ 69 ∷ (51 ∷ (48 ∷ []))
+kept-three s p a b c =
+    let i : p < length s = inside s p (omega arith) in
+    let j : p + 1 < length s = inside s (p + 1) (omega arith) in
+    let k : p + 2 < length s = inside s (p + 2) (omega arith) in
+    let x : drop p s ≡ 69 ∷ drop (suc p) s = drop-cons s p 0 i ∙ rw a in
+    let y : drop (suc p) s ≡ 51 ∷ drop (suc (suc p)) s =
+    (let q : p + 1 ≡ suc p = omega arith in let b′ = rw q at b in drop-cons s (suc p) 0 (omega arith) ∙ rw b′) in
+    let z : drop (suc (suc p)) s ≡ 48 ∷ drop (suc (suc (suc p))) s =
+    (let q : p + 2 ≡ suc (suc p) = omega arith in let c′ = rw q at c in drop-cons s (suc (suc p)) 0 (omega arith) ∙ rw c′) in
+    rw (x, y, z)
+
+pub type-fits : (s : List ℕ) (at v e : ℕ) → typeAt s at ≡ Is v e → TypeFits s at v
+unfolding typeAt
+type-fits s at v e h =
+    go (eqb (getD s at 0) 49) (eqb (getD s at 0) 50) (eqb (getD s at 0) 51) (eqb (getD s at 0) 69) (eqb (getD s (at + 1) 0) 51)
+    (eqb (getD s (at + 2) 0) 48)
+    refl
+    refl
+    refl
+    refl
+    refl
+    refl
+    h
+  where
+    go : (a b c d f g : Bool) → eqb (getD s at 0) 49 ≡ a → eqb (getD s at 0) 50 ≡ b → eqb (getD s at 0) 51 ≡ c → eqb (getD s at 0) 69 ≡ d
+        → eqb (getD s (at + 1) 0) 51 ≡ f
+        → eqb (getD s (at + 2) 0) 48 ≡ g
+        → cond a (Is 1 (at + 1)) (cond b (Is 2 (at + 1)) (cond c (Is 3 (at + 1)) (cond (d && (f && g)) (Is 30 (at + 3)) (Not at)))) ≡ Is v e
+        → TypeFits s at v
+    go true b c d f g p q r t u w k = let x : 1 ≡ v = cc in rw (← x) (one (kept-one s at 49 (omega arith) (eqb-true (getD s at 0) 49 p)))
+    go false true c d f g p q r t u w k = let x : 2 ≡ v = cc in rw (← x) (two (kept-one s at 50 (omega arith) (eqb-true (getD s at 0) 50 q)))
+    go false false true d f g p q r t u w k = let x : 3 ≡ v = cc in rw (← x) (three (kept-one s at 51 (omega arith) (eqb-true (getD s at 0) 51 r)))
+    go false false false true true true p q r t u w k =
+        let x : 30 ≡ v = cc in
+        rw (← x)
+        (ean (kept-three s at (eqb-true (getD s at 0) 69 t) (eqb-true (getD s (at + 1) 0) 51 u) (eqb-true (getD s (at + 2) 0) 48 w)))
+    go false false false true true false p q r t u w k = absurd (let z : _≡_ {A = ℕ} 0 1 = cc in omega arith)
+    go false false false true false g p q r t u w k = absurd (let z : _≡_ {A = ℕ} 0 1 = cc in omega arith)
+    go false false false false f g p q r t u w k = absurd (let z : _≡_ {A = ℕ} 0 1 = cc in omega arith)
+
+data TypeOne : ℕ → ℕ → Type 0 where
+  is-one : TypeOne 49 1
+  is-two : TypeOne 50 2
+  is-three : TypeOne 51 3
+
+type-one : (pre rest : List ℕ) (b v : ℕ) → TypeOne b v → typeAt (pre ++ (b ∷ rest)) (length pre) ≡ Is v (length pre + 1)
+unfolding typeAt
+type-one pre rest b v is-one = rw (getD-append-seam pre 49 rest 0)
+type-one pre rest b v is-two = rw (getD-append-seam pre 50 rest 0)
+type-one pre rest b v is-three = rw (getD-append-seam pre 51 rest 0)
+
+type-ean : (pre rest : List ℕ) → typeAt (pre ++ (69 ∷ (51 ∷ (48 ∷ rest)))) (length pre) ≡ Is 30 (length pre + 3)
+unfolding typeAt
+type-ean pre rest =
+    let w : List ℕ = 69 ∷ (51 ∷ (48 ∷ rest)) in
+    rw (getD-append-seam pre 69 (51 ∷ (48 ∷ rest)) 0, getD-append-add pre w 1 0, getD-append-add pre w 2 0)
+
+or-move : (a b c d : Bool) → (a ≡ true → c ≡ true) → (b ≡ true → d ≡ true) → (a || b) ≡ true → (c || d) ≡ true
+or-move true b c d f g h = rw (f refl)
+or-move false true c d f g h = go c (g refl)
+  where
+    go : (c : Bool) → d ≡ true → (c || d) ≡ true
+    go true k = refl
+    go false k = k
+or-move false false c d f g h = absurd (let z : _≡_ {A = ℕ} 0 1 = cc in omega arith)
+
+type-moved : (s : List ℕ) (at v : ℕ) (pre rest : List ℕ) → TypeFits s at v
+    → Moved 107 s v at (pre ++ (writtenField 107 s v at ++ rest)) (length pre)
+unfolding fieldAt writtenField fieldLimits held
+type-moved s at v pre rest (one k) =
+    let x : cased false (kept s at 1) ≡ 49 ∷ [] = cased-kept (kept s at 1) ∙ k in
+    record {
+      read = rw x (type-one pre rest 49 1 is-one);
+      again = rw x (cased-kept (kept (pre ++ (49 ∷ rest)) (length pre) 1) ∙ kept-back pre (49 ∷ []) rest);
+      limit = λ l u k. refl;
+      content = refl;
+    }
+type-moved s at v pre rest (two k) =
+    let x : cased false (kept s at 1) ≡ 50 ∷ [] = cased-kept (kept s at 1) ∙ k in
+    record {
+      read = rw x (type-one pre rest 50 2 is-two);
+      again = rw x (cased-kept (kept (pre ++ (50 ∷ rest)) (length pre) 1) ∙ kept-back pre (50 ∷ []) rest);
+      limit = λ l u k. refl;
+      content = refl;
+    }
+type-moved s at v pre rest (three k) =
+    let x : cased false (kept s at 1) ≡ 51 ∷ [] = cased-kept (kept s at 1) ∙ k in
+    record {
+      read = rw x (type-one pre rest 51 3 is-three);
+      again = rw x (cased-kept (kept (pre ++ (51 ∷ rest)) (length pre) 1) ∙ kept-back pre (51 ∷ []) rest);
+      limit = λ l u k. refl;
+      content = refl;
+    }
+type-moved s at v pre rest (ean k) =
+    let w : List ℕ = 69 ∷ (51 ∷ (48 ∷ [])) in
+    let x : cased false (kept s at 3) ≡ w = cased-kept (kept s at 3) ∙ k in
+    record {
+      read = rw x (type-ean pre rest);
+      again = rw x (cased-kept (kept (pre ++ (w ++ rest)) (length pre) 3) ∙ kept-back pre w rest);
+      limit = λ l u k. refl;
+      content = refl;
+    }
+
+-- ---- a byte that stands for itself
+module _ {f : ℕ} (p : Plain f) where
+  pub plain-field : (s : List ℕ) (at : ℕ) → fieldAt f s at ≡ byteAt f s at
+  unfolding fieldAt
+  plain-field s at = simp (p .no-n, p .no-w, p .no-s, p .no-t, p .no-u, p .no-a, p .no-z, p .no-m, p .no-j, p .no-k, p .no-d)
+
+  pub plain-written : (s : List ℕ) (v q : ℕ) → writtenField f s v q ≡ f ∷ []
+  unfolding writtenField
+  plain-written s v q = simp (p .no-n, p .no-w, p .no-s, p .no-t, p .no-u, p .no-a, p .no-z, p .no-m, p .no-j, p .no-k, p .no-d)
+
+  plain-limits : (l : ℕ × ℕ) (s : List ℕ) (u v q : ℕ) → fieldLimits f l s u v q ≡ Within
+  unfolding fieldLimits
+  plain-limits l s u v q = simp (p .no-n, p .no-w, p .no-s, p .no-t, p .no-a, p .no-z, p .no-d)
+
+  plain-held : (s : List ℕ) (v q : ℕ) → held f s v q ≡ []
+  unfolding held
+  plain-held s v q = simp (p .no-t, p .no-u, p .no-a, p .no-z, p .no-d)
+
+  plain-moved : (s : List ℕ) (at v e : ℕ) (pre rest : List ℕ) → fieldAt f s at ≡ Is v e
+      → Moved f s v at (pre ++ (writtenField f s v at ++ rest)) (length pre)
+  plain-moved s at v e pre rest h =
+      let o : v ≡ f = byte-fits f s at v e (sym (plain-field s at) ∙ h) in
+      let x : writtenField f s v at ≡ f ∷ [] = plain-written s v at in
+      let w : List ℕ = pre ++ (f ∷ rest) in
+      rw x
+      (record {
+        read = rw x (plain-field w (length pre) ∙ byte-back pre rest f ∙ rw o);
+        again = plain-written w v (length pre) ∙ sym x;
+        limit = λ l u k. plain-limits l w u v (length pre);
+        content = plain-held w v (length pre) ∙ sym (plain-held s v at);
+      })
+
+-- ---- each letter
+pub field-moved : {f : ℕ} (x : Letter f) (s : List ℕ) (at v e : ℕ) (pre rest : List ℕ) → fieldAt f s at ≡ Is v e → After x rest
+    → Moved f s v at (pre ++ (writtenField f s v at ++ rest)) (length pre)
+unfolding fieldAt writtenField fieldLimits beyond held line outer
+field-moved a-number s at v e pre rest h a =
+    record {
+      read = number-back pre rest v (number-fits s at v e h) a;
+      again = refl;
+      limit = λ l u k. limit-move (between (l .0) (l .1) v && true) at (length pre) k;
+      content = refl;
+    }
+field-moved a-wide s at v e pre rest h a =
+    record {
+      read = number-back pre rest v (number-fits s at v e h) a;
+      again = refl;
+      limit = λ l u k. limit-move (between (l .0) (l .1) v && ltb u v) at (length pre) k;
+      content = refl;
+    }
+field-moved a-step s at v e pre rest h a =
+    let q = signed-fits s at v e h in
+    record {
+      read = signed-back pre rest v (q .0) (q .1) a;
+      again = refl;
+      limit = λ l u k. limit-move (between (l .0) (l .1) v && true) at (length pre) k;
+      content = refl;
+    }
+field-moved a-prompt s at v e pre rest h a =
+    record {
+      read = text-moved false s at v e h pre rest;
+      again = text-again false s at v e h pre rest;
+      limit = λ l u k. limit-move (between (l .0) (l .1) v && true) at (length pre) k;
+      content = ap (λ (x : List ℕ). (Quote, x) ∷ []) (text-content false s at v e h pre rest);
+    }
+field-moved a-text s at v e pre rest h a =
+    record {
+      read = text-moved false s at v e h pre rest;
+      again = text-again false s at v e h pre rest;
+      limit = λ l u k. refl;
+      content = ap (λ (x : List ℕ). (Quote, x) ∷ []) (text-content false s at v e h pre rest);
+    }
+field-moved a-name s at v e pre rest h a =
+    record {
+      read = text-moved true s at v e h pre rest;
+      again = text-again true s at v e h pre rest;
+      limit = λ l u k.
+          limit-both (between (l .0) (l .1) v) (named s at v) (named (pre ++ (cased true (kept s at (v + 2)) ++ rest)) (length pre) v) at (length pre)
+          (name-moved true s at v e h pre rest)
+          k;
+      content = ap (λ (x : List ℕ). (Quote, x) ∷ []) (text-content true s at v e h pre rest);
+    }
+field-moved a-star s at v e pre rest h a =
+    let w : List ℕ = pre ++ (cased true (kept s at (v + 2)) ++ rest) in
+    record {
+      read = text-moved true s at v e h pre rest;
+      again = text-again true s at v e h pre rest;
+      limit = λ l u k.
+          limit-both (between (l .0) (l .1) v) (named s at v || starred s at v) (named w (length pre) v || starred w (length pre) v) at (length pre)
+          (or-move (named s at v) (starred s at v) (named w (length pre) v) (starred w (length pre) v)
+          (name-moved true s at v e h pre rest)
+          (star-moved true s at v e h pre rest))
+          k;
+      content = ap (λ (x : List ℕ). (Quote, x) ∷ []) (text-content true s at v e h pre rest);
+    }
+field-moved a-mode s at v e pre rest h a =
+    let q = letter-fits Mode s at v e h in
+    let x : cased false (kept s at 1) ≡ v ∷ [] = cased-kept (kept s at 1) ∙ q .1 in
+    record {
+      read = rw x (letter-back pre rest Mode v (q .0));
+      again = rw x (cased-kept (kept (pre ++ (v ∷ rest)) (length pre) 1) ∙ kept-back pre (v ∷ []) rest);
+      limit = λ l u k. refl;
+      content = refl;
+    }
+field-moved a-side s at v e pre rest h a =
+    let q = letter-fits Side s at v e h in
+    let x : cased false (kept s at 1) ≡ v ∷ [] = cased-kept (kept s at 1) ∙ q .1 in
+    record {
+      read = rw x (letter-back pre rest Side v (q .0));
+      again = rw x (cased-kept (kept (pre ++ (v ∷ rest)) (length pre) 1) ∙ kept-back pre (v ∷ []) rest);
+      limit = λ l u k. refl;
+      content = refl;
+    }
+field-moved a-type s at v e pre rest h a = type-moved s at v pre rest (type-fits s at v e h)
+field-moved some-data s at v e pre rest h a =
+    let i = data-inside s at v e h in
+    let c = chain-of s at v e h in
+    let w : List ℕ = dataWritten s (elements s at) in
+    let z : pre ++ (w ++ rest) ≡ pre ++ w = rw (a, append-nil w) in
+    let o : v ≡ 0 = i .0 in
+    record {
+      read = rw (z, o) (data-back pre c (i .1));
+      again = rw (z, elements-back pre c) (data-again pre c);
+      limit = λ l u k. rw (z, elements-back pre c) (limits-back s (length pre) (elements s at) k);
+      content = rw (z, elements-back pre c) (pieces-back pre c);
+    }
+field-moved (itself p) s at v e pre rest h a = plain-moved p s at v e pre rest h

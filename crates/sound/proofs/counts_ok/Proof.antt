@@ -1,0 +1,21 @@
+use borrow.Author.Needs.{needs}
+use Rattle.sound.proofs.counts_ok.Statement.{statement}
+use Rattle.sound.proofs.counts_ok.Tie as tie
+use Rattle.sound.proofs.counts_ok.Reads as reads
+use Rattle.sound.proofs.counts_ok.Lts as lts
+use Rattle.sound.proofs.wide.Reads as wide-reads
+
+wide-requires : tie.Need-wide-requires
+wide-requires c κs = search needs
+
+wide-requires-2 : tie.Need-wide-requires-2
+wide-requires-2 c κs = search needs
+
+add-result : tie.Need-add-result
+add-result c = search needs
+
+returns : tie.Need-returns
+returns c = cc
+
+pub counts-ok-spec : {M : Type 1} → statement M
+counts-ok-spec = tie.close (tie.spec wide-requires wide-requires-2 add-result returns)

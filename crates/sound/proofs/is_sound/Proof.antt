@@ -1,0 +1,72 @@
+use Rattle.sound.specs.Sound.{numbersOk, sound}
+use Rattle.sound.proofs.Clauses.{stop, skip}
+use borrow.Author.Needs.{needs}
+use Rattle.sound.proofs.is_sound.Statement.{statement}
+use Rattle.sound.proofs.is_sound.Tie as tie
+use Rattle.sound.proofs.is_sound.Reads as reads
+use Rattle.sound.proofs.is_sound.Lts as lts
+use Rattle.store_check.proofs.store_sound.Reads as store-sound-reads
+use Rattle.sound.proofs.activity_sound.Reads as activity-sound-reads
+use Rattle.sound.proofs.background_ok.Reads as background-ok-reads
+use Rattle.sound.proofs.contents.contents_ok.Reads as contents-ok-reads
+use Rattle.sound.proofs.numbers_ok.Reads as numbers-ok-reads
+
+numbers-ok-requires : tie.Need-numbers-ok-requires
+numbers-ok-requires c κs = search needs
+
+returns : tie.Need-returns
+unfolding sound numbersOk
+returns c = stop _ _ _ (c .before .numbers-ok .ensures) (c .if1 .taken)
+
+background-ok-requires : tie.Need-background-ok-requires
+background-ok-requires c κs = search needs
+
+returns-2 : tie.Need-returns-2
+unfolding sound numbersOk
+returns-2 c = let n = c .before .before .before in
+    skip _ _ _ _ (n .numbers-ok .ensures) (c .before .before .if1 .left) (stop _ _ _ (c .before .background-ok .ensures) (c .if2 .taken))
+
+store-sound-requires : tie.Need-store-sound-requires
+store-sound-requires c κs = search needs
+
+returns-3 : tie.Need-returns-3
+unfolding sound numbersOk
+returns-3 c = let b = c .before .before .before in let n = b .before .before in
+    skip _ _ _ _ (n .numbers-ok .ensures) (b .before .if1 .left)
+    (skip _ _ _ _ (b .background-ok .ensures) (c .before .before .if2 .left) (stop _ _ _ (c .before .store-sound .ensures) (c .if3 .taken)))
+
+contents-ok-requires : tie.Need-contents-ok-requires
+contents-ok-requires c κs = search needs
+
+returns-4 : tie.Need-returns-4
+unfolding sound numbersOk
+returns-4 c = let t = c .before .before .before in let b = t .before .before in let n = b .before .before in
+    skip _ _ _ _ (n .numbers-ok .ensures) (b .before .if1 .left)
+    (skip _ _ _ _ (b .background-ok .ensures) (t .before .if2 .left)
+    (skip _ _ _ _ (t .store-sound .ensures) (c .before .before .if3 .left) (stop _ _ _ (c .before .contents-ok .ensures) (c .if4 .taken))))
+
+activity-sound-requires : tie.Need-activity-sound-requires
+activity-sound-requires c κs = search needs
+
+returns-5 : tie.Need-returns-5
+unfolding sound numbersOk
+returns-5 c = let e = c .before .before in let t = e .before .before in let b = t .before .before in let n = b .before .before in
+    skip _ _ _ _ (n .numbers-ok .ensures) (b .before .if1 .left)
+    (skip _ _ _ _ (b .background-ok .ensures) (t .before .if2 .left)
+    (skip _ _ _ _ (t .store-sound .ensures) (e .before .if3 .left)
+    (skip _ _ _ _ (e .contents-ok .ensures) (c .before .if4 .left) (c .activity-sound .ensures))))
+
+pub is-sound-spec : {M : Type 1} → statement M
+is-sound-spec =
+    tie.close
+    (tie.spec
+    numbers-ok-requires
+    returns
+    background-ok-requires
+    returns-2
+    store-sound-requires
+    returns-3
+    contents-ok-requires
+    returns-4
+    activity-sound-requires
+    returns-5)

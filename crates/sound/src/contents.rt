@@ -1,0 +1,58 @@
+// "each form a row of normalised lines that recording would take one after another (presence of pictures aside); each picture legal"
+ghost use mathlib.Core.Path.{_≡_};
+ghost use lib.ListN.{length};
+ghost use Rattle.store.specs.Content.{content};
+ghost use Rattle.picture.specs.Rules.{legal};
+ghost use Rattle.sound.specs.Sound.{contentOk, contentsOk};
+
+// A picture is at most 32,768 bytes, so that a buffer of that size holds all that can be legal. `contents_ok` makes it once for all entries.
+fn picture_legal(store: &[u8], links: &[u16], directory: &[u8], i: usize, buffer: &mut [u8]) -> bool
+    requires { ⌜ length (now buffer) ≡ 32768 ⌝ }
+    ensures { λ r. ⌜ r ≡ legal (content (now (store .entry)) (now (links .entry)) (now (directory .entry)) i) ⌝ }
+{
+    let place = store::reader(links, directory, i);
+    if 32768 < place.left {
+        return false;
+    }
+    let n = store::copy_out(store, links, directory, i, buffer);
+    picture::is_legal(values::bytes::front(buffer, n))
+}
+
+// The content of entry i is what its kind asks for.
+fn content_ok(store: &[u8], links: &[u16], directory: &[u8], i: usize, buffer: &mut [u8]) -> bool
+    requires { ⌜ length (now buffer) ≡ 32768 ⌝ }
+    ensures { λ r. ⌜ r ≡ contentOk (now (store .entry)) (now (links .entry)) (now (directory .entry)) i ⌝ }
+{
+    let k = store::kind_at(directory, i);
+    if store::is_of_kind(false, k) {
+        return forms::form_ok(store, links, directory, i);
+    }
+    if store::is_of_kind(true, k) {
+        return picture_legal(store, links, directory, i, buffer);
+    }
+    true
+}
+
+fn all_ok(store: &[u8], links: &[u16], directory: &[u8], buffer: &mut [u8]) -> bool
+    requires { ⌜ length (now buffer) ≡ 32768 ⌝ }
+    ensures { λ r. ⌜ r ≡ contentsOk (now (store .entry)) (now (links .entry)) (now (directory .entry)) ⌝ }
+{
+    let n = directory.len() / 16;
+    let mut i = 0;
+    while i < n {
+        if content_ok(store, links, directory, i, buffer) {
+            i += 1;
+        } else {
+            return false;
+        }
+    }
+    true
+}
+
+// So are the contents of all entries.
+pub fn contents_ok(store: &[u8], links: &[u16], directory: &[u8]) -> bool
+    ensures { λ r. ⌜ r ≡ contentsOk (now (store .entry)) (now (links .entry)) (now (directory .entry)) ⌝ }
+{
+    let mut buffer = [0u8; 32768];
+    all_ok(store, links, directory, &mut buffer)
+}

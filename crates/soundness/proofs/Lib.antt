@@ -1,3 +1,0 @@
-pub mod Active
-pub mod Entries
-pub mod Clauses

@@ -1,0 +1,424 @@
+// Decides the store's part of sound (paper 01), clause by clause, on any memory: each function answers exactly its Bool of `sound`, in one pass over
+// what it reads. Chains are walked by marking each portion that is met, so that links that cross, run in circles or point anywhere are found at once.
+ghost use mathlib.Core.Path.{_≡_};
+ghost use mathlib.Core.Bool.{true, false, _&&_};
+ghost use Prim.Native.Nat.{ℕ, _≤_, _<_, min};
+ghost use lib.ListN.{length, getD, take, drop};
+ghost use Rattle.cells.specs.Count.{allTo, allZero, setAll};
+ghost use Rattle.store.specs.Chain.{chain};
+ghost use Rattle.store.specs.Entry.{entries, entry};
+ghost use Rattle.store_sound.specs.Sound.{lentOk, kindsOk, legalByte, nameByteOk, namedOk, namesOk, isHere, uniqueOk, uniquesOk, singleOk, singlesOk, firsts, counts, linksOk, chainsOk, emptyOk, emptiesOk, freeOk, freesOk, tailOk, tailsOk, storeSound};
+ghost use Rattle.store_check.specs.Claim.{claimOk, claimEntry, Claimed, markFits};
+use store::Found;
+
+fn both(a: bool, b: bool) -> bool
+    ensures { λ r. ⌜ r ≡ (a && b) ⌝ }
+{
+    if a { b } else { false }
+}
+
+pub fn lent_ok(store: &[u8], links: &[u16], directory: &[u8]) -> bool
+    ensures { λ r. ⌜ r ≡ lentOk (now (store .entry)) (now (links .entry)) (now (directory .entry)) ⌝ }
+{
+    let p = links.len();
+    let n = directory.len() / 16;
+    if 2024 < p {
+        return false;
+    }
+    both(
+        1 <= p,
+        both(
+            store.len() == p * 256,
+            both(directory.len() == n * 16, both(1 <= n, n <= 512)),
+        ),
+    )
+}
+
+// ---- kinds and names
+
+pub fn kinds_ok(directory: &[u8]) -> bool
+    ensures { λ r. ⌜ r ≡ kindsOk (now (directory .entry)) ⌝ }
+{
+    let n = directory.len() / 16;
+    let mut i = 0;
+    while i < n {
+        if 3 < store::kind_at(directory, i) {
+            return false;
+        }
+        i += 1;
+    }
+    true
+}
+
+fn legal_byte(b: u8) -> bool
+    ensures { λ r. ⌜ r ≡ legalByte b ⌝ }
+{
+    both(
+        both(32 <= b, b <= 126),
+        both(b != 42, both(b != 34, !both(97 <= b, b <= 122))),
+    )
+}
+
+fn name_byte_ok(n: usize, title: [u8; 8], k: usize) -> bool
+    requires { ⌜ k < 8 ⌝ }
+    ensures { λ r. ⌜ r ≡ nameByteOk n title k ⌝ }
+{
+    if k < n {
+        return legal_byte(title[k]);
+    }
+    title[k] == 0
+}
+
+fn name_bytes_ok(n: usize, title: [u8; 8]) -> bool
+    ensures { λ r. ⌜ r ≡ allTo (nameByteOk n title) 8 ⌝ }
+{
+    let mut k = 0;
+    while k < 8 {
+        if !name_byte_ok(n, title, k) {
+            return false;
+        }
+        k += 1;
+    }
+    true
+}
+
+fn name_ok(directory: &[u8], i: usize) -> bool
+    ensures { λ r. ⌜ r ≡ namedOk (now (directory .entry)) i ⌝ }
+{
+    if store::kind_at(directory, i) == 0 {
+        return true;
+    }
+    let n = store::name_length_at(directory, i);
+    if n == 0 {
+        return false;
+    }
+    if 8 < n {
+        return false;
+    }
+    name_bytes_ok(n, store::name_at(directory, i))
+}
+
+pub fn names_ok(directory: &[u8]) -> bool
+    ensures { λ r. ⌜ r ≡ namesOk (now (directory .entry)) ⌝ }
+{
+    let n = directory.len() / 16;
+    let mut i = 0;
+    while i < n {
+        if !name_ok(directory, i) {
+            return false;
+        }
+        i += 1;
+    }
+    true
+}
+
+fn is_here(i: usize, found: Found) -> bool
+    ensures { λ r. ⌜ r ≡ isHere i found ⌝ }
+{
+    match found {
+        Found::At(j) => j == i,
+        Found::Nothing => false,
+    }
+}
+
+fn unique_ok(directory: &[u8], i: usize) -> bool
+    ensures { λ r. ⌜ r ≡ uniqueOk (now (directory .entry)) i ⌝ }
+{
+    let k = store::kind_at(directory, i);
+    if k == 0 {
+        return true;
+    }
+    is_here(
+        i,
+        store::find(directory, k == 2, store::name_at(directory, i)),
+    )
+}
+
+// One pass over the directory for each entry: names are compared with those of all entries of the kind, at most 512 times 512.
+pub fn uniques_ok(directory: &[u8]) -> bool
+    ensures { λ r. ⌜ r ≡ uniquesOk (now (directory .entry)) ⌝ }
+{
+    let n = directory.len() / 16;
+    let mut i = 0;
+    while i < n {
+        if !unique_ok(directory, i) {
+            return false;
+        }
+        i += 1;
+    }
+    true
+}
+
+fn single_ok(directory: &[u8], i: usize) -> bool
+    ensures { λ r. ⌜ r ≡ singleOk (now (directory .entry)) i ⌝ }
+{
+    if store::kind_at(directory, i) != 3 {
+        return true;
+    }
+    is_here(i, store::recording(directory))
+}
+
+pub fn singles_ok(directory: &[u8]) -> bool
+    ensures { λ r. ⌜ r ≡ singlesOk (now (directory .entry)) ⌝ }
+{
+    let n = directory.len() / 16;
+    let mut i = 0;
+    while i < n {
+        if !single_ok(directory, i) {
+            return false;
+        }
+        i += 1;
+    }
+    true
+}
+
+// ---- chains
+
+// Walks the chain of n portions that starts at first, and marks its portions: false where it is no chain of n portions or meets a mark.
+fn claim(links: &[u16], first: usize, n: usize, marks: &mut [u8]) -> bool
+    requires { ⌜ length (now links) ≤ length (now marks) ⌝ }
+    ensures walked { λ r. ⌜ r ≡ claimOk (now (links .entry)) (now (marks .entry)) first n ⌝ }
+    ensures marked { λ r. ⌜ (r ≡ true → now (marks .exit) ≡ setAll (now (marks .entry)) (chain (now (links .entry)) first n) 1) ⌝ }
+{
+    let mut p = first;
+    let mut k = n;
+    while 0 < k {
+        if links.len() <= p {
+            return false;
+        }
+        if marks[p] != 0 {
+            return false;
+        }
+        marks[p] = 1;
+        p = links[p] as usize;
+        k -= 1;
+    }
+    p == 65534
+}
+
+// Claims the portions of entry i, if it has any.
+fn claim_entry(links: &[u16], directory: &[u8], i: usize, marks: &mut [u8]) -> bool
+    requires { ⌜ length (now links) ≤ length (now marks) ⌝ }
+    ensures walked { λ r. ⌜ r ≡ claimEntry (now (links .entry)) (now (marks .entry)) (firsts (now (directory .entry)) i) (counts (now (directory .entry)) i) ⌝ }
+    ensures marked { λ r. ⌜ (r ≡ true → now (marks .exit) ≡ setAll (now (marks .entry)) (chain (now (links .entry)) (firsts (now (directory .entry)) i) (counts (now (directory .entry)) i)) 1) ⌝ }
+{
+    let k = moves::many_at(directory, i);
+    if k == 0 {
+        return true;
+    }
+    let f = store::first_at(directory, i);
+    claim(links, f, k, marks)
+}
+
+// Portion q is marked, or free and not marked.
+fn mark_fits(links: &[u16], marks: &[u8], q: usize) -> bool
+    requires { ⌜ (q < length (now links)) × (q < length (now marks)) ⌝ }
+    ensures { λ r. ⌜ r ≡ markFits (now (links .entry)) (now (marks .entry)) q ⌝ }
+{
+    if links[q] == 65535 {
+        return marks[q] == 0;
+    }
+    marks[q] == 1
+}
+
+// Claims the portions of every entry: false only where the links are not sound.
+fn claim_all(links: &[u16], directory: &[u8], marks: &mut [u8]) -> bool
+    requires { ⌜ length (now links) ≤ length (now marks) ⌝ }
+    requires { ⌜ ((q : ℕ) → getD (now marks) q 0 ≡ 0) ⌝ }
+    ensures refused { λ r. ⌜ (r ≡ false → linksOk (now (links .entry)) (firsts (now (directory .entry))) (counts (now (directory .entry))) (entries (now (directory .entry))) ≡ false) ⌝ }
+    ensures claimed { λ r. ⌜ (r ≡ true → Claimed (now (links .entry)) (firsts (now (directory .entry))) (counts (now (directory .entry))) (entries (now (directory .entry))) (now (marks .exit))) ⌝ }
+{
+    let n = directory.len() / 16;
+    let mut i = 0;
+    while i < n {
+        if !claim_entry(links, directory, i, marks) {
+            return false;
+        }
+        i += 1;
+    }
+    true
+}
+
+// Each portion is marked, or free and not marked.
+fn marks_fit(links: &[u16], marks: &[u8]) -> bool
+    requires { ⌜ length (now links) ≤ length (now marks) ⌝ }
+    ensures { λ r. ⌜ r ≡ allTo (markFits (now (links .entry)) (now (marks .entry))) (length (now (links .entry))) ⌝ }
+{
+    let mut q = 0;
+    while q < links.len() {
+        if !mark_fits(links, marks, q) {
+            return false;
+        }
+        q += 1;
+    }
+    true
+}
+
+// Each chain has its portions and then ends, no portion is in two, and all others are free.
+fn chains_ok(links: &[u16], directory: &[u8]) -> bool
+    requires { ⌜ length (now links) ≤ 2024 ⌝ }
+    ensures { λ r. ⌜ r ≡ chainsOk (now (links .entry)) (now (directory .entry)) ⌝ }
+{
+    let mut marks = [0u8; 2024];
+    if !claim_all(links, directory, &mut marks) {
+        return false;
+    }
+    marks_fit(links, &marks)
+}
+
+// ---- unused bytes
+
+fn least(a: usize, b: usize) -> usize
+    ensures { λ r. ⌜ r ≡ min a b ⌝ }
+{
+    if a < b { a } else { b }
+}
+
+// No early exit, so that many bytes go at once.
+fn is_zero(s: &[u8]) -> bool
+    ensures { λ r. ⌜ r ≡ allZero (now (s .entry)) ⌝ }
+{
+    let mut any: u8 = 0;
+    let mut i = 0;
+    while i < s.len() {
+        any = any | s[i];
+        i += 1;
+    }
+    any == 0
+}
+
+// So many bytes from a place on are zero.
+fn zero_from(s: &[u8], at: usize, n: usize) -> bool
+    ensures { λ r. ⌜ r ≡ allZero (take n (drop at (now (s .entry)))) ⌝ }
+{
+    if s.len() <= at {
+        return true;
+    }
+    let end = at + least(n, s.len() - at);
+    is_zero(&s[at..end])
+}
+
+fn empty_ok(directory: &[u8], i: usize) -> bool
+    ensures { λ r. ⌜ r ≡ emptyOk (now (directory .entry)) i ⌝ }
+{
+    if store::kind_at(directory, i) != 0 {
+        return true;
+    }
+    if directory.len() / 16 < i {
+        return true;
+    }
+    zero_from(directory, i * 16, 16)
+}
+
+pub fn empties_ok(directory: &[u8]) -> bool
+    ensures { λ r. ⌜ r ≡ emptiesOk (now (directory .entry)) ⌝ }
+{
+    let n = directory.len() / 16;
+    let mut i = 0;
+    while i < n {
+        if !empty_ok(directory, i) {
+            return false;
+        }
+        i += 1;
+    }
+    true
+}
+
+fn free_ok(store: &[u8], links: &[u16], q: usize) -> bool
+    ensures { λ r. ⌜ r ≡ freeOk (now (store .entry)) (now (links .entry)) q ⌝ }
+{
+    if store::link_at(links, q) != 65535 {
+        return true;
+    }
+    if store.len() / 256 < q {
+        return true;
+    }
+    zero_from(store, q * 256, 256)
+}
+
+pub fn frees_ok(store: &[u8], links: &[u16]) -> bool
+    ensures { λ r. ⌜ r ≡ freesOk (now (store .entry)) (now (links .entry)) ⌝ }
+{
+    let mut q = 0;
+    while q < links.len() {
+        if !free_ok(store, links, q) {
+            return false;
+        }
+        q += 1;
+    }
+    true
+}
+
+fn tail_ok(store: &[u8], links: &[u16], directory: &[u8], i: usize) -> bool
+    ensures { λ r. ⌜ r ≡ tailOk (now (store .entry)) (now (links .entry)) (now (directory .entry)) i ⌝ }
+{
+    if store::kind_at(directory, i) == 0 {
+        return true;
+    }
+    let s = store::size_at(directory, i);
+    let o = s - 256 * (store::needed_for(s) - 1);
+    let p = moves::last_at(links, directory, i);
+    if store.len() / 256 < p {
+        return true;
+    }
+    zero_from(store, p * 256 + o, 256 - o)
+}
+
+pub fn tails_ok(store: &[u8], links: &[u16], directory: &[u8]) -> bool
+    ensures { λ r. ⌜ r ≡ tailsOk (now (store .entry)) (now (links .entry)) (now (directory .entry)) ⌝ }
+{
+    let n = directory.len() / 16;
+    let mut i = 0;
+    while i < n {
+        if !tail_ok(store, links, directory, i) {
+            return false;
+        }
+        i += 1;
+    }
+    true
+}
+
+// ---- all of it
+
+fn unused_ok(store: &[u8], links: &[u16], directory: &[u8]) -> bool
+    ensures { λ r. ⌜ r ≡ (emptiesOk (now (directory .entry)) && (freesOk (now (store .entry)) (now (links .entry)) && tailsOk (now (store .entry)) (now (links .entry)) (now (directory .entry)))) ⌝ }
+{
+    if !empties_ok(directory) {
+        return false;
+    }
+    if !frees_ok(store, links) {
+        return false;
+    }
+    tails_ok(store, links, directory)
+}
+
+fn titles_ok(directory: &[u8]) -> bool
+    ensures { λ r. ⌜ r ≡ (kindsOk (now (directory .entry)) && (namesOk (now (directory .entry)) && (uniquesOk (now (directory .entry)) && singlesOk (now (directory .entry))))) ⌝ }
+{
+    if !kinds_ok(directory) {
+        return false;
+    }
+    if !names_ok(directory) {
+        return false;
+    }
+    if !uniques_ok(directory) {
+        return false;
+    }
+    singles_ok(directory)
+}
+
+// The store's part of sound.
+pub fn store_sound(store: &[u8], links: &[u16], directory: &[u8]) -> bool
+    ensures { λ r. ⌜ r ≡ storeSound (now (store .entry)) (now (links .entry)) (now (directory .entry)) ⌝ }
+{
+    if !lent_ok(store, links, directory) {
+        return false;
+    }
+    if !titles_ok(directory) {
+        return false;
+    }
+    if !chains_ok(links, directory) {
+        return false;
+    }
+    unused_ok(store, links, directory)
+}

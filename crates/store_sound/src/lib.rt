@@ -1,0 +1,2 @@
+// The store's part of sound (paper 01): its clauses as named Bools in specs/, the shelf (the directory with its contents), and the theorems that the
+// moves keep sound, change one place of the shelf and leave all other contents as they are. No code: `store_check` decides the Bools, `moves` moves.
