@@ -5,12 +5,12 @@
 // result with every lent list at exit and `opened`, `commanded` or `labelledBy` (specs/Station.antt) of what it was lent, for any session, any
 // memory, any font and any input; no caller has to have checked anything. What a session of calls amounts to is said in crate `demands`.
 mod checks; // 1, 2 and 3
-mod commands; // one command at the front of the input
+mod commanding; // one command at the front of the input
 mod labels; // one label
 mod opening; // a station opened
 
-pub use commands::command;
-pub use commands::rest;
+pub use commanding::command;
+pub use commanding::rest;
 pub use labels::label;
 pub use opening::open;
 use session::Answer;

@@ -1,8 +1,8 @@
 use mathlib.Core.Path.{ap}
 use Rattle.station.specs.Station.{readAs}
 use borrow.Author.Needs.{needs}
-use Rattle.station.proofs.commands.on_front.Statement.{statement}
-use Rattle.station.proofs.commands.on_front.Tie as tie
+use Rattle.station.proofs.commanding.on_front.Statement.{statement}
+use Rattle.station.proofs.commanding.on_front.Tie as tie
 
 first-requires : tie.Need-first-requires
 first-requires c κs = search needs

@@ -1,8 +1,8 @@
 use mathlib.Core.Path.{sym, _∙_}
 use Rattle.station.proofs.Calls.{command-refused, command-short, command-long, command-idle, command-line, line-short}
 use borrow.Author.Needs.{needs}
-use Rattle.station.proofs.commands.command.Statement.{statement}
-use Rattle.station.proofs.commands.command.Tie as tie
+use Rattle.station.proofs.commanding.command.Statement.{statement}
+use Rattle.station.proofs.commanding.command.Tie as tie
 
 lengths-wrong-requires : tie.Need-lengths-wrong-requires
 lengths-wrong-requires c κs = search needs
