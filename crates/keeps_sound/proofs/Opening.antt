@@ -1,4 +1,4 @@
--- "opening gives a sound world": whenever opening is taken, what it leaves is sound.
+-- Whenever opening is taken, what it leaves is sound.
 -- Assumes nothing.
 use mathlib.Core.Path.{_≡_, refl, ap, _∙_}
 use mathlib.Core.Bool.{Bool, true, false, not, _||_, false≢true}

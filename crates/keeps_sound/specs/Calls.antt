@@ -1,4 +1,4 @@
--- Calls one after another: each is given the session that the call before it answered, and the lent memory as that call left it.
+-- What the demands speak of: calls one after another, each given the session that the call before it answered, and the lent memory as that call left it.
 -- Assumes nothing.
 use mathlib.Core.List.{List, [], _∷_}
 use Prim.Native.Nat.{ℕ}
