@@ -1,5 +1,5 @@
 // The body, from byte 128 on: runs, read one byte at a time. n is the run that waits for its value, and 0 where none waits.
-use crate::numbers::both;
+use ground::both;
 ghost use mathlib.Core.Path.{_≡_};
 ghost use Prim.Native.Nat.{_≤_};
 ghost use lib.ListN.{length, drop};
