@@ -18,7 +18,7 @@ use Rattle.fields.proofs.Laws.{and-T}
 use Rattle.read.specs.Grammar.{Form, forms, none, rowOf, boundsOf, spread, free, fieldAt, fieldsFrom, Got, good, bad, next, ahead, Filled, fieldLimits, firstOf, limitsFrom, isNumber}
 use Rattle.read.specs.Front.{sizeOf}
 use Rattle.read.specs.Codes.{bound, boundBy, codes, codeAt, filledUp, lineUp}
-use Rattle.read.specs.Commands.{judged, withinLimits, commandOf, itemOf, orderOf}
+use Rattle.read.specs.Commands.{judged, withinLimits, commandOf, itemOf, pageOf, valueOf, orderOf}
 use Rattle.read.specs.declared.Bounds.{Bounds}
 use Rattle.read.specs.declared.Fields.{Fields}
 use Rattle.read.specs.declared.Fields.the-variants.{All, Bad}
@@ -293,7 +293,7 @@ unfolding itemOf
 item-same row vs ws ps qs h k = simp (h, k)
 
 order-same : (row : ℕ) (s vs ws ps qs : List ℕ) → Same vs ws → Same ps qs → orderOf row s vs ps ≡ orderOf row s ws qs
-unfolding orderOf
+unfolding orderOf pageOf valueOf
 order-same row s vs ws ps qs h k = simp (h, k)
 
 command-same : (row : ℕ) (s vs ws ps qs : List ℕ) → Same vs ws → Same ps qs → commandOf row s vs ps ≡ commandOf row s ws qs

@@ -16,27 +16,18 @@ use Rattle.read.specs.declared.Ink.{Ink}
 use Rattle.read.specs.declared.Ink.the-variants.{Black, White, Inverted}
 use Rattle.read.specs.declared.Item.{Item}
 use Rattle.read.specs.declared.Item.the-variants.{Origin, Variable, Counter, Text, Bars, Box, Frame, Picture}
+use Rattle.read.specs.declared.PageCommand.{PageCommand}
+use Rattle.read.specs.declared.PageCommand.the-variants.{Length, Width, Turn, White as Whiten}
+use Rattle.read.specs.declared.FormCommand.{FormCommand}
+use Rattle.read.specs.declared.FormCommand.the-variants.{Start, Retrieve, Erase as EraseForm}
+use Rattle.read.specs.declared.PictureCommand.{PictureCommand}
+use Rattle.read.specs.declared.PictureCommand.the-variants.{Store, Erase as ErasePicture}
+use Rattle.read.specs.declared.ValueCommand.{ValueCommand}
+use Rattle.read.specs.declared.ValueCommand.the-variants.{Variable as EnterVariable, Counter as EnterCounter, Clear, Print}
+use Rattle.read.specs.declared.ListingCommand.{ListingCommand}
+use Rattle.read.specs.declared.ListingCommand.the-variants.{Forms as ListForms, Pictures as ListPictures, Form as ListForm}
 use Rattle.read.specs.declared.Command.{Command}
-use Rattle.read.specs.declared.Command.the-variants.{
-  Item as item,
-  Length,
-  Width,
-  Turn,
-  Start,
-  End,
-  Retrieve,
-  EraseForm,
-  ListForms,
-  PrintForm,
-  Store,
-  ListPictures,
-  ErasePicture,
-  SetVariable,
-  SetCounter,
-  Clear,
-  Print,
-  White as Whiten,
-}
+use Rattle.read.specs.declared.Command.the-variants.{Item as item, End, Page, Forms, Pictures, Values, Listing}
 use Rattle.read.specs.declared.Named.{Named}
 use Rattle.read.specs.declared.Fault.{Fault}
 use Rattle.read.specs.declared.Fault.the-variants.{Form as form, Limit}
@@ -108,31 +99,64 @@ itemOf row v p =
     }))
     (Box (record { ink = inkOf row; a = getD v 2 0; b = getD v 4 0; c = getD v 6 0; d = getD v 8 0 }))))))))
 
--- the other lines
-unfoldable pub orderOf : ℕ → List ℕ → List ℕ → List ℕ → Command
-orderOf row s v p =
+-- the other lines, by their groups: the page
+unfoldable pub pageOf : ℕ → List ℕ → PageCommand
+pageOf row v =
     cond (eqb row 0) (Length (record { m = getD v 1 0; g = getD v 3 0 }))
     (cond (eqb row 1) (Width (record { m = getD v 1 0 }))
     (cond (eqb row 3) (Turn (record { half = false }))
     (cond (eqb row 4) (Turn (record { half = true }))
-    (cond (eqb row 12) (Start (namedAt s v p 2))
-    (cond (eqb row 13) End
-    (cond (eqb row 14) (Retrieve (namedAt s v p 2))
-    (cond (eqb row 15) (EraseForm (namedAt s v p 2))
-    (cond (eqb row 16) (ErasePicture (namedAt s v p 2))
-    (cond (eqb row 17) ListForms
-    (cond (eqb row 18) ListPictures
-    (cond (eqb row 19) (PrintForm (namedAt s v p 2))
-    (cond (eqb row 20) (Store (record { at = getD p 2 0; length = getD v 2 0; n = getD v 4 0 }))
-    (cond (eqb row 21) Clear
-    (cond (eqb row 24) (SetVariable (record { n = getD v 2 0; at = getD p 4 0; length = getD v 4 0 }))
-    (cond (eqb row 25) (SetCounter (record { n = getD v 2 0; value = getD v 4 0 }))
-    (cond (eqb row 26) (Print (record { k = getD v 1 0 }))
-    Whiten))))))))))))))))
+    Whiten)))
 
--- "R, V, C, A, B, LO, LE, LW, X, GG"
+-- forms, by the name that the line gives
+unfoldable pub formOf : ℕ → Named → FormCommand
+formOf row n = cond (eqb row 12) (Start n) (cond (eqb row 14) (Retrieve n) (EraseForm n))
+
+-- pictures, by the name that the line gives; for GM also how many bytes follow it
+unfoldable pub pictureOf : ℕ → Named → ℕ → PictureCommand
+pictureOf row n size = cond (eqb row 16) (ErasePicture n) (Store (record { at = n .at; length = n .length; n = size }))
+
+-- values and labels
+unfoldable pub valueOf : ℕ → List ℕ → List ℕ → ValueCommand
+valueOf row v p =
+    cond (eqb row 24) (EnterVariable (record { n = getD v 2 0; at = getD p 4 0; length = getD v 4 0 }))
+    (cond (eqb row 25) (EnterCounter (record { n = getD v 2 0; value = getD v 4 0 }))
+    (cond (eqb row 26) (Print (record { k = getD v 1 0 }))
+    Clear))
+
+-- listings; FP by the name that the line gives
+unfoldable pub listingOf : ℕ → Named → ListingCommand
+listingOf row n = cond (eqb row 17) ListForms (cond (eqb row 18) ListPictures (ListForm n))
+
+-- the rows of each group. "R, V, C, A, B, LO, LE, LW, X, GG"
 abbrev pub isItem : ℕ → Bool
 isItem row = eqb row 2 || (between 5 11 row || between 22 23 row)
+
+-- FS, FR, FK
+abbrev pub isForm : ℕ → Bool
+isForm row = eqb row 12 || (eqb row 14 || eqb row 15)
+
+-- GK, GM
+abbrev pub isPicture : ℕ → Bool
+isPicture row = eqb row 16 || eqb row 20
+
+-- VC, ?V, ?C, P
+abbrev pub isValue : ℕ → Bool
+isValue row = eqb row 21 || (eqb row 24 || (eqb row 25 || eqb row 26))
+
+-- FI, GI, FP
+abbrev pub isListing : ℕ → Bool
+isListing row = eqb row 17 || (eqb row 18 || eqb row 19)
+
+-- FE, then group by group
+unfoldable pub orderOf : ℕ → List ℕ → List ℕ → List ℕ → Command
+orderOf row s v p =
+    cond (eqb row 13) End
+    (cond (isValue row) (Values (valueOf row v p))
+    (cond (isForm row) (Forms (formOf row (namedAt s v p 2)))
+    (cond (isPicture row) (Pictures (pictureOf row (namedAt s v p 2) (getD v 4 0)))
+    (cond (isListing row) (Listing (listingOf row (namedAt s v p 2)))
+    (Page (pageOf row v))))))
 
 abbrev pub commandOf : ℕ → List ℕ → List ℕ → List ℕ → Command
 commandOf row s v p = cond (isItem row) (item (itemOf row v p)) (orderOf row s v p)

@@ -1,16 +1,20 @@
 // What the values and places of a row's fields make: a command.
 ghost use mathlib.Core.Path.{_≡_};
-ghost use Rattle.read.specs.Commands.{namedFrom, inkOf, sideOf, isMinus, stepOf, itemOf, orderOf, isItem, commandOf};
+ghost use Rattle.read.specs.Commands.{namedFrom, inkOf, sideOf, isMinus, stepOf, itemOf, pageOf, formOf, pictureOf, valueOf, listingOf, isItem, isForm, isPicture, isValue, isListing, orderOf, commandOf};
 use crate::Bars;
 use crate::Command;
 use crate::Counter;
+use crate::FormCommand;
 use crate::Frame;
 use crate::Ink;
 use crate::Item;
 use crate::Length;
+use crate::ListingCommand;
 use crate::Named;
 use crate::Origin;
+use crate::PageCommand;
 use crate::Picture;
+use crate::PictureCommand;
 use crate::Print;
 use crate::Rectangle;
 use crate::SetCounter;
@@ -18,6 +22,7 @@ use crate::SetVariable;
 use crate::StorePicture;
 use crate::Text;
 use crate::Turn;
+use crate::ValueCommand;
 use crate::Variable;
 use crate::Width;
 use crate::check::is_star;
@@ -129,43 +134,71 @@ fn item_of(row: usize, v: [usize; 18], p: [usize; 18]) -> Item
     }
 }
 
-// The other lines.
-fn order_of(line: &[u8], row: usize, v: [usize; 18], p: [usize; 18]) -> Command
-    ensures { λ r. ⌜ r ≡ orderOf row (now (line .entry)) v p ⌝ }
+// The page.
+fn page_of(row: usize, v: [usize; 18]) -> PageCommand
+    ensures { λ r. ⌜ r ≡ pageOf row v ⌝ }
 {
     match row {
-        0 => Command::Length(Length { m: v[1], g: v[3] }),
-        1 => Command::Width(Width { m: v[1] }),
-        3 => Command::Turn(Turn { half: false }),
-        4 => Command::Turn(Turn { half: true }),
-        12 => Command::Start(named_at(line, p[2], v[2])),
-        13 => Command::End,
-        14 => Command::Retrieve(named_at(line, p[2], v[2])),
-        15 => Command::EraseForm(named_at(line, p[2], v[2])),
-        16 => Command::ErasePicture(named_at(line, p[2], v[2])),
-        17 => Command::ListForms,
-        18 => Command::ListPictures,
-        19 => Command::PrintForm(named_at(line, p[2], v[2])),
-        20 => Command::Store(StorePicture {
-            at: p[2],
-            length: v[2],
-            n: v[4],
-        }),
-        21 => Command::Clear,
-        24 => Command::SetVariable(SetVariable {
+        0 => PageCommand::Length(Length { m: v[1], g: v[3] }),
+        1 => PageCommand::Width(Width { m: v[1] }),
+        3 => PageCommand::Turn(Turn { half: false }),
+        4 => PageCommand::Turn(Turn { half: true }),
+        _ => PageCommand::White,
+    }
+}
+
+fn form_of(row: usize, n: Named) -> FormCommand
+    ensures { λ r. ⌜ r ≡ formOf row n ⌝ }
+{
+    match row {
+        12 => FormCommand::Start(n),
+        14 => FormCommand::Retrieve(n),
+        _ => FormCommand::Erase(n),
+    }
+}
+
+fn picture_of(row: usize, n: Named, size: usize) -> PictureCommand
+    ensures { λ r. ⌜ r ≡ pictureOf row n size ⌝ }
+{
+    if row == 16 {
+        return PictureCommand::Erase(n);
+    }
+    PictureCommand::Store(StorePicture {
+        at: n.at,
+        length: n.length,
+        n: size,
+    })
+}
+
+fn value_of(row: usize, v: [usize; 18], p: [usize; 18]) -> ValueCommand
+    ensures { λ r. ⌜ r ≡ valueOf row v p ⌝ }
+{
+    match row {
+        24 => ValueCommand::Variable(SetVariable {
             n: v[2],
             at: p[4],
             length: v[4],
         }),
-        25 => Command::SetCounter(SetCounter {
+        25 => ValueCommand::Counter(SetCounter {
             n: v[2],
             value: v[4],
         }),
-        26 => Command::Print(Print { k: v[1] }),
-        _ => Command::White,
+        26 => ValueCommand::Print(Print { k: v[1] }),
+        _ => ValueCommand::Clear,
     }
 }
 
+fn listing_of(row: usize, n: Named) -> ListingCommand
+    ensures { λ r. ⌜ r ≡ listingOf row n ⌝ }
+{
+    match row {
+        17 => ListingCommand::Forms,
+        18 => ListingCommand::Pictures,
+        _ => ListingCommand::Form(n),
+    }
+}
+
+// Which rows make a group.
 fn is_item(row: usize) -> bool
     ensures { λ r. ⌜ r ≡ isItem row ⌝ }
 {
@@ -175,6 +208,73 @@ fn is_item(row: usize) -> bool
         22..=23 => true,
         _ => false,
     }
+}
+
+fn is_form(row: usize) -> bool
+    ensures { λ r. ⌜ r ≡ isForm row ⌝ }
+{
+    match row {
+        12 => true,
+        14 => true,
+        15 => true,
+        _ => false,
+    }
+}
+
+fn is_picture(row: usize) -> bool
+    ensures { λ r. ⌜ r ≡ isPicture row ⌝ }
+{
+    match row {
+        16 => true,
+        20 => true,
+        _ => false,
+    }
+}
+
+fn is_value(row: usize) -> bool
+    ensures { λ r. ⌜ r ≡ isValue row ⌝ }
+{
+    match row {
+        21 => true,
+        24 => true,
+        25 => true,
+        26 => true,
+        _ => false,
+    }
+}
+
+fn is_listing(row: usize) -> bool
+    ensures { λ r. ⌜ r ≡ isListing row ⌝ }
+{
+    match row {
+        17 => true,
+        18 => true,
+        19 => true,
+        _ => false,
+    }
+}
+
+// The lines that may not stand in a form, by their groups.
+fn order_of(line: &[u8], row: usize, v: [usize; 18], p: [usize; 18]) -> Command
+    ensures { λ r. ⌜ r ≡ orderOf row (now (line .entry)) v p ⌝ }
+{
+    if row == 13 {
+        return Command::End;
+    }
+    if is_value(row) {
+        return Command::Values(value_of(row, v, p));
+    }
+    let n = named_at(line, p[2], v[2]);
+    if is_form(row) {
+        return Command::Forms(form_of(row, n));
+    }
+    if is_picture(row) {
+        return Command::Pictures(picture_of(row, n, v[4]));
+    }
+    if is_listing(row) {
+        return Command::Listing(listing_of(row, n));
+    }
+    Command::Page(page_of(row, v))
 }
 
 pub fn command_of(line: &[u8], row: usize, v: [usize; 18], p: [usize; 18]) -> Command
