@@ -210,7 +210,7 @@ decided-limits k rows s vs ps (Outside p) c r q e = absurd (false≢true (ap isR
 got-limits : (k rows : ℕ) (s : List ℕ) (g : Got) (c : Command) → rows < 65536 → judged k rows s g ≡ Taken c → limited c
 unfolding judged
 got-limits k rows s (good vs ps) c r e = decided-limits k rows s vs ps (limitsFrom (rowOf k .fields) (boundsOf k rows) s 0 vs ps) c r refl e
-got-limits k rows s (bad p) c r e = absurd (false≢true (ap isRead e))
+got-limits k rows s (bad vs ps p) c r e = absurd (false≢true (ap isRead e))
 
 head-limits : (h : Head) (rows : ℕ) (s : List ℕ) (c : Command) → rows < 65536 → headed h rows s ≡ Taken c → limited c
 unfolding headed

@@ -14,6 +14,11 @@ use Rattle.fields.specs.declared.Field.{Field}
 use Rattle.fields.specs.declared.Field.the-variants.{Is, Not}
 use Rattle.fields.specs.Bytes.{run, valueFrom, inClass}
 
+-- where the reading of a field stopped: behind the field, or at the fault
+abbrev pub stopOf : Field → ℕ
+stopOf (Is v e) = e
+stopOf (Not p) = p
+
 -- the n bytes from a place
 abbrev pub part : List ℕ → ℕ → ℕ → List ℕ
 part s at n = take n (drop at s)

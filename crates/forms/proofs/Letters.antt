@@ -96,7 +96,7 @@ module _ (q : Stored → Type 0) (none : q Nothing) (ok : ℕ → Bool) (items :
 
       fields : (g : Got) (r : ℕ) → ok r ≡ true → q (heldRead (judged r 1 line g))
       fields (good v p) r h = limited (limitsFrom (rowOf r .fields) (boundsOf r 1) line 0 v p) r v p h
-      fields (bad at) r h = none
+      fields (bad v p at) r h = none
 
       by : (x : Head) → find forms 0 (getD line 0 0) (getD line 1 0) ≡ x → q (heldRead (headed x 1 line))
       by (Row r) e = fields (fieldsFrom (rowOf r .fields) line 0) r (found ok (getD line 0 0) (getD line 1 0) forms 0 rows r e)

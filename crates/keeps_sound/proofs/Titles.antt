@@ -168,7 +168,7 @@ line-parted rows s c h = go (headOf (getD s 0 0) (getD s 1 0)) h
 
     fields : (row : ℕ) (g : Got) → judged row rows s g ≡ Reads c → Parted rows s c
     fields row (good vs ps) d = within row vs ps (limitsFrom (rowOf row .fields) (boundsOf row rows) s 0 vs ps) refl d
-    fields row (bad p) d = absurd (let z : _≡_ {A = ℕ} 0 1 = cc in omega arith)
+    fields row (bad vs ps p) d = absurd (let z : _≡_ {A = ℕ} 0 1 = cc in omega arith)
 
     go : (x : Head) → headed x rows s ≡ Reads c → Parted rows s c
     go (Row row) d = fields row (fieldsFrom (rowOf row .fields) s 0) d

@@ -127,7 +127,7 @@ kept-end : (s : List ℕ) (at : ℕ) (vs ps pre : List ℕ) → fieldsFrom [] s 
 unfolding fieldsFrom writtenFrom limitsFrom heldBy
 kept-end s at vs ps pre h = go (eqb at (length s)) h
   where
-    go : (t : Bool) → cond t (good [] []) (bad at) ≡ good vs ps → Kept [] s vs ps (pre ++ []) (length pre)
+    go : (t : Bool) → cond t (good [] []) (bad [] [] at) ≡ good vs ps → Kept [] s vs ps (pre ++ []) (length pre)
     go true k =
         let v : [] ≡ vs = cc in
         let l : length pre ≡ length (pre ++ []) = (let z = length-append pre [] in omega arith) in
@@ -366,7 +366,7 @@ some-unread : (x : ℕ) (xs vs ps : List ℕ) → fieldsFrom [] (x ∷ xs) 0 ≡
 unfolding fieldsFrom
 some-unread x xs vs ps h =
     let e : eqb 0 (length (x ∷ xs)) ≡ false = ne-eqb 0 (length (x ∷ xs)) (λ q. omega arith) in
-    let k : bad 0 ≡ good vs ps = rw e at h in
+    let k : bad [] [] 0 ≡ good vs ps = rw e at h in
     let z : _≡_ {A = ℕ} 0 1 = cc in
     omega arith
 
@@ -550,7 +550,7 @@ item-parted rows s i h = go (headOf (getD s 0 0) (getD s 1 0)) refl h
     fields : (row : ℕ) (g : Got) → headOf (getD s 0 0) (getD s 1 0) ≡ Row row → fieldsFrom (rowOf row .fields) s 0 ≡ g
         → judged row rows s g ≡ Taken (item i) → Parted rows s i
     fields row (good vs ps) a b c = within row vs ps (limitsFrom (rowOf row .fields) (boundsOf row rows) s 0 vs ps) a b refl c
-    fields row (bad p) a b c = absurd (let z : _≡_ {A = ℕ} 0 1 = cc in omega arith)
+    fields row (bad vs ps p) a b c = absurd (let z : _≡_ {A = ℕ} 0 1 = cc in omega arith)
 
     go : (x : Head) → headOf (getD s 0 0) (getD s 1 0) ≡ x → headRead x rows s ≡ Taken (item i) → Parted rows s i
     go (Row row) a c = fields row (fieldsFrom (rowOf row .fields) s 0) a refl c

@@ -295,7 +295,7 @@ fields-end : (s : List ℕ) (at : ℕ) (vs ps : List ℕ) → fieldsFrom [] s at
 unfolding fieldsFrom
 fields-end s at vs ps h = go (eqb at (length s)) refl h
   where
-    go : (t : Bool) → eqb at (length s) ≡ t → cond t (good [] []) (bad at) ≡ good vs ps → at ≡ length s
+    go : (t : Bool) → eqb at (length s) ≡ t → cond t (good [] []) (bad [] [] at) ≡ good vs ps → at ≡ length s
     go true q k = eqb-true at (length s) q
     go false q k = absurd (let z : _≡_ {A = ℕ} 0 1 = cc in omega arith)
 

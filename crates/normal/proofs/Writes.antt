@@ -187,13 +187,13 @@ module _ (fs s vs ps : List ℕ) (i : ℕ) where
 pub written-bad : (row : ℕ) (s : List ℕ) (g : Got) (r : Fields) (vs₀ ps₀ vs ps : List ℕ) (p : ℕ) → Filled g vs₀ ps₀ r vs ps → r ≡ Bad p
     → writtenOf row s g ≡ []
 unfolding writtenOf
-written-bad row s (bad q) r vs₀ ps₀ vs ps p h e = refl
+written-bad row s (bad ws qs q) r vs₀ ps₀ vs ps p h e = refl
 written-bad row s (good ws qs) r vs₀ ps₀ vs ps p h e = absurd (let z : _≡_ {A = ℕ} 0 1 = cc in omega arith)
 
 written-fields : (row : ℕ) (s : List ℕ) (g : Got) (r : Fields) (vs ps : List ℕ) → fieldsFrom (rowOf row .fields) s 0 ≡ g
     → Filled g zeros zeros r vs ps → r ≡ All → writtenOf row s g ≡ writtenFrom (rowOf row .fields) s vs ps
 unfolding writtenOf
-written-fields row s (bad q) r vs ps k h e = absurd (let z : _≡_ {A = ℕ} 0 1 = cc in omega arith)
+written-fields row s (bad ws qs q) r vs ps k h e = absurd (let a = h .0 in let z : _≡_ {A = ℕ} 0 1 = cc in omega arith)
 written-fields row s (good ws qs) r vs ps k h e =
     let n = fields-count (rowOf row .fields) s 0 ws qs k in
     let l = row-short row in

@@ -46,7 +46,7 @@ heldBy (f ∷ fs) s vs ps = held f s (getD vs 0 0) (getD ps 0 0) ++ heldBy fs s 
 
 unfoldable pub contentsOf : ℕ → List ℕ → Got → List (What × List ℕ)
 contentsOf row s (good vs ps) = heldBy (rowOf row .fields) s vs ps
-contentsOf row s (bad p) = []
+contentsOf row s (bad vs ps p) = []
 
 unfoldable pub headContents : Head → List ℕ → List (What × List ℕ)
 headContents (Row row) s = contentsOf row s (fieldsFrom (rowOf row .fields) s 0)

@@ -106,7 +106,7 @@ writtenFrom (f ∷ fs) s vs ps = writtenField f s (getD vs 0 0) (getD ps 0 0) ++
 -- the normal form of a line; of what is no line of the language, nothing
 unfoldable pub writtenOf : ℕ → List ℕ → Got → List ℕ
 writtenOf row s (good vs ps) = writtenFrom (rowOf row .fields) s vs ps
-writtenOf row s (bad p) = []
+writtenOf row s (bad vs ps p) = []
 
 unfoldable pub headWritten : Head → List ℕ → List ℕ
 headWritten (Row row) s = writtenOf row s (fieldsFrom (rowOf row .fields) s 0)

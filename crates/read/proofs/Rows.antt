@@ -174,7 +174,7 @@ fields-split f fs s at ws qs h = go (fieldAt f s at) refl h
   where
     more : (v e : ℕ) (g : Got) → fieldAt f s at ≡ Is v e → fieldsFrom fs s e ≡ g → ahead v at g ≡ good ws qs → Split f fs s at ws qs
     more v e (good vs ps) a b k = record { v = v; e = e; vs = vs; ps = ps; first = a; others = b; values = cc; places = cc }
-    more v e (bad q) a b k = absurd (let z : _≡_ {A = ℕ} 0 1 = cc in omega arith)
+    more v e (bad vs ps q) a b k = absurd (let z : _≡_ {A = ℕ} 0 1 = cc in omega arith)
 
     go : (x : Field) → fieldAt f s at ≡ x → next x (λ v e. ahead v at (fieldsFrom fs s e)) ≡ good ws qs → Split f fs s at ws qs
     go (Is v e) a k = more v e (fieldsFrom fs s e) a refl k
@@ -185,7 +185,7 @@ pub fields-count : (fs s : List ℕ) (at : ℕ) (ws qs : List ℕ) → fieldsFro
     → (length ws ≡ length fs) × (length qs ≡ length fs)
 fields-count [] s at ws qs h = go (eqb at (length s)) (unfold fieldsFrom in h)
   where
-    go : (t : Bool) → cond t (good [] []) (bad at) ≡ good ws qs → (length ws ≡ 0) × (length qs ≡ 0)
+    go : (t : Bool) → cond t (good [] []) (bad [] [] at) ≡ good ws qs → (length ws ≡ 0) × (length qs ≡ 0)
     go true k = (let e : [] ≡ ws = cc in rw (← e), let e : [] ≡ qs = cc in rw (← e))
     go false k = absurd (let z : _≡_ {A = ℕ} 0 1 = cc in omega arith)
 fields-count (f ∷ fs) s at ws qs h =
@@ -194,30 +194,34 @@ fields-count (f ∷ fs) s at ws qs h =
     (rw (x .values) (ap suc (r .0)), rw (x .places) (ap suc (r .1)))
 
 -- the same, stored into arrays from i on
+abbrev pub onward : List ℕ → List ℕ → Field → (ℕ → ℕ → Got) → Got
+onward vs ps (Is v e) k = k v e
+onward vs ps (Not p) k = bad vs ps p
+
 unfoldable pub filled : List ℕ → List ℕ → ℕ → ℕ → List ℕ → List ℕ → Got
-filled [] s at i vs ps = cond (eqb at (length s)) (good vs ps) (bad at)
-filled (f ∷ fs) s at i vs ps = next (fieldAt f s at) (λ v e. filled fs s e (suc i) (set vs i v) (set ps i at))
+filled [] s at i vs ps = cond (eqb at (length s)) (good vs ps) (bad vs ps at)
+filled (f ∷ fs) s at i vs ps = onward vs ps (fieldAt f s at) (λ v e. filled fs s e (suc i) (set vs i v) (set ps i at))
 
 abbrev pub stored : ℕ → List ℕ → List ℕ → Got → Got
 stored i vs ps (good ws qs) = good (sets vs i ws) (sets ps i qs)
-stored i vs ps (bad q) = bad q
+stored i vs ps (bad ws qs q) = bad (sets vs i ws) (sets ps i qs) q
 
 filled-stored : (fs s : List ℕ) (at i : ℕ) (vs ps : List ℕ) → filled fs s at i vs ps ≡ stored i vs ps (fieldsFrom fs s at)
 unfolding filled fieldsFrom
 filled-stored [] s at i vs ps = go (eqb at (length s))
   where
-    go : (t : Bool) → cond t (good vs ps) (bad at) ≡ stored i vs ps (cond t (good [] []) (bad at))
+    go : (t : Bool) → cond t (good vs ps) (bad vs ps at) ≡ stored i vs ps (cond t (good [] []) (bad [] [] at))
     go true = refl
     go false = refl
 filled-stored (f ∷ fs) s at i vs ps = go (fieldAt f s at) (λ v e. filled-stored fs s e (suc i) (set vs i v) (set ps i at))
   where
     more : (v : ℕ) (g : Got) → stored (suc i) (set vs i v) (set ps i at) g ≡ stored i vs ps (ahead v at g)
     more v (good ws qs) = refl
-    more v (bad q) = refl
+    more v (bad ws qs q) = refl
 
     go : (x : Field)
         → ((v e : ℕ) → filled fs s e (suc i) (set vs i v) (set ps i at) ≡ stored (suc i) (set vs i v) (set ps i at) (fieldsFrom fs s e))
-        → next x (λ v e. filled fs s e (suc i) (set vs i v) (set ps i at)) ≡ stored i vs ps (next x (λ v e. ahead v at (fieldsFrom fs s e)))
+        → onward vs ps x (λ v e. filled fs s e (suc i) (set vs i v) (set ps i at)) ≡ stored i vs ps (next x (λ v e. ahead v at (fieldsFrom fs s e)))
     go (Is v e) r = r v e ∙ more v (fieldsFrom fs s e)
     go (Not p) r = refl
 
@@ -228,11 +232,11 @@ module _ (l s : List ℕ) (at i : ℕ) (vs ps : List ℕ) where
   unfolding filled
   filled-more v e h k = rw (add-one, drop-cons l i 32 h, k)
 
-  pub filled-stop : (p : ℕ) → i < length l → fieldAt (getD l i 32) s at ≡ Not p → filled (drop i l) s at i vs ps ≡ bad p
+  pub filled-stop : (p : ℕ) → i < length l → fieldAt (getD l i 32) s at ≡ Not p → filled (drop i l) s at i vs ps ≡ bad vs ps p
   unfolding filled
   filled-stop p h k = rw (drop-cons l i 32 h, k)
 
-  pub filled-done : length l ≤ i → filled (drop i l) s at i vs ps ≡ cond (eqb at (length s)) (good vs ps) (bad at)
+  pub filled-done : length l ≤ i → filled (drop i l) s at i vs ps ≡ cond (eqb at (length s)) (good vs ps) (bad vs ps at)
   unfolding filled
   filled-done h = rw (drop-of-length-le l h)
 
@@ -240,16 +244,16 @@ module _ (l s : List ℕ) (at i : ℕ) (vs ps : List ℕ) where
 module _ (fs s : List ℕ) (vs₀ ps₀ vs ps : List ℕ) where
   from-good : (g : Got) → stored 0 vs₀ ps₀ g ≡ good vs ps → Filled g vs₀ ps₀ All vs ps
   from-good (good ws qs) h = (refl, cc, cc)
-  from-good (bad q) h = absurd (let z : _≡_ {A = ℕ} 0 1 = cc in omega arith)
+  from-good (bad ws qs q) h = absurd (let z : _≡_ {A = ℕ} 0 1 = cc in omega arith)
 
-  from-bad : (p : ℕ) (g : Got) → stored 0 vs₀ ps₀ g ≡ bad p → Filled g vs₀ ps₀ (Bad p) vs ps
+  from-bad : (p : ℕ) (g : Got) → stored 0 vs₀ ps₀ g ≡ bad vs ps p → Filled g vs₀ ps₀ (Bad p) vs ps
   from-bad p (good ws qs) h = absurd (let z : _≡_ {A = ℕ} 0 1 = cc in omega arith)
-  from-bad p (bad q) h = let z : q ≡ p = cc in rw z
+  from-bad p (bad ws qs q) h = (let z : q ≡ p = cc in rw z, cc, cc)
 
   pub filled-good : filled fs s 0 0 vs₀ ps₀ ≡ good vs ps → Filled (fieldsFrom fs s 0) vs₀ ps₀ All vs ps
   filled-good h = from-good (fieldsFrom fs s 0) (sym (filled-stored fs s 0 0 vs₀ ps₀) ∙ h)
 
-  pub filled-bad : (p : ℕ) → filled fs s 0 0 vs₀ ps₀ ≡ bad p → Filled (fieldsFrom fs s 0) vs₀ ps₀ (Bad p) vs ps
+  pub filled-bad : (p : ℕ) → filled fs s 0 0 vs₀ ps₀ ≡ bad vs ps p → Filled (fieldsFrom fs s 0) vs₀ ps₀ (Bad p) vs ps
   filled-bad p h = from-bad p (fieldsFrom fs s 0) (sym (filled-stored fs s 0 0 vs₀ ps₀) ∙ h)
 
 -- ---- slots that hold the same
@@ -303,14 +307,14 @@ command-same row s vs ws ps qs h k = rw (item-same row vs ws ps qs h k, order-sa
 pub judged-bad : (row rows : ℕ) (s : List ℕ) (g : Got) (r : Fields) (vs₀ ps₀ vs ps : List ℕ) (p : ℕ) → Filled g vs₀ ps₀ r vs ps → r ≡ Bad p
     → judged row rows s g ≡ Refused (form p)
 unfolding judged
-judged-bad row rows s (bad q) r vs₀ ps₀ vs ps p h e = let z : q ≡ p = cc in rw z
+judged-bad row rows s (bad ws qs q) r vs₀ ps₀ vs ps p h e = let a = h .0 in let z : q ≡ p = cc in rw z
 judged-bad row rows s (good ws qs) r vs₀ ps₀ vs ps p h e = absurd (let z : _≡_ {A = ℕ} 0 1 = cc in omega arith)
 
 judged-fields : (row rows : ℕ) (s : List ℕ) (g : Got) (r : Fields) (vs ps : List ℕ) → fieldsFrom (rowOf row .fields) s 0 ≡ g
     → Filled g zeros zeros r vs ps → r ≡ All
     → judged row rows s g ≡ withinLimits row rows s vs ps
 unfolding judged
-judged-fields row rows s (bad q) r vs ps k h e = absurd (let z : _≡_ {A = ℕ} 0 1 = cc in omega arith)
+judged-fields row rows s (bad ws qs q) r vs ps k h e = absurd (let a = h .0 in let z : _≡_ {A = ℕ} 0 1 = cc in omega arith)
 judged-fields row rows s (good ws qs) r vs ps k h e =
     let n = fields-count (rowOf row .fields) s 0 ws qs k in
     let l = row-short row in
@@ -346,13 +350,13 @@ limits-done fs ls s u vs ps i h = rw (drop-of-length-le fs h)
 -- ---- how many bytes a GM asks for
 pub size-bad : (g : Got) (r : Fields) (vs₀ ps₀ vs ps : List ℕ) (p : ℕ) → Filled g vs₀ ps₀ r vs ps → r ≡ Bad p → sizeOf g ≡ 0
 unfolding sizeOf
-size-bad (bad q) r vs₀ ps₀ vs ps p h e = refl
+size-bad (bad ws qs q) r vs₀ ps₀ vs ps p h e = refl
 size-bad (good ws qs) r vs₀ ps₀ vs ps p h e = absurd (let z : _≡_ {A = ℕ} 0 1 = cc in omega arith)
 
 size-fields : (s : List ℕ) (g : Got) (r : Fields) (vs ps : List ℕ) → fieldsFrom (rowOf 20 .fields) s 0 ≡ g → Filled g zeros zeros r vs ps → r ≡ All
     → sizeOf g ≡ cond (between 1 32768 (getD vs 4 0)) (getD vs 4 0) 0
 unfolding sizeOf
-size-fields s (bad q) r vs ps k h e = absurd (let z : _≡_ {A = ℕ} 0 1 = cc in omega arith)
+size-fields s (bad ws qs q) r vs ps k h e = absurd (let a = h .0 in let z : _≡_ {A = ℕ} 0 1 = cc in omega arith)
 size-fields s (good ws qs) r vs ps k h e =
     let n = fields-count (rowOf 20 .fields) s 0 ws qs k in
     let a : getD vs 4 0 ≡ getD ws 4 0 = rw (h .1) (padded ws (omega arith) 4) in

@@ -147,7 +147,7 @@ withinLimits row rows s vs ps = decided (limitsFrom (rowOf row .fields) (boundsO
 
 -- "the line has not the written form" comes before "a number, name or prompt outside its limits"
 unfoldable pub judged : ℕ → ℕ → List ℕ → Got → Read
-judged row rows s (bad p) = Refused (form p)
+judged row rows s (bad vs ps p) = Refused (form p)
 judged row rows s (good vs ps) = withinLimits row rows s vs ps
 
 unfoldable pub headed : Head → ℕ → List ℕ → Read

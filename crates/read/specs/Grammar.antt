@@ -10,13 +10,14 @@ use lib.Seq.{sets}
 use lib.Dec.{ltb, eqb}
 use Rattle.kinds.specs.Bytes.{between}
 use Rattle.fields.specs.Text.{bytes}
-use Rattle.fields.specs.Field.{numberAt, textAt, signedAt, byteAt, letterAt, typeAt, runAt, nought}
-use Rattle.fields.specs.Data.{dataAt, elements, limits}
-use Rattle.fields.specs.declared.Class.the-variants.{Named, Mode, Side}
+use Rattle.fields.specs.Field.{runAt, nought}
+use Rattle.fields.specs.Data.{elements, limits}
+use Rattle.fields.specs.declared.Class.the-variants.{Named}
 use Rattle.fields.specs.declared.Field.{Field}
 use Rattle.fields.specs.declared.Field.the-variants.{Is, Not}
 use Rattle.fields.specs.declared.Limits.{Limits}
 use Rattle.fields.specs.declared.Limits.the-variants.{Within, Outside}
+unfoldable pub use Rattle.reader.specs.Letters.{fieldAt}
 use Rattle.read.specs.declared.Fields.{Fields}
 use Rattle.read.specs.declared.Fields.the-variants.{All, Bad}
 use Rattle.read.specs.declared.Head.{Head}
@@ -88,38 +89,27 @@ headOf a b = find forms 0 a b
 
 -- ---- The form: 6
 
--- the field that a byte of the form stands for
-unfoldable pub fieldAt : ℕ → List ℕ → ℕ → Field
-fieldAt f s at =
-    cond (eqb f 110 || eqb f 119) (numberAt s at)
-    (cond (eqb f 116 || (eqb f 97 || (eqb f 122 || eqb f 117))) (textAt s at)
-    (cond (eqb f 115) (signedAt s at)
-    (cond (eqb f 109) (letterAt Mode s at)
-    (cond (eqb f 106) (letterAt Side s at)
-    (cond (eqb f 107) (typeAt s at)
-    (cond (eqb f 100) (dataAt s at)
-    (byteAt f s at)))))))
-
--- the values of a row's fields and their places, one for each byte of its form; or the place where the line has not that form
+-- the values of a row's fields and their places, one for each byte of its form; or those up to the place where the line has not that
+-- form, and that place
 pub data Got : Type 0 where
   good : List ℕ → List ℕ → Got
-  bad : ℕ → Got
+  bad : List ℕ → List ℕ → ℕ → Got
 
 abbrev pub ahead : ℕ → ℕ → Got → Got
 ahead v p (good vs ps) = good (v ∷ vs) (p ∷ ps)
-ahead v p (bad q) = bad q
+ahead v p (bad vs ps q) = bad (v ∷ vs) (p ∷ ps) q
 
 abbrev pub next : Field → (ℕ → ℕ → Got) → Got
 next (Is v e) k = k v e
-next (Not p) k = bad p
+next (Not p) k = bad [] [] p
 
 unfoldable pub fieldsFrom : List ℕ → List ℕ → ℕ → Got
-fieldsFrom [] s at = cond (eqb at (length s)) (good [] []) (bad at)
+fieldsFrom [] s at = cond (eqb at (length s)) (good [] []) (bad [] [] at)
 fieldsFrom (f ∷ fs) s at = next (fieldAt f s at) (λ v e. ahead v at (fieldsFrom fs s e))
 
 -- what reading a row's fields answers, and leaves in two arrays of slots
 abbrev pub Filled : Got → List ℕ → List ℕ → Fields → List ℕ → List ℕ → Type 0
-Filled (bad q) vs₀ ps₀ r vs ps = r ≡ Bad q
+Filled (bad ws qs q) vs₀ ps₀ r vs ps = (r ≡ Bad q) × (vs ≡ sets vs₀ 0 ws) × (ps ≡ sets ps₀ 0 qs)
 Filled (good ws qs) vs₀ ps₀ r vs ps = (r ≡ All) × (vs ≡ sets vs₀ 0 ws) × (ps ≡ sets ps₀ 0 qs)
 
 -- ---- The limits: 7

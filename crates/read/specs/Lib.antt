@@ -4,5 +4,3 @@ pub mod Commands
 pub mod Front
 pub mod Names
 pub mod Cases
-pub mod Reading
-pub mod Listed

@@ -3,8 +3,7 @@
 // Paper 01 lists the commands under "Commands" and says under "Reading a command" what a line is. The table `forms` (specs/Grammar.antt) has
 // each command as the paper writes it, with its limits, and `read_line` answers by it: a command by value, or 6 where the line has not the
 // written form, or 7 where a number, name or prompt is outside its limits. `front` finds the line at the front of any input and how much a call
-// reads of it (answers 4 and 5), `rest` is what is left unread, and `packed` a name in capitals as a directory entry keeps it. `reader` holds a line
-// and a place in it for whoever reads one field after another.
+// reads of it (answers 4 and 5), `rest` is what is left unread, and `packed` a name in capitals as a directory entry keeps it.
 // What a command does, and whether it has a place here, is said in the crates above.
 mod check;
 pub mod heads;
@@ -12,7 +11,6 @@ pub mod input;
 pub mod lines;
 pub mod names;
 mod orders;
-pub mod reader;
 pub mod table;
 
 ghost use mathlib.Core.Path.{_≡_};

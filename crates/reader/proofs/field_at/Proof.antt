@@ -1,8 +1,8 @@
 use borrow.Author.Tests.{ne-eqb}
-use Rattle.read.specs.Grammar.{fieldAt}
+use Rattle.reader.specs.Letters.{fieldAt}
 use borrow.Author.Needs.{needs}
-use Rattle.read.proofs.lines.field_at.Statement.{statement}
-use Rattle.read.proofs.lines.field_at.Tie as tie
+use Rattle.reader.proofs.field_at.Statement.{statement}
+use Rattle.reader.proofs.field_at.Tie as tie
 
 number-requires : tie.Need-number-requires
 number-requires c κs = search needs

@@ -1,0 +1,23 @@
+-- The letters in which the grammar writes a command, and the field that each stands for.
+-- Assumes nothing.
+use Prim.Native.Nat.{ℕ}
+use mathlib.Core.Bool.{cond, _||_}
+use mathlib.Core.List.{List}
+use lib.Dec.{eqb}
+use Rattle.fields.specs.Field.{numberAt, textAt, signedAt, byteAt, letterAt, typeAt}
+use Rattle.fields.specs.Data.{dataAt}
+use Rattle.fields.specs.declared.Class.the-variants.{Mode, Side}
+use Rattle.fields.specs.declared.Field.{Field}
+
+-- n and w stand for a number, t, a, z and u for a quoted text, s for a number with or without sign, m and j for one letter (mode,
+-- justification), k for a bar type and d for data; any other byte stands for itself
+unfoldable pub fieldAt : ℕ → List ℕ → ℕ → Field
+fieldAt f s at =
+    cond (eqb f 110 || eqb f 119) (numberAt s at)
+    (cond (eqb f 116 || (eqb f 97 || (eqb f 122 || eqb f 117))) (textAt s at)
+    (cond (eqb f 115) (signedAt s at)
+    (cond (eqb f 109) (letterAt Mode s at)
+    (cond (eqb f 106) (letterAt Side s at)
+    (cond (eqb f 107) (typeAt s at)
+    (cond (eqb f 100) (dataAt s at)
+    (byteAt f s at)))))))
