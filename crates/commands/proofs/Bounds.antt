@@ -11,8 +11,8 @@ use borrow.Author.Tests.{leb-true, eqb-true}
 use Rattle.kinds.specs.Bytes.{between}
 use Rattle.fields.specs.declared.Limits.{Limits}
 use Rattle.fields.specs.declared.Limits.the-variants.{Within, Outside}
-use Rattle.read.specs.declared.Head.{Head}
-use Rattle.read.specs.declared.Head.the-variants.{Row, Unknown}
+use Rattle.grammar.specs.declared.Head.{Head}
+use Rattle.grammar.specs.declared.Head.the-variants.{Row, Unknown}
 use Rattle.read.specs.declared.Item.{Item}
 use Rattle.read.specs.declared.Command.{Command}
 use Rattle.read.specs.declared.Command.the-variants.{
@@ -37,7 +37,7 @@ use Rattle.read.specs.declared.Command.the-variants.{
 }
 use Rattle.read.specs.declared.Read.{Read}
 use Rattle.read.specs.declared.Read.the-variants.{Taken, Refused}
-use Rattle.read.specs.Grammar.{Got, good, bad, rowOf, boundsOf, fieldsFrom, limitsFrom, fieldLimits, firstOf, isNumber, beyond, spread, free, headOf}
+use Rattle.read.specs.Grammar.{Got, good, bad, rowOf, boundsOf, fieldsFrom, limitsFrom, fieldLimits, firstOf, isNumber, meets, spread, free, headOf}
 use Rattle.read.specs.Commands.{readOf, headed, judged, decided, commandOf, itemOf, orderOf, isItem}
 use Rattle.session.specs.Lent.{world, wrongLent}
 use Rattle.commands.specs.Running.{limited, limitedItem, short, Fits}
@@ -91,7 +91,7 @@ next-within f fs ls s u vs ps e =
 field-within : (l : ℕ × ℕ) (s : List ℕ) (u v p : ℕ) → fieldLimits 110 l s u v p ≡ Within → v ≤ l .1
 unfolding fieldLimits
 field-within l s u v p e =
-    between-top (l .0) (l .1) v (and-left (between (l .0) (l .1) v) (beyond 110 s u v p) (chosen-within (between (l .0) (l .1) v && beyond 110 s u v p) p e))
+    between-top (l .0) (l .1) v (and-left (between (l .0) (l .1) v) (meets 110 s u v p) (chosen-within (between (l .0) (l .1) v && meets 110 s u v p) p e))
 
 number-within :
     (fs : List ℕ) (ls : List (ℕ × ℕ)) (s : List ℕ) (u : ℕ) (vs ps : List ℕ) → limitsFrom (110 ∷ fs) ls s u vs ps ≡ Within →
@@ -219,7 +219,7 @@ head-limits Unknown rows s c r e = absurd (false≢true (ap isRead e))
 
 pub read-limits : (rows : ℕ) (s : List ℕ) (c : Command) → rows < 65536 → readOf rows s ≡ Taken c → limited c
 unfolding readOf
-read-limits rows s c r e = head-limits (headOf (getD s 0 0) (getD s 1 0)) rows s c r e
+read-limits rows s c r e = head-limits (headOf s) rows s c r e
 
 short-read : (rows : ℕ) (line : List ℕ) (c : Command) → length line ≤ 255 → readOf rows line ≡ Taken c → short c line
 short-read rows line (item it) h e = let k = normal-short rows line it e h in omega (arith, k)

@@ -40,7 +40,7 @@ use Rattle.read.specs.declared.Command.the-variants.{
 }
 use Rattle.read.specs.declared.Read.{Read}
 use Rattle.read.specs.declared.Read.the-variants.{Taken as Reads, Refused}
-use Rattle.read.specs.Names.{packedOf}
+use Rattle.parts.specs.Names.{packedOf}
 use Rattle.normal.specs.Written.{normal}
 use Rattle.forms.specs.Draw.{setting, drawsItem}
 use Rattle.listing.specs.Listing.{listing}

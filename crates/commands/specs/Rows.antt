@@ -44,7 +44,7 @@ use Rattle.read.specs.declared.Named.{Named}
 use Rattle.read.specs.declared.Fault.the-variants.{Form as form, Limit}
 use Rattle.read.specs.declared.Read.{Read}
 use Rattle.read.specs.declared.Read.the-variants.{Taken as Reads, Refused}
-use Rattle.read.specs.Names.{packedOf}
+use Rattle.parts.specs.Names.{packedOf}
 use Rattle.normal.specs.Written.{normal}
 use Rattle.forms.specs.declared.Verdict.{Verdict}
 use Rattle.forms.specs.declared.Verdict.the-variants.{Taken as Fine, Again as Before, Undeclared as Unknown, Past as Reaches, Unfit as Wrong}

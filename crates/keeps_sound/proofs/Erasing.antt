@@ -24,7 +24,7 @@ use Rattle.store_sound.proofs.Erase.{erase-moved}
 use Rattle.store_sound.proofs.EraseAll.{Swept, erase-all-moved}
 use Rattle.read.specs.declared.Named.{Named}
 use Rattle.read.specs.declared.Command.the-variants.{EraseForm, ErasePicture}
-use Rattle.read.specs.Names.{packedOf}
+use Rattle.parts.specs.Names.{packedOf}
 use Rattle.session.specs.declared.Session.{Session}
 use Rattle.session.specs.Lent.{World}
 use Rattle.commands.specs.World.{state, memoryOf}

@@ -24,7 +24,7 @@ use Rattle.read.specs.declared.StorePicture.{StorePicture}
 use Rattle.read.specs.declared.Command.the-variants.{Start, Store}
 use Rattle.read.specs.declared.Read.the-variants.{Taken as Reads}
 use Rattle.read.specs.Commands.{readOf}
-use Rattle.read.specs.Names.{packedOf}
+use Rattle.parts.specs.Names.{packedOf}
 use Rattle.forms.specs.Form.{isAt}
 use Rattle.forms.proofs.Growing.{formOk-empty}
 use Rattle.session.specs.declared.Session.{Session}

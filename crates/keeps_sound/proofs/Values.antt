@@ -33,7 +33,7 @@ use Rattle.read.specs.declared.Print.{Print as PrintOf}
 use Rattle.read.specs.declared.Command.the-variants.{Retrieve, ListForms, PrintForm, ListPictures, SetVariable, SetCounter, Clear, Print, White}
 use Rattle.read.specs.declared.Read.the-variants.{Taken as Reads}
 use Rattle.read.specs.Commands.{readOf}
-use Rattle.read.specs.Names.{packedOf}
+use Rattle.parts.specs.Names.{packedOf}
 use Rattle.forms.specs.Form.{declaredOf, picturesStored}
 use Rattle.sound.specs.Sound.{numbersOk, activeOk, owedOk}
 use Rattle.session.specs.declared.Session.{Session}

@@ -17,10 +17,11 @@ use Rattle.fields.specs.declared.Element.{Element}
 use Rattle.fields.specs.declared.Step.the-variants.{Next, Stop}
 use Rattle.fields.proofs.Steps.{elements-next, elements-stop}
 use Rattle.read.specs.Grammar.{Got, good, bad, rowOf, fieldsFrom, Filled}
-use Rattle.read.specs.Names.{capital}
+use Rattle.parts.specs.Names.{capital}
 use Rattle.read.specs.declared.Fields.{Fields}
 use Rattle.read.specs.declared.Fields.the-variants.{All, Bad}
-use Rattle.read.proofs.Rows.{Same, same-drop, zeros, padded, fields-count, row-short}
+use Rattle.grammar.proofs.Rows.{row-short}
+use Rattle.read.proofs.Rows.{Same, same-drop, zeros, padded, fields-count}
 use Rattle.normal.specs.Written.{Wrote, digits, cased, kept, writtenField, writtenFrom, writtenOf, elementWritten, dataWritten, equal}
 
 -- ---- storing one list after another

@@ -10,8 +10,8 @@ use Rattle.fields.specs.Field.{kindFrom, nought}
 use Rattle.fields.specs.declared.Limits.{Limits}
 use Rattle.fields.specs.declared.Limits.the-variants.{Within, Outside}
 use Rattle.read.specs.Grammar.{Got, good, bad, rowOf, boundsOf, headOf, fieldsFrom, limitsFrom, starred}
-use Rattle.read.specs.declared.Head.{Head}
-use Rattle.read.specs.declared.Head.the-variants.{Row, Unknown}
+use Rattle.grammar.specs.declared.Head.{Head}
+use Rattle.grammar.specs.declared.Head.the-variants.{Row, Unknown}
 use Rattle.read.specs.declared.Ink.{Ink}
 use Rattle.read.specs.declared.Ink.the-variants.{Black, White, Inverted}
 use Rattle.read.specs.declared.Item.{Item}
@@ -156,7 +156,7 @@ headed (Row row) rows s = judged row rows s (fieldsFrom (rowOf row .fields) s 0)
 
 -- a line without its LF, on a page of so many rows
 unfoldable pub readOf : ℕ → List ℕ → Read
-readOf rows s = headed (headOf (getD s 0 0) (getD s 1 0)) rows s
+readOf rows s = headed (headOf s) rows s
 
 -- the number of the answer
 abbrev pub numberOf : Fault → ℕ

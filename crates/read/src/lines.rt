@@ -7,10 +7,10 @@ use crate::Fields;
 use crate::Read;
 use crate::check::row_limits;
 use crate::orders::command_of;
-use crate::table::line_up;
 use fields::Field;
 use fields::Limits;
 use fields::stop;
+use grammar::table::line_up;
 use reader::read_field;
 
 // Reads the fields of a row, one after another: a value and a place for each byte of its form, up to the first that is not there.

@@ -1,6 +1,7 @@
 -- The letters in which the grammar writes a command, and the field that each stands for.
 -- Assumes nothing.
 use Prim.Native.Nat.{ℕ}
+use Prim.Native.Char.{code}
 use mathlib.Core.Bool.{cond, _||_}
 use mathlib.Core.List.{List}
 use lib.Dec.{eqb}
@@ -13,11 +14,11 @@ use Rattle.fields.specs.declared.Field.{Field}
 -- justification), k for a bar type and d for data; any other byte stands for itself
 unfoldable pub fieldAt : ℕ → List ℕ → ℕ → Field
 fieldAt f s at =
-    cond (eqb f 110 || eqb f 119) (numberAt s at)
-    (cond (eqb f 116 || (eqb f 97 || (eqb f 122 || eqb f 117))) (textAt s at)
-    (cond (eqb f 115) (signedAt s at)
-    (cond (eqb f 109) (letterAt Mode s at)
-    (cond (eqb f 106) (letterAt Side s at)
-    (cond (eqb f 107) (typeAt s at)
-    (cond (eqb f 100) (dataAt s at)
+    cond (eqb f (code "n") || eqb f (code "w")) (numberAt s at)
+    (cond (eqb f (code "t") || (eqb f (code "a") || (eqb f (code "z") || eqb f (code "u")))) (textAt s at)
+    (cond (eqb f (code "s")) (signedAt s at)
+    (cond (eqb f (code "m")) (letterAt Mode s at)
+    (cond (eqb f (code "j")) (letterAt Side s at)
+    (cond (eqb f (code "k")) (typeAt s at)
+    (cond (eqb f (code "d")) (dataAt s at)
     (byteAt f s at)))))))

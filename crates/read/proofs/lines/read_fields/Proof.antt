@@ -9,8 +9,9 @@ use denote.Ref.{now}
 use borrow.Author.Tests.{eq-eqb, ne-eqb}
 use Rattle.fields.specs.Field.{stopOf}
 use Rattle.read.specs.Grammar.{rowOf, good, bad}
-use Rattle.read.specs.Codes.{lineUp}
-use Rattle.read.proofs.Rows.{row-short, form-at, in-row, out-row, filled, filled-more, filled-stop, filled-done, filled-good, filled-bad}
+use Rattle.grammar.specs.Codes.{lineUp}
+use Rattle.grammar.proofs.Rows.{row-short, form-at, in-row, out-row}
+use Rattle.read.proofs.Rows.{filled, filled-more, filled-stop, filled-done, filled-good, filled-bad}
 use borrow.Author.Needs.{needs}
 use Rattle.read.proofs.lines.read_fields.Statement.{statement}
 use Rattle.read.proofs.lines.read_fields.Tie as tie
