@@ -2,6 +2,7 @@
 ghost use mathlib.Core.Path.{_≡_};
 ghost use Rattle.grammar.specs.Heads.{headOf, Decided, Behind};
 use crate::Head;
+use crate::row;
 use fields::byte;
 
 // The row that a line's letters name.
@@ -15,21 +16,21 @@ fn by_first(a: u8, b: u8) -> Head
     ensures { λ r. ⌜ Decided a b r ⌝ }
 {
     match a {
-        b'Q' => Head::Row(0),
-        b'q' => Head::Row(1),
-        b'R' => Head::Row(2),
+        b'Q' => Head::Row(row::LENGTH),
+        b'q' => Head::Row(row::WIDTH),
+        b'R' => Head::Row(row::ORIGIN),
         b'Z' => turns(b),
         b'L' => lines(b),
-        b'X' => Head::Row(8),
-        b'A' => Head::Row(9),
-        b'B' => Head::Row(10),
+        b'X' => Head::Row(row::FRAME),
+        b'A' => Head::Row(row::TEXT),
+        b'B' => Head::Row(row::BARS),
         b'G' => pictures(b),
         b'F' => forms(b),
         b'V' => variables(b),
-        b'C' => Head::Row(23),
+        b'C' => Head::Row(row::COUNTER),
         b'?' => values(b),
-        b'P' => Head::Row(26),
-        b'N' => Head::Row(27),
+        b'P' => Head::Row(row::PRINT),
+        b'N' => Head::Row(row::WHITE),
         _ => Head::Unknown,
     }
 }
@@ -38,8 +39,8 @@ fn turns(b: u8) -> Head
     ensures { λ r. ⌜ Behind "Z" b r ⌝ }
 {
     match b {
-        b'T' => Head::Row(3),
-        b'B' => Head::Row(4),
+        b'T' => Head::Row(row::ZT),
+        b'B' => Head::Row(row::ZB),
         _ => Head::Unknown,
     }
 }
@@ -48,9 +49,9 @@ fn lines(b: u8) -> Head
     ensures { λ r. ⌜ Behind "L" b r ⌝ }
 {
     match b {
-        b'O' => Head::Row(5),
-        b'E' => Head::Row(6),
-        b'W' => Head::Row(7),
+        b'O' => Head::Row(row::LO),
+        b'E' => Head::Row(row::LE),
+        b'W' => Head::Row(row::LW),
         _ => Head::Unknown,
     }
 }
@@ -59,10 +60,10 @@ fn pictures(b: u8) -> Head
     ensures { λ r. ⌜ Behind "G" b r ⌝ }
 {
     match b {
-        b'G' => Head::Row(11),
-        b'K' => Head::Row(16),
-        b'I' => Head::Row(18),
-        b'M' => Head::Row(20),
+        b'G' => Head::Row(row::GG),
+        b'K' => Head::Row(row::GK),
+        b'I' => Head::Row(row::GI),
+        b'M' => Head::Row(row::GM),
         _ => Head::Unknown,
     }
 }
@@ -71,12 +72,12 @@ fn forms(b: u8) -> Head
     ensures { λ r. ⌜ Behind "F" b r ⌝ }
 {
     match b {
-        b'S' => Head::Row(12),
-        b'E' => Head::Row(13),
-        b'R' => Head::Row(14),
-        b'K' => Head::Row(15),
-        b'I' => Head::Row(17),
-        b'P' => Head::Row(19),
+        b'S' => Head::Row(row::FS),
+        b'E' => Head::Row(row::FE),
+        b'R' => Head::Row(row::FR),
+        b'K' => Head::Row(row::FK),
+        b'I' => Head::Row(row::FI),
+        b'P' => Head::Row(row::FP),
         _ => Head::Unknown,
     }
 }
@@ -85,8 +86,8 @@ fn variables(b: u8) -> Head
     ensures { λ r. ⌜ Behind "V" b r ⌝ }
 {
     match b {
-        b'C' => Head::Row(21),
-        _ => Head::Row(22),
+        b'C' => Head::Row(row::VC),
+        _ => Head::Row(row::VARIABLE),
     }
 }
 
@@ -94,8 +95,8 @@ fn values(b: u8) -> Head
     ensures { λ r. ⌜ Behind "?" b r ⌝ }
 {
     match b {
-        b'V' => Head::Row(24),
-        b'C' => Head::Row(25),
+        b'V' => Head::Row(row::SET_VARIABLE),
+        b'C' => Head::Row(row::SET_COUNTER),
         _ => Head::Unknown,
     }
 }

@@ -4,6 +4,7 @@
 // its limits. `head_of` answers the row that a line's letters name, the longest that match, and `line_up` and `bound_by` a row's form and bounds as
 // the code reads them. How a line is held to a row is said in crate `read`.
 pub mod heads;
+pub mod row;
 pub mod table;
 
 // The row of the grammar that a line's letters name.

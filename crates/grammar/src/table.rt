@@ -4,6 +4,7 @@ ghost use mathlib.Core.Path.{_≡_};
 ghost use Prim.Native.Nat.{_≤_, _<_};
 ghost use Rattle.grammar.specs.Codes.{lineUp, boundBy};
 use crate::Bounds;
+use crate::row;
 
 // The page: Q, q, R, ZT, ZB.
 fn page_rows(row: usize) -> [u8; 36]
@@ -11,10 +12,10 @@ fn page_rows(row: usize) -> [u8; 36]
     ensures { λ r. ⌜ r ≡ lineUp row ⌝ }
 {
     match row {
-        0 => *b"Qn,n              -N-l--------------",
-        1 => *b"qn                -m----------------",
-        2 => *b"Rn,n              -j-k--------------",
-        3 => *b"ZT                ------------------",
+        row::LENGTH => *b"Qn,n              -N-l--------------",
+        row::WIDTH => *b"qn                -m----------------",
+        row::ORIGIN => *b"Rn,n              -j-k--------------",
+        row::ZT => *b"ZT                ------------------",
         _ => *b"ZB                ------------------",
     }
 }
@@ -25,12 +26,12 @@ fn drawn_rows(row: usize) -> [u8; 36]
     ensures { λ r. ⌜ r ≡ lineUp row ⌝ }
 {
     match row {
-        5 => *b"LOn,n,n,n         --a-a-b-b---------",
-        6 => *b"LEn,n,n,n         --a-a-b-b---------",
-        7 => *b"LWn,n,n,n         --a-a-b-b---------",
-        8 => *b"Xn,n,n,n,n        -a-c-d-a-c--------",
-        9 => *b"An,n,n,n,n,m,d    -a-c-e-f-g--------",
-        10 => *b"Bn,n,n,k,n,w,n,N,d-a-c-e---f-h-i----",
+        row::LO => *b"LOn,n,n,n         --a-a-b-b---------",
+        row::LE => *b"LEn,n,n,n         --a-a-b-b---------",
+        row::LW => *b"LWn,n,n,n         --a-a-b-b---------",
+        row::FRAME => *b"Xn,n,n,n,n        -a-c-d-a-c--------",
+        row::TEXT => *b"An,n,n,n,n,m,d    -a-c-e-f-g--------",
+        row::BARS => *b"Bn,n,n,k,n,w,n,N,d-a-c-e---f-h-i----",
         _ => *b"GGn,n,a           --a-c-q-----------",
     }
 }
@@ -41,14 +42,14 @@ fn kept_rows(row: usize) -> [u8; 36]
     ensures { λ r. ⌜ r ≡ lineUp row ⌝ }
 {
     match row {
-        12 => *b"FSa               --q---------------",
-        13 => *b"FE                ------------------",
-        14 => *b"FRa               --q---------------",
-        15 => *b"FKz               --q---------------",
-        16 => *b"GKz               --q---------------",
-        17 => *b"FI                ------------------",
-        18 => *b"GI                ------------------",
-        19 => *b"FPa               --q---------------",
+        row::FS => *b"FSa               --q---------------",
+        row::FE => *b"FE                ------------------",
+        row::FR => *b"FRa               --q---------------",
+        row::FK => *b"FKz               --q---------------",
+        row::GK => *b"GKz               --q---------------",
+        row::FI => *b"FI                ------------------",
+        row::GI => *b"GI                ------------------",
+        row::FP => *b"FPa               --q---------------",
         _ => *b"GMa,n             --q-r-------------",
     }
 }
@@ -59,13 +60,13 @@ fn value_rows(row: usize) -> [u8; 36]
     ensures { λ r. ⌜ r ≡ lineUp row ⌝ }
 {
     match row {
-        21 => *b"VC                ------------------",
-        22 => *b"Vn,n,j,t          -n-o---p----------",
-        23 => *b"Cn,n,s,t          -n-g-s-p----------",
-        24 => *b"?Vn,u             --n---------------",
-        25 => *b"?Cn,n             --n-v-------------",
-        26 => *b"Pn                -t----------------",
-        27 => *b"N                 ------------------",
+        row::VC => *b"VC                ------------------",
+        row::VARIABLE => *b"Vn,n,j,t          -n-o---p----------",
+        row::COUNTER => *b"Cn,n,s,t          -n-g-s-p----------",
+        row::SET_VARIABLE => *b"?Vn,u             --n---------------",
+        row::SET_COUNTER => *b"?Cn,n             --n-v-------------",
+        row::PRINT => *b"Pn                -t----------------",
+        row::WHITE => *b"N                 ------------------",
         _ => *b"                  ------------------",
     }
 }

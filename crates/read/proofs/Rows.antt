@@ -15,7 +15,7 @@ use Rattle.fields.specs.declared.Field.the-variants.{Is, Not}
 use Rattle.fields.specs.declared.Limits.the-variants.{Within, Outside}
 use Rattle.grammar.proofs.Rows.{row-short}
 use Rattle.read.specs.Grammar.{rowOf, boundsOf, free, fieldAt, fieldsFrom, Got, good, bad, next, ahead, Filled, fieldLimits, firstOf, limitsFrom, isNumber}
-use Rattle.read.specs.Front.{sizeOf}
+use Rattle.read.specs.Front.{gm, sizeOf}
 use Rattle.read.specs.Commands.{judged, withinLimits, commandOf, itemOf, orderOf}
 use Rattle.read.specs.declared.Fields.{Fields}
 use Rattle.read.specs.declared.Fields.the-variants.{All, Bad}
@@ -220,15 +220,15 @@ unfolding sizeOf
 size-bad (bad ws qs q) r vs₀ ps₀ vs ps p h e = refl
 size-bad (good ws qs) r vs₀ ps₀ vs ps p h e = absurd (let z : _≡_ {A = ℕ} 0 1 = cc in omega arith)
 
-size-fields : (s : List ℕ) (g : Got) (r : Fields) (vs ps : List ℕ) → fieldsFrom (rowOf 20 .fields) s 0 ≡ g → Filled g zeros zeros r vs ps → r ≡ All
+size-fields : (s : List ℕ) (g : Got) (r : Fields) (vs ps : List ℕ) → fieldsFrom (rowOf gm .fields) s 0 ≡ g → Filled g zeros zeros r vs ps → r ≡ All
     → sizeOf g ≡ cond (between 1 32768 (getD vs 4 0)) (getD vs 4 0) 0
 unfolding sizeOf
 size-fields s (bad ws qs q) r vs ps k h e = absurd (let a = h .0 in let z : _≡_ {A = ℕ} 0 1 = cc in omega arith)
 size-fields s (good ws qs) r vs ps k h e =
-    let n = fields-count (rowOf 20 .fields) s 0 ws qs k in
+    let n = fields-count (rowOf gm .fields) s 0 ws qs k in
     let a : getD vs 4 0 ≡ getD ws 4 0 = rw (h .1) (padded ws (omega arith) 4) in
     rw a
 
-pub size-good : (s : List ℕ) (r : Fields) (vs ps : List ℕ) → Filled (fieldsFrom (rowOf 20 .fields) s 0) zeros zeros r vs ps → r ≡ All
-    → sizeOf (fieldsFrom (rowOf 20 .fields) s 0) ≡ cond (between 1 32768 (getD vs 4 0)) (getD vs 4 0) 0
-size-good s r vs ps h e = size-fields s (fieldsFrom (rowOf 20 .fields) s 0) r vs ps refl h e
+pub size-good : (s : List ℕ) (r : Fields) (vs ps : List ℕ) → Filled (fieldsFrom (rowOf gm .fields) s 0) zeros zeros r vs ps → r ≡ All
+    → sizeOf (fieldsFrom (rowOf gm .fields) s 0) ≡ cond (between 1 32768 (getD vs 4 0)) (getD vs 4 0) 0
+size-good s r vs ps h e = size-fields s (fieldsFrom (rowOf gm .fields) s 0) r vs ps refl h e

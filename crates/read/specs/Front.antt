@@ -15,13 +15,17 @@ use Rattle.grammar.specs.declared.Head.the-variants.{Row, Unknown}
 use Rattle.read.specs.declared.Front.{Front}
 use Rattle.read.specs.declared.Front.the-variants.{Short, Long, Idle, Line}
 
+-- the row of GM
+abbrev pub gm : ℕ
+gm = 20
+
 -- "A GM is well-formed when it has the written form and its n is 1 to 32768, good name or not": its n, and 0 of another line
 unfoldable pub sizeOf : Got → ℕ
 sizeOf (good vs ps) = cond (between 1 32768 (getD vs 4 0)) (getD vs 4 0) 0
 sizeOf (bad vs ps p) = 0
 
 unfoldable pub askedBy : Head → List ℕ → ℕ
-askedBy (Row row) l = cond (eqb row 20) (sizeOf (fieldsFrom (rowOf 20 .fields) l 0)) 0
+askedBy (Row row) l = cond (eqb row gm) (sizeOf (fieldsFrom (rowOf gm .fields) l 0)) 0
 askedBy Unknown l = 0
 
 abbrev pub asked : List ℕ → ℕ

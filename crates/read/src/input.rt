@@ -3,21 +3,22 @@ ghost use mathlib.Core.Path.{_≡_};
 ghost use Prim.Native.Nat.{_≤_, _<_};
 ghost use lib.ListN.{length};
 ghost use Rattle.read.specs.Grammar.{rowOf, Form, fieldsFrom};
-ghost use Rattle.read.specs.Front.{sizeOf, asked, lineFront, frontOf};
+ghost use Rattle.read.specs.Front.{gm, sizeOf, asked, lineFront, frontOf};
 use crate::Fields;
 use crate::Front;
 use crate::lines::read_fields;
 use fields::Class;
 use grammar::Head;
 use grammar::heads::head_of;
+use grammar::row;
 
 // How many bytes a line of the form of GM asks for.
 fn size(line: &[u8]) -> usize
-    ensures { λ r. ⌜ (r ≡ sizeOf (fieldsFrom (rowOf 20 .fields) (now (line .entry)) 0)) × (r ≤ 32768) ⌝ }
+    ensures { λ r. ⌜ (r ≡ sizeOf (fieldsFrom (rowOf gm .fields) (now (line .entry)) 0)) × (r ≤ 32768) ⌝ }
 {
     let mut vs = [0usize; 18];
     let mut ps = [0usize; 18];
-    if let Fields::Bad(_) = read_fields(line, 20, &mut vs, &mut ps) {
+    if let Fields::Bad(_) = read_fields(line, row::GM, &mut vs, &mut ps) {
         return 0;
     }
     let n = vs[4];
@@ -37,7 +38,7 @@ fn wanted(line: &[u8]) -> usize
     let Head::Row(row) = head_of(line) else {
         return 0;
     };
-    if row != 20 {
+    if row != row::GM {
         return 0;
     }
     size(line)

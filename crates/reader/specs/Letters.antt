@@ -11,7 +11,8 @@ use Rattle.fields.specs.declared.Class.the-variants.{Mode, Side}
 use Rattle.fields.specs.declared.Field.{Field}
 
 -- n and w stand for a number, t, a, z and u for a quoted text, s for a number with or without sign, m and j for one letter (mode,
--- justification), k for a bar type and d for data; any other byte stands for itself
+-- justification), k for a bar type and d for data; any other byte stands for itself. A letter for a piece that may be absent would answer a field
+-- that ends where it starts
 unfoldable pub fieldAt : ℕ → List ℕ → ℕ → Field
 fieldAt f s at =
     cond (eqb f (code "n") || eqb f (code "w")) (numberAt s at)
