@@ -17,7 +17,7 @@ use Rattle.read.specs.declared.Item.{Item}
 use Rattle.read.specs.declared.Command.{Command}
 use Rattle.grammar.specs.Heads.{capitals, lettersOf, begins, orElse}
 use Rattle.read.specs.Grammar.{Form, forms, find, headBy, headOf, Got, good, bad, rowOf, boundsOf, fieldsFrom, limitsFrom}
-use Rattle.read.specs.Commands.{itemOf, orderOf, isItem, commandOf, decided, judged, headed, readOf}
+use Rattle.read.specs.Commands.{itemOf, orderOf, isItem, isForm, isPicture, isValue, isListing, commandOf, decided, judged, headed, readOf}
 use Rattle.normal.specs.Written.{isNormal}
 use Rattle.forms.specs.declared.Stored.{Stored}
 use Rattle.forms.specs.declared.Stored.the-variants.{Holds, Nothing}
@@ -84,23 +84,8 @@ order-none : (r : ℕ) (s v p : List ℕ) → heldCommand (orderOf r s v p) ≡ 
 unfolding orderOf
 order-none r s v p =
     let q : (Command → Type 0) = λ c. heldCommand c ≡ Nothing in
-    choice q (eqb r 0) refl
-    (choice q (eqb r 1) refl
-    (choice q (eqb r 3) refl
-    (choice q (eqb r 4) refl
-    (choice q (eqb r 12) refl
-    (choice q (eqb r 13) refl
-    (choice q (eqb r 14) refl
-    (choice q (eqb r 15) refl
-    (choice q (eqb r 16) refl
-    (choice q (eqb r 17) refl
-    (choice q (eqb r 18) refl
-    (choice q (eqb r 19) refl
-    (choice q (eqb r 20) refl
-    (choice q (eqb r 21) refl
-    (choice q (eqb r 24) refl
-    (choice q (eqb r 25) refl
-    (choice q (eqb r 26) refl refl))))))))))))))))
+    choice q (eqb r 13) refl
+    (choice q (isValue r) refl (choice q (isForm r) refl (choice q (isPicture r) refl (choice q (isListing r) refl refl))))
 
 -- what holds of nothing and of each item of the rows that `ok` names holds of a line whose letters name no other row
 module _ (q : Stored → Type 0) (none : q Nothing) (ok : ℕ → Bool) (items : (r : ℕ) (v p : List ℕ) → ok r ≡ true → q (Holds (itemOf r v p)))

@@ -14,26 +14,7 @@ use Rattle.store.specs.Lines.{linesOf}
 use Rattle.read.specs.declared.Item.{Item}
 use Rattle.read.specs.declared.Item.the-variants.{Origin, Variable, Counter, Text, Bars, Box, Frame, Picture}
 use Rattle.read.specs.declared.Command.{Command}
-use Rattle.read.specs.declared.Command.the-variants.{
-  Item as item,
-  Length,
-  Width,
-  Turn,
-  Start,
-  End,
-  Retrieve,
-  EraseForm,
-  ListForms,
-  PrintForm,
-  Store,
-  ListPictures,
-  ErasePicture,
-  SetVariable,
-  SetCounter,
-  Clear,
-  Print,
-  White,
-}
+use Rattle.read.specs.declared.Command.the-variants.{Item as item, End, Page, Forms, Pictures, Values, Listing}
 use Rattle.read.specs.declared.Read.{Read}
 use Rattle.read.specs.declared.Read.the-variants.{Taken, Refused}
 use Rattle.read.specs.Commands.{readOf}
@@ -48,23 +29,12 @@ use Rattle.forms.specs.Judged.{judged, declares, isTaken}
 -- "While recording only R, V, C, A, B, LO, LE, LW, X, GG and FE have a place", and FE is not recorded
 abbrev pub heldCommand : Command → Stored
 heldCommand (item it) = Holds it
-heldCommand (Length l) = Nothing
-heldCommand (Width w) = Nothing
-heldCommand (Turn t) = Nothing
-heldCommand (Start n) = Nothing
 heldCommand End = Nothing
-heldCommand (Retrieve n) = Nothing
-heldCommand (EraseForm n) = Nothing
-heldCommand ListForms = Nothing
-heldCommand (PrintForm n) = Nothing
-heldCommand (Store p) = Nothing
-heldCommand ListPictures = Nothing
-heldCommand (ErasePicture n) = Nothing
-heldCommand (SetVariable v) = Nothing
-heldCommand (SetCounter c) = Nothing
-heldCommand Clear = Nothing
-heldCommand (Print p) = Nothing
-heldCommand White = Nothing
+heldCommand (Page c) = Nothing
+heldCommand (Forms c) = Nothing
+heldCommand (Pictures c) = Nothing
+heldCommand (Values c) = Nothing
+heldCommand (Listing c) = Nothing
 
 abbrev pub heldRead : Read → Stored
 heldRead (Taken c) = heldCommand c

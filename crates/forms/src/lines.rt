@@ -19,23 +19,12 @@ fn held_command(c: Command) -> Stored
 {
     match c {
         Command::Item(item) => Stored::Holds(item),
-        Command::Length(_) => Stored::Nothing,
-        Command::Width(_) => Stored::Nothing,
-        Command::Turn(_) => Stored::Nothing,
-        Command::Start(_) => Stored::Nothing,
         Command::End => Stored::Nothing,
-        Command::Retrieve(_) => Stored::Nothing,
-        Command::EraseForm(_) => Stored::Nothing,
-        Command::ListForms => Stored::Nothing,
-        Command::PrintForm(_) => Stored::Nothing,
-        Command::Store(_) => Stored::Nothing,
-        Command::ListPictures => Stored::Nothing,
-        Command::ErasePicture(_) => Stored::Nothing,
-        Command::SetVariable(_) => Stored::Nothing,
-        Command::SetCounter(_) => Stored::Nothing,
-        Command::Clear => Stored::Nothing,
-        Command::Print(_) => Stored::Nothing,
-        Command::White => Stored::Nothing,
+        Command::Page(_) => Stored::Nothing,
+        Command::Forms(_) => Stored::Nothing,
+        Command::Pictures(_) => Stored::Nothing,
+        Command::Values(_) => Stored::Nothing,
+        Command::Listing(_) => Stored::Nothing,
     }
 }
 

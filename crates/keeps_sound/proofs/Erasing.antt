@@ -23,13 +23,18 @@ use Rattle.store_sound.proofs.Moving.{Moved}
 use Rattle.store_sound.proofs.Erase.{erase-moved}
 use Rattle.store_sound.proofs.EraseAll.{Swept, erase-all-moved}
 use Rattle.read.specs.declared.Named.{Named}
-use Rattle.read.specs.declared.Command.the-variants.{EraseForm, ErasePicture}
+use Rattle.read.specs.declared.Command.the-variants.{Forms, Pictures}
+use Rattle.read.specs.declared.FormCommand.the-variants.{Erase as EraseForm}
+use Rattle.read.specs.declared.PictureCommand.the-variants.{Erase as ErasePicture}
 use Rattle.parts.specs.Names.{packedOf}
 use Rattle.session.specs.declared.Session.{Session}
 use Rattle.session.specs.Lent.{World}
-use Rattle.commands.specs.World.{state, memoryOf}
-use Rattle.commands.specs.Rows.{named}
-use Rattle.commands.specs.Does.{erasedNamed, erasedEvery, erasedForm, pickState, inactive, runs}
+use Rattle.results.specs.World.{state, memoryOf, pickState, inactive}
+use Rattle.results.specs.Named.{named, erasedNamed, erasedEvery}
+use Rattle.results.specs.Result.{sixteenBits}
+use Rattle.results.proofs.Lengths.{directory-long}
+use Rattle.form_commands.specs.Forms.{erasedForm}
+use Rattle.commands.specs.Does.{runs}
 use Rattle.keeps_sound.specs.Good.{Good}
 use Rattle.keeps_sound.proofs.Stored.{heldOk, contentsOf, contents-at, contents-of, contents-moved, good-stored, good-moved, good-ended}
 
@@ -82,8 +87,10 @@ module _ (s : Session) (w : World) (g : Good s w) (z : s .owed ≡ 0) where
       let a = named-is (w .directory) false n i e in
       let v = erasedAt-moved s w g i (a .0) (some-kind false (kind (entry (w .directory) i)) (a .1)) in
       let c = contents-moved (memoryOf w) (erasedAt (memoryOf w) i) i nothing v (a .0) (g .contents) refl in
-      go (eqb (s .active) i) refl (good-ended s w g z (erasedAt (memoryOf w) i) (v .sound) (v .long-directory) c)
-      (λ ne. good-moved s w g z (erasedAt (memoryOf w) i) i nothing v (a .0) refl (λ q k. ne q))
+      let small : sixteenBits i ≡ i = omega (arith, a .0, directory-long w (g .lengths)) in
+      rw small
+      (go (eqb (s .active) i) refl (good-ended s w g z (erasedAt (memoryOf w) i) (v .sound) (v .long-directory) c)
+      (λ ne. good-moved s w g z (erasedAt (memoryOf w) i) i nothing v (a .0) refl (λ q k. ne q)))
     where
       go : (b : Bool) → eqb (s .active) i ≡ b → Good (inactive s (erasedNamed w (At i)) .session) (inactive s (erasedNamed w (At i)) .world)
           → ((s .active ≡ i → ⊥) → Good s (erasedNamed w (At i)))
@@ -105,7 +112,7 @@ module _ (s : Session) (w : World) (g : Good s w) (z : s .owed ≡ 0) where
 
   -- FK: a form or all forms
   pub keeps-erase-form : (font line more : List ℕ) (n : Named)
-      → Good (runs font w s line more (EraseForm n) .session) (runs font w s line more (EraseForm n) .world)
+      → Good (runs font w s line more (Forms (EraseForm n)) .session) (runs font w s line more (Forms (EraseForm n)) .world)
   keeps-erase-form font line more n = go (n .all)
     where
       go : (b : Bool) → Good (pickState b (inactive s (erasedEvery w false)) (erasedForm s w (named w false line n)) .session)
@@ -128,7 +135,7 @@ module _ (s : Session) (w : World) (g : Good s w) (z : s .owed ≡ 0) where
 
   -- GK: a picture or all pictures
   pub keeps-erase-picture : (font line more : List ℕ) (n : Named)
-      → Good (runs font w s line more (ErasePicture n) .session) (runs font w s line more (ErasePicture n) .world)
+      → Good (runs font w s line more (Pictures (ErasePicture n)) .session) (runs font w s line more (Pictures (ErasePicture n)) .world)
   keeps-erase-picture font line more n = go (n .all)
     where
       go : (b : Bool) → Good s (cond b (erasedEvery w true) (erasedNamed w (named w true line n)))

@@ -23,8 +23,8 @@ use Rattle.session.specs.declared.answers.Answer.the-variants.{Taken, Lengths}
 use Rattle.session.specs.Answers.{numberOf, isTaken, answerOf}
 use Rattle.session.specs.Session.{session, counting}
 use Rattle.session.specs.Lent.{World, wrongLent}
-use Rattle.commands.specs.World.{activeOf, activeDeclared}
-use Rattle.commands.proofs.Answers.{or-none}
+use Rattle.results.specs.World.{activeOf, activeDeclared}
+use Rattle.results.proofs.Answers.{or-none}
 use Rattle.station.specs.Outcomes.{Drawn, drawnBy, labelled}
 use Rattle.station.specs.Table.{labelTable}
 use Rattle.station.specs.Station.{labelPage, labelSession, settledLabel, labelledBy}

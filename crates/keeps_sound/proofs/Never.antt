@@ -10,26 +10,11 @@ use Rattle.store.specs.declared.Found.{Found}
 use Rattle.store.specs.declared.Found.the-variants.{At, Nothing}
 use Rattle.store.specs.Find.{recorded}
 use Rattle.read.specs.declared.Command.{Command}
-use Rattle.read.specs.declared.Command.the-variants.{
-  Item as item,
-  Length,
-  Width,
-  Turn,
-  Start,
-  End,
-  Retrieve,
-  EraseForm,
-  ListForms,
-  PrintForm,
-  Store,
-  ListPictures,
-  ErasePicture,
-  SetVariable,
-  SetCounter,
-  Clear,
-  Print,
-  White,
-}
+use Rattle.read.specs.declared.Command.the-variants.{Item as item, End, Page, Forms, Pictures, Values, Listing}
+use Rattle.read.specs.declared.FormCommand.the-variants.{Start, Retrieve, Erase as EraseForm}
+use Rattle.read.specs.declared.PictureCommand.the-variants.{Store, Erase as ErasePicture}
+use Rattle.read.specs.declared.ValueCommand.the-variants.{Variable as EnterVariable, Counter as EnterCounter, Clear, Print}
+use Rattle.read.specs.declared.ListingCommand.the-variants.{Forms as ListForms, Pictures as ListPictures, Form as ListForm}
 use Rattle.read.specs.declared.Fault.the-variants.{Form as form, Limit}
 use Rattle.read.specs.declared.Front.{Front}
 use Rattle.read.specs.declared.Front.the-variants.{Short, Long as LongLine, Idle, Line}
@@ -71,44 +56,30 @@ module _ (w : World) (s : Session) (line more : List ℕ) (room : ℕ) where
   record-harmless : (i : ℕ) (c : Command) → harmless (recordRows w line i c) ≡ true
   unfolding numberOf
   record-harmless i (item it) = refl
-  record-harmless i (Length l) = refl
-  record-harmless i (Width m) = refl
-  record-harmless i (Turn t) = refl
-  record-harmless i (Start n) = refl
   record-harmless i End = refl
-  record-harmless i (Retrieve n) = refl
-  record-harmless i (EraseForm n) = refl
-  record-harmless i ListForms = refl
-  record-harmless i (PrintForm n) = refl
-  record-harmless i (Store p) = refl
-  record-harmless i ListPictures = refl
-  record-harmless i (ErasePicture n) = refl
-  record-harmless i (SetVariable v) = refl
-  record-harmless i (SetCounter c) = refl
-  record-harmless i Clear = refl
-  record-harmless i (Print p) = refl
-  record-harmless i White = refl
+  record-harmless i (Page c) = refl
+  record-harmless i (Forms c) = refl
+  record-harmless i (Pictures c) = refl
+  record-harmless i (Values c) = refl
+  record-harmless i (Listing c) = refl
 
   run-harmless : (c : Command) → harmless (runRows w s line more room c) ≡ true
   unfolding numberOf
   run-harmless (item it) = refl
-  run-harmless (Length l) = refl
-  run-harmless (Width m) = refl
-  run-harmless (Turn t) = refl
-  run-harmless (Start n) = refl
   run-harmless End = refl
-  run-harmless (Retrieve n) = refl
-  run-harmless (EraseForm n) = refl
-  run-harmless ListForms = refl
-  run-harmless (PrintForm n) = refl
-  run-harmless (Store p) = refl
-  run-harmless ListPictures = refl
-  run-harmless (ErasePicture n) = refl
-  run-harmless (SetVariable v) = refl
-  run-harmless (SetCounter c) = refl
-  run-harmless Clear = refl
-  run-harmless (Print p) = refl
-  run-harmless White = refl
+  run-harmless (Page c) = refl
+  run-harmless (Forms (Start n)) = refl
+  run-harmless (Forms (Retrieve n)) = refl
+  run-harmless (Forms (EraseForm n)) = refl
+  run-harmless (Pictures (Store p)) = refl
+  run-harmless (Pictures (ErasePicture n)) = refl
+  run-harmless (Values (EnterVariable v)) = refl
+  run-harmless (Values (EnterCounter c)) = refl
+  run-harmless (Values Clear) = refl
+  run-harmless (Values (Print p)) = refl
+  run-harmless (Listing ListForms) = refl
+  run-harmless (Listing ListPictures) = refl
+  run-harmless (Listing (ListForm n)) = refl
 
   placed-harmless : (f : Found) (c : Command) → harmless (placedRows w s line more room c f) ≡ true
   placed-harmless (At i) c = record-harmless i c

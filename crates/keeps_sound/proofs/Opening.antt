@@ -23,7 +23,7 @@ use Rattle.session.specs.declared.answers.Answer.the-variants.{Taken, Lengths}
 use Rattle.session.specs.Answers.{numberOf, isTaken}
 use Rattle.session.specs.Session.{none, fresh, blank}
 use Rattle.session.specs.Lent.{World, rowsOf, wrongLent}
-use Rattle.commands.proofs.Answers.{or-none}
+use Rattle.results.proofs.Answers.{or-none}
 use Rattle.station.specs.Outcomes.{Opened, openedBy, labelled}
 use Rattle.station.specs.Station.{cleared, pickOpened, opened}
 use Rattle.keeps_sound.specs.Good.{Good}

@@ -26,26 +26,7 @@ use Rattle.values.specs.Stored.{allSet}
 use Rattle.read.specs.Commands.{readOf}
 use Rattle.read.specs.declared.Item.{Item}
 use Rattle.read.specs.declared.Command.{Command}
-use Rattle.read.specs.declared.Command.the-variants.{
-  Item as item,
-  Length,
-  Width,
-  Turn,
-  Start,
-  End,
-  Retrieve,
-  EraseForm,
-  ListForms,
-  PrintForm,
-  Store,
-  ListPictures,
-  ErasePicture,
-  SetVariable,
-  SetCounter,
-  Clear,
-  Print,
-  White,
-}
+use Rattle.read.specs.declared.Command.the-variants.{Item as item, End, Page, Forms, Pictures, Values, Listing}
 use Rattle.read.specs.declared.Read.the-variants.{Taken as Reads}
 use Rattle.normal.specs.Written.{normal, takenItem, equal, isNormal}
 use Rattle.normal.proofs.Round.{normal-line, item-rows}
@@ -58,11 +39,12 @@ use Rattle.forms.specs.Form.{formOk, declaredOf, itemIn, heldRead, pickStored, 
 use Rattle.forms.proofs.Growing.{formOk-grows}
 use Rattle.sound.specs.Sound.{owedOk}
 use Rattle.session.specs.declared.Session.{Session}
-use Rattle.session.specs.declared.answers.Answer.the-variants.{Taken, Missing, Again, Undeclared, Past, Unfit, Full}
+use Rattle.session.specs.declared.answers.Answer.the-variants.{Taken, Misplaced, Missing, Again, Undeclared, Past, Unfit, Full}
 use Rattle.session.specs.Answers.{Row, isTaken, numberOf, answerOf}
 use Rattle.session.specs.Lent.{World, rowsOf}
-use Rattle.commands.specs.World.{memoryOf, contentAt, activeOf, activeDeclared}
-use Rattle.commands.specs.Rows.{isBefore, isUnknown, isReaching, isWrong, verdictRows, recordRows}
+use Rattle.results.specs.World.{memoryOf, contentAt, activeOf, activeDeclared}
+use Rattle.item_commands.specs.Items.{isBefore, isUnknown, isReaching, isWrong, verdictRows}
+use Rattle.commands.specs.Rows.{recordRows}
 use Rattle.commands.specs.Does.{records}
 use Rattle.keeps_sound.specs.Good.{Good}
 use Rattle.keeps_sound.proofs.Tables.{clear, not-no}
@@ -168,7 +150,8 @@ module _ (s : Session) (w : World) (g : Good s w) (i : ℕ) (e : recorded (w .di
       → Good (records w s line i (item it) .session) (records w s line i (item it) .world)
   unfolding isTaken numberOf
   keeps-recorded line it r h c =
-      let c₁ = clear Missing _ _ refl c in
+      let c₀ = clear Misplaced _ _ refl c in
+      let c₁ = clear Missing _ _ refl (c₀ .1) in
       let c₂ = verdict-fine (judged (declaredOf (contentAt w i)) line it) _ (c₁ .1) in
       let c₃ = clear Full _ _ refl (c₂ .1) in
       let more : List ℕ = normal line ++ (10 ∷ []) in
@@ -185,20 +168,9 @@ module _ (s : Session) (w : World) (g : Good s w) (i : ℕ) (e : recorded (w .di
   pub keeps-records : (line : List ℕ) (c : Command) → readOf (rowsOf w) line ≡ Reads c → length line ≤ 255
       → answerOf (recordRows w line i c) ≡ Taken → Good (records w s line i c .session) (records w s line i c .world)
   keeps-records line (item it) r h a = keeps-recorded line it r h a
-  keeps-records line (Length l) r h a = g
-  keeps-records line (Width m) r h a = g
-  keeps-records line (Turn t) r h a = g
-  keeps-records line (Start n) r h a = g
   keeps-records line End r h a = keeps-end s w g i e line
-  keeps-records line (Retrieve n) r h a = g
-  keeps-records line (EraseForm n) r h a = g
-  keeps-records line ListForms r h a = g
-  keeps-records line (PrintForm n) r h a = g
-  keeps-records line (Store p) r h a = g
-  keeps-records line ListPictures r h a = g
-  keeps-records line (ErasePicture n) r h a = g
-  keeps-records line (SetVariable v) r h a = g
-  keeps-records line (SetCounter c) r h a = g
-  keeps-records line Clear r h a = g
-  keeps-records line (Print p) r h a = g
-  keeps-records line White r h a = g
+  keeps-records line (Page c) r h a = g
+  keeps-records line (Forms c) r h a = g
+  keeps-records line (Pictures c) r h a = g
+  keeps-records line (Values c) r h a = g
+  keeps-records line (Listing c) r h a = g

@@ -29,9 +29,8 @@ use Rattle.sound.specs.Sound.{numbersOk, contentOk, contentsOk, activeOk, activ
 use Rattle.session.specs.declared.Session.{Session}
 use Rattle.session.specs.Session.{activated}
 use Rattle.session.specs.Lent.{World, pageWrong, storeWrong, lengthsWrong}
-use Rattle.commands.proofs.Answers.{or-none}
-use Rattle.commands.specs.World.{memoryOf, withMemory}
-use Rattle.commands.specs.Does.{unsetIn}
+use Rattle.results.specs.World.{memoryOf, withMemory, unsetIn}
+use Rattle.results.proofs.Answers.{or-none}
 use Rattle.keeps_sound.specs.Good.{Good}
 
 -- ---- contents

@@ -2,7 +2,7 @@
 -- Assumes nothing.
 use mathlib.Core.List.{List, [], _∷_}
 use Prim.Native.Nat.{ℕ}
-use Rattle.commands.specs.World.{State, state}
+use Rattle.results.specs.World.{State, state}
 use Rattle.station.specs.Station.{opened, commanded, labelledBy}
 use Rattle.session.specs.Lent.{World}
 

@@ -1,6 +1,6 @@
 -- Reading the normal form of a line gives the same command with the same contents, and its normal form is itself.
 use mathlib.Core.Path.{_≡_, _∙_, refl, sym, ap}
-use mathlib.Core.Bool.{Bool, true, false, cond, _&&_, _||_, false≢true, and-false}
+use mathlib.Core.Bool.{Bool, true, false, cond, _&&_, _||_, true≢false, false≢true, and-false}
 use mathlib.Core.List.{List, [], _∷_, _++_, append-assoc}
 use Prim.Native.Nat.{ℕ, zero, suc, _+_, _-_, _≤_, _<_}
 use native.Mathlib.Nat.{zero-add}
@@ -38,34 +38,38 @@ use Rattle.read.specs.Grammar.{
   limitsFrom,
   spread,
 }
-use Rattle.read.specs.Commands.{readOf, headed as headRead, judged, decided, commandOf, itemOf, orderOf, isItem, namedAt, sideOf, inkOf, isMinus, stepOf}
+use Rattle.read.specs.Commands.{
+  readOf,
+  headed as headRead,
+  judged,
+  decided,
+  commandOf,
+  itemOf,
+  pageOf,
+  formOf,
+  pictureOf,
+  valueOf,
+  listingOf,
+  orderOf,
+  isItem,
+  isForm,
+  isPicture,
+  isValue,
+  isListing,
+  namedAt,
+  sideOf,
+  inkOf,
+  isMinus,
+  stepOf,
+}
 use Rattle.read.specs.declared.Item.{Item}
 use Rattle.read.specs.declared.Item.the-variants.{Origin, Variable, Counter, Text, Bars, Box, Frame, Picture}
-use Rattle.read.specs.declared.Command.the-variants.{
-  Item as item,
-  Length,
-  Width,
-  Turn,
-  Start,
-  End,
-  Retrieve,
-  EraseForm,
-  ListForms,
-  PrintForm,
-  Store,
-  ListPictures,
-  ErasePicture,
-  SetVariable,
-  SetCounter,
-  Clear,
-  Print,
-  White as Whiten,
-}
+use Rattle.read.specs.declared.Command.the-variants.{Item as item, End, Page, Forms, Pictures, Values, Listing}
 use Rattle.read.specs.declared.Read.the-variants.{Taken}
 use Rattle.grammar.specs.declared.Head.{Head}
 use Rattle.grammar.specs.declared.Head.the-variants.{Row, Unknown}
 use Rattle.read.proofs.Rows.{Split, fields-split}
-use Rattle.normal.specs.Written.{decimal, writtenField, writtenFrom, writtenOf, headWritten, normal}
+use Rattle.normal.specs.Written.{decimal, writtenField, writtenFrom, writtenOf, headWritten, normal, isItem as isItemCommand}
 use Rattle.normal.specs.Contents.{unplaced, heldBy, contentsOf, headContents, contents}
 use Rattle.normal.proofs.Back.{allIn, T-true, number-fits, digits-class, digits-count}
 use Rattle.normal.proofs.Fields.{Letter, letter-of, a-number, a-wide, a-step, a-prompt, a-text, a-name, a-star, a-mode, a-side, a-type, some-data, itself, After, Moved, field-moved, Plain, plain-written}
@@ -384,57 +388,27 @@ row-some s row vs ps h k = go (rowOf row .fields) k
     go [] q = absurd (none-read s h q)
     go (f ∷ fs) q = omega arith
 
--- an item's row
+-- an item's row: what the other rows make is no item
 order-no-item : (row : ℕ) (s vs ps : List ℕ) (i : Item) → orderOf row s vs ps ≡ item i → ⊥
 unfolding orderOf
 order-no-item row s vs ps i h =
-    go (eqb row 0) (eqb row 1) (eqb row 3) (eqb row 4) (eqb row 12) (eqb row 13) (eqb row 14) (eqb row 15) (eqb row 16) (eqb row 17) (eqb row 18)
-    (eqb row 19)
-    (eqb row 20)
-    (eqb row 21)
-    (eqb row 24)
-    (eqb row 25)
-    (eqb row 26)
-    h
+    go (eqb row 13) (isValue row) (isForm row) (isPicture row) (isListing row) (sym (ap isItemCommand h))
   where
-    go : (a b c d e f g j k l m n o p q r t : Bool)
-        → cond a (Length (record { m = getD vs 1 0; g = getD vs 3 0 }))
-        (cond b (Width (record { m = getD vs 1 0 }))
-        (cond c (Turn (record { half = false }))
-        (cond d (Turn (record { half = true }))
-        (cond e (Start (namedAt s vs ps 2))
-        (cond f End
-        (cond g (Retrieve (namedAt s vs ps 2))
-        (cond j (EraseForm (namedAt s vs ps 2))
-        (cond k (ErasePicture (namedAt s vs ps 2))
-        (cond l ListForms
-        (cond m ListPictures
-        (cond n (PrintForm (namedAt s vs ps 2))
-        (cond o (Store (record { at = getD ps 2 0; length = getD vs 2 0; n = getD vs 4 0 }))
-        (cond p Clear
-        (cond q (SetVariable (record { n = getD vs 2 0; at = getD ps 4 0; length = getD vs 4 0 }))
-        (cond r (SetCounter (record { n = getD vs 2 0; value = getD vs 4 0 }))
-        (cond t (Print (record { k = getD vs 1 0 }))
-        Whiten)))))))))))))))) ≡ item i
+    go : (a b c d e : Bool)
+        → true ≡ isItemCommand
+        (cond a End
+        (cond b (Values (valueOf row vs ps))
+        (cond c (Forms (formOf row (namedAt s vs ps 2)))
+        (cond d (Pictures (pictureOf row (namedAt s vs ps 2) (getD vs 4 0)))
+        (cond e (Listing (listingOf row (namedAt s vs ps 2)))
+        (Page (pageOf row vs)))))))
         → ⊥
-    go true b c d e f g j k l m n o p q r t h = let z : _≡_ {A = ℕ} 0 1 = cc in omega arith
-    go false true c d e f g j k l m n o p q r t h = let z : _≡_ {A = ℕ} 0 1 = cc in omega arith
-    go false false true d e f g j k l m n o p q r t h = let z : _≡_ {A = ℕ} 0 1 = cc in omega arith
-    go false false false true e f g j k l m n o p q r t h = let z : _≡_ {A = ℕ} 0 1 = cc in omega arith
-    go false false false false true f g j k l m n o p q r t h = let z : _≡_ {A = ℕ} 0 1 = cc in omega arith
-    go false false false false false true g j k l m n o p q r t h = let z : _≡_ {A = ℕ} 0 1 = cc in omega arith
-    go false false false false false false true j k l m n o p q r t h = let z : _≡_ {A = ℕ} 0 1 = cc in omega arith
-    go false false false false false false false true k l m n o p q r t h = let z : _≡_ {A = ℕ} 0 1 = cc in omega arith
-    go false false false false false false false false true l m n o p q r t h = let z : _≡_ {A = ℕ} 0 1 = cc in omega arith
-    go false false false false false false false false false true m n o p q r t h = let z : _≡_ {A = ℕ} 0 1 = cc in omega arith
-    go false false false false false false false false false false true n o p q r t h = let z : _≡_ {A = ℕ} 0 1 = cc in omega arith
-    go false false false false false false false false false false false true o p q r t h = let z : _≡_ {A = ℕ} 0 1 = cc in omega arith
-    go false false false false false false false false false false false false true p q r t h = let z : _≡_ {A = ℕ} 0 1 = cc in omega arith
-    go false false false false false false false false false false false false false true q r t h = let z : _≡_ {A = ℕ} 0 1 = cc in omega arith
-    go false false false false false false false false false false false false false false true r t h = let z : _≡_ {A = ℕ} 0 1 = cc in omega arith
-    go false false false false false false false false false false false false false false false true t h = let z : _≡_ {A = ℕ} 0 1 = cc in omega arith
-    go false false false false false false false false false false false false false false false false true h = let z : _≡_ {A = ℕ} 0 1 = cc in omega arith
-    go false false false false false false false false false false false false false false false false false h = let z : _≡_ {A = ℕ} 0 1 = cc in omega arith
+    go true b c d e k = true≢false k
+    go false true c d e k = true≢false k
+    go false false true d e k = true≢false k
+    go false false false true e k = true≢false k
+    go false false false false true k = true≢false k
+    go false false false false false k = true≢false k
 
 item-row : (row : ℕ) (s vs ps : List ℕ) (i : Item) → commandOf row s vs ps ≡ item i → (isItem row ≡ true) × (itemOf row vs ps ≡ i)
 item-row row s vs ps i h = go (isItem row) h

@@ -19,26 +19,7 @@ use Rattle.read.specs.Grammar.{Got, good, bad, rowOf, headOf, fieldsFrom}
 use Rattle.parts.specs.Names.{capital}
 use Rattle.read.specs.Commands.{readOf}
 use Rattle.read.specs.declared.Command.{Command}
-use Rattle.read.specs.declared.Command.the-variants.{
-  Item as item,
-  Length,
-  Width,
-  Turn,
-  Start,
-  End,
-  Retrieve,
-  EraseForm,
-  ListForms,
-  PrintForm,
-  Store,
-  ListPictures,
-  ErasePicture,
-  SetVariable,
-  SetCounter,
-  Clear,
-  Print,
-  White as Whiten,
-}
+use Rattle.read.specs.declared.Command.the-variants.{Item as item, End, Page, Forms, Pictures, Values, Listing}
 use Rattle.read.specs.declared.Fault.the-variants.{Form as form}
 use Rattle.read.specs.declared.Read.{Read}
 use Rattle.read.specs.declared.Read.the-variants.{Taken, Refused}
@@ -124,23 +105,12 @@ pub record Wrote (out : List ℕ) (at : ℕ) (xs : List ℕ) (r : ℕ) (o : List
 
 abbrev pub isItem : Command → Bool
 isItem (item i) = true
-isItem (Length x) = false
-isItem (Width x) = false
-isItem (Turn x) = false
-isItem (Start x) = false
 isItem End = false
-isItem (Retrieve x) = false
-isItem (EraseForm x) = false
-isItem ListForms = false
-isItem (PrintForm x) = false
-isItem (Store x) = false
-isItem ListPictures = false
-isItem (ErasePicture x) = false
-isItem (SetVariable x) = false
-isItem (SetCounter x) = false
-isItem Clear = false
-isItem (Print x) = false
-isItem Whiten = false
+isItem (Page c) = false
+isItem (Forms c) = false
+isItem (Pictures c) = false
+isItem (Values c) = false
+isItem (Listing c) = false
 
 abbrev pub takenItem : Read → Bool
 takenItem (Taken c) = isItem c

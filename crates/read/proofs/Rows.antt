@@ -13,10 +13,11 @@ use Rattle.kinds.specs.Bytes.{between}
 use Rattle.fields.specs.declared.Field.{Field}
 use Rattle.fields.specs.declared.Field.the-variants.{Is, Not}
 use Rattle.fields.specs.declared.Limits.the-variants.{Within, Outside}
+use Rattle.grammar.specs.Named.{GM}
 use Rattle.grammar.proofs.Rows.{row-short}
 use Rattle.read.specs.Grammar.{rowOf, boundsOf, free, fieldAt, fieldsFrom, Got, good, bad, next, ahead, Filled, fieldLimits, firstOf, limitsFrom, isNumber}
-use Rattle.read.specs.Front.{gm, sizeOf}
-use Rattle.read.specs.Commands.{judged, withinLimits, commandOf, itemOf, orderOf}
+use Rattle.read.specs.Front.{sizeOf}
+use Rattle.read.specs.Commands.{judged, withinLimits, commandOf, itemOf, pageOf, valueOf, orderOf}
 use Rattle.read.specs.declared.Fields.{Fields}
 use Rattle.read.specs.declared.Fields.the-variants.{All, Bad}
 use Rattle.read.specs.declared.Fault.the-variants.{Form as form}
@@ -164,7 +165,7 @@ unfolding itemOf
 item-same row vs ws ps qs h k = simp (h, k)
 
 order-same : (row : ℕ) (s vs ws ps qs : List ℕ) → Same vs ws → Same ps qs → orderOf row s vs ps ≡ orderOf row s ws qs
-unfolding orderOf
+unfolding orderOf pageOf valueOf
 order-same row s vs ws ps qs h k = simp (h, k)
 
 command-same : (row : ℕ) (s vs ws ps qs : List ℕ) → Same vs ws → Same ps qs → commandOf row s vs ps ≡ commandOf row s ws qs
@@ -220,15 +221,15 @@ unfolding sizeOf
 size-bad (bad ws qs q) r vs₀ ps₀ vs ps p h e = refl
 size-bad (good ws qs) r vs₀ ps₀ vs ps p h e = absurd (let z : _≡_ {A = ℕ} 0 1 = cc in omega arith)
 
-size-fields : (s : List ℕ) (g : Got) (r : Fields) (vs ps : List ℕ) → fieldsFrom (rowOf gm .fields) s 0 ≡ g → Filled g zeros zeros r vs ps → r ≡ All
+size-fields : (s : List ℕ) (g : Got) (r : Fields) (vs ps : List ℕ) → fieldsFrom (rowOf GM .fields) s 0 ≡ g → Filled g zeros zeros r vs ps → r ≡ All
     → sizeOf g ≡ cond (between 1 32768 (getD vs 4 0)) (getD vs 4 0) 0
 unfolding sizeOf
 size-fields s (bad ws qs q) r vs ps k h e = absurd (let a = h .0 in let z : _≡_ {A = ℕ} 0 1 = cc in omega arith)
 size-fields s (good ws qs) r vs ps k h e =
-    let n = fields-count (rowOf gm .fields) s 0 ws qs k in
+    let n = fields-count (rowOf GM .fields) s 0 ws qs k in
     let a : getD vs 4 0 ≡ getD ws 4 0 = rw (h .1) (padded ws (omega arith) 4) in
     rw a
 
-pub size-good : (s : List ℕ) (r : Fields) (vs ps : List ℕ) → Filled (fieldsFrom (rowOf gm .fields) s 0) zeros zeros r vs ps → r ≡ All
-    → sizeOf (fieldsFrom (rowOf gm .fields) s 0) ≡ cond (between 1 32768 (getD vs 4 0)) (getD vs 4 0) 0
-size-good s r vs ps h e = size-fields s (fieldsFrom (rowOf gm .fields) s 0) r vs ps refl h e
+pub size-good : (s : List ℕ) (r : Fields) (vs ps : List ℕ) → Filled (fieldsFrom (rowOf GM .fields) s 0) zeros zeros r vs ps → r ≡ All
+    → sizeOf (fieldsFrom (rowOf GM .fields) s 0) ≡ cond (between 1 32768 (getD vs 4 0)) (getD vs 4 0) 0
+size-good s r vs ps h e = size-fields s (fieldsFrom (rowOf GM .fields) s 0) r vs ps refl h e

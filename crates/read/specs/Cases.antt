@@ -10,17 +10,19 @@ use Rattle.fields.specs.Bytes.{run, valueFrom}
 use Rattle.fields.specs.Field.{numberAt, textAt, signedAt, byteAt, typeAt, kindFrom}
 use Rattle.fields.specs.Data.{modifierAt, heldAt, elementAt, elementsFrom, elements, total, dataAt, limits}
 use Rattle.read.specs.Grammar.{headOf, headBy, find, fieldAt, fieldsFrom, spread, meets, fieldLimits, limitsFrom}
-use Rattle.read.specs.Commands.{readOf, headed, judged, itemOf, orderOf}
+use Rattle.read.specs.Commands.{readOf, headed, judged, itemOf, pageOf, formOf, orderOf}
 use Rattle.read.specs.Front.{frontOf, lineFront, askedBy, sizeOf}
 use Rattle.read.specs.declared.Item.the-variants.{Counter, Bars}
-use Rattle.read.specs.declared.Command.the-variants.{Item as item, Width, EraseForm}
+use Rattle.read.specs.declared.Command.the-variants.{Item as item, Page, Forms}
+use Rattle.read.specs.declared.PageCommand.the-variants.{Width}
+use Rattle.read.specs.declared.FormCommand.the-variants.{Erase as EraseForm}
 use Rattle.read.specs.declared.Fault.the-variants.{Form as form, Limit}
 use Rattle.read.specs.declared.Front.the-variants.{Short, Long, Idle, Line}
 use Rattle.read.specs.declared.Read.the-variants.{Taken, Refused}
 
 -- "(8) q80: taken; q79: 7"
-q80 : readOf 240 (bytes "q80") ≡ Taken (Width (record { m = 80 }))
-unfolding readOf headed judged headOf headBy find fieldsFrom fieldAt limitsFrom fieldLimits meets spread itemOf orderOf numberAt byteAt run between valueFrom
+q80 : readOf 240 (bytes "q80") ≡ Taken (Page (Width (record { m = 80 })))
+unfolding readOf headed judged headOf headBy find fieldsFrom fieldAt limitsFrom fieldLimits meets spread itemOf orderOf pageOf numberAt byteAt run between valueFrom
 q80 = refl
 
 q79 : readOf 240 (bytes "q79") ≡ Refused (Limit 1)
@@ -70,8 +72,8 @@ unfolding readOf headed judged headOf headBy find fieldsFrom fieldAt limitsFrom 
 bars = refl
 
 -- "`"*"` erases all", and is no name for FS
-all-forms : readOf 240 (bytes "FK\"*\"") ≡ Taken (EraseForm (record { at = 2; length = 1; all = true }))
-unfolding readOf headed judged headOf headBy find fieldsFrom fieldAt limitsFrom fieldLimits meets spread itemOf orderOf byteAt textAt run between valueFrom
+all-forms : readOf 240 (bytes "FK\"*\"") ≡ Taken (Forms (EraseForm (record { at = 2; length = 1; all = true })))
+unfolding readOf headed judged headOf headBy find fieldsFrom fieldAt limitsFrom fieldLimits meets spread itemOf orderOf formOf byteAt textAt run between valueFrom
 all-forms = refl
 
 star : readOf 240 (bytes "FS\"*\"") ≡ Refused (Limit 2)

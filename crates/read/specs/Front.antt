@@ -10,14 +10,11 @@ use Rattle.kinds.specs.Bytes.{between}
 use Rattle.fields.specs.Bytes.{run}
 use Rattle.fields.specs.declared.Class.the-variants.{Inside}
 use Rattle.read.specs.Grammar.{Got, good, bad, rowOf, headOf, fieldsFrom}
+use Rattle.grammar.specs.Named.{GM}
 use Rattle.grammar.specs.declared.Head.{Head}
 use Rattle.grammar.specs.declared.Head.the-variants.{Row, Unknown}
 use Rattle.read.specs.declared.Front.{Front}
 use Rattle.read.specs.declared.Front.the-variants.{Short, Long, Idle, Line}
-
--- the row of GM
-abbrev pub gm : ℕ
-gm = 20
 
 -- "A GM is well-formed when it has the written form and its n is 1 to 32768, good name or not": its n, and 0 of another line
 unfoldable pub sizeOf : Got → ℕ
@@ -25,7 +22,7 @@ sizeOf (good vs ps) = cond (between 1 32768 (getD vs 4 0)) (getD vs 4 0) 0
 sizeOf (bad vs ps p) = 0
 
 unfoldable pub askedBy : Head → List ℕ → ℕ
-askedBy (Row row) l = cond (eqb row gm) (sizeOf (fieldsFrom (rowOf gm .fields) l 0)) 0
+askedBy (Row row) l = cond (eqb row GM) (sizeOf (fieldsFrom (rowOf GM .fields) l 0)) 0
 askedBy Unknown l = 0
 
 abbrev pub asked : List ℕ → ℕ

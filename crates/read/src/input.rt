@@ -2,8 +2,9 @@
 ghost use mathlib.Core.Path.{_≡_};
 ghost use Prim.Native.Nat.{_≤_, _<_};
 ghost use lib.ListN.{length};
+ghost use Rattle.grammar.specs.Named.{GM};
 ghost use Rattle.read.specs.Grammar.{rowOf, Form, fieldsFrom};
-ghost use Rattle.read.specs.Front.{gm, sizeOf, asked, lineFront, frontOf};
+ghost use Rattle.read.specs.Front.{sizeOf, asked, lineFront, frontOf};
 use crate::Fields;
 use crate::Front;
 use crate::lines::read_fields;
@@ -14,7 +15,7 @@ use grammar::row;
 
 // How many bytes a line of the form of GM asks for.
 fn size(line: &[u8]) -> usize
-    ensures { λ r. ⌜ (r ≡ sizeOf (fieldsFrom (rowOf gm .fields) (now (line .entry)) 0)) × (r ≤ 32768) ⌝ }
+    ensures { λ r. ⌜ (r ≡ sizeOf (fieldsFrom (rowOf GM .fields) (now (line .entry)) 0)) × (r ≤ 32768) ⌝ }
 {
     let mut vs = [0usize; 18];
     let mut ps = [0usize; 18];

@@ -162,25 +162,51 @@ pub struct Print {
     pub k: usize,
 }
 
-pub enum Command {
-    Item(Item),
+// Q, q, ZT and ZB, N: the page.
+pub enum PageCommand {
     Length(Length),
     Width(Width),
     Turn(Turn),
+    White,
+}
+
+// FS, FR, FK: a form is started, retrieved or erased.
+pub enum FormCommand {
     Start(Named),
-    End,
     Retrieve(Named),
-    EraseForm(Named),
-    ListForms,
-    PrintForm(Named),
+    Erase(Named),
+}
+
+// GM, GK: a picture is stored or erased.
+pub enum PictureCommand {
     Store(StorePicture),
-    ListPictures,
-    ErasePicture(Named),
-    SetVariable(SetVariable),
-    SetCounter(SetCounter),
+    Erase(Named),
+}
+
+// ?V, ?C, VC, P: values are entered and cleared, and labels of them are printed.
+pub enum ValueCommand {
+    Variable(SetVariable),
+    Counter(SetCounter),
     Clear,
     Print(Print),
-    White,
+}
+
+// FI, GI, FP: the names of forms or of pictures are listed, or a form's lines.
+pub enum ListingCommand {
+    Forms,
+    Pictures,
+    Form(Named),
+}
+
+// A command: a line that may stand in a form; FE, the end of a form; or one of a group.
+pub enum Command {
+    Item(Item),
+    End,
+    Page(PageCommand),
+    Forms(FormCommand),
+    Pictures(PictureCommand),
+    Values(ValueCommand),
+    Listing(ListingCommand),
 }
 
 // What stands at the front of the input: too little (answer 4); too long a line (answer 5), and how many bytes a call reads then; an empty

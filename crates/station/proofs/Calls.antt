@@ -15,26 +15,11 @@ use Rattle.store.specs.declared.Found.{Found}
 use Rattle.store.specs.declared.Found.the-variants.{At, Nothing}
 use Rattle.store.specs.Find.{recorded}
 use Rattle.read.specs.declared.Command.{Command}
-use Rattle.read.specs.declared.Command.the-variants.{
-  Item as item,
-  Length,
-  Width,
-  Turn,
-  Start,
-  End,
-  Retrieve,
-  EraseForm,
-  ListForms,
-  PrintForm,
-  Store,
-  ListPictures,
-  ErasePicture,
-  SetVariable,
-  SetCounter,
-  Clear,
-  Print,
-  White,
-}
+use Rattle.read.specs.declared.Command.the-variants.{Item as item, End, Page, Forms, Pictures, Values, Listing}
+use Rattle.read.specs.declared.FormCommand.the-variants.{Start, Retrieve, Erase as EraseForm}
+use Rattle.read.specs.declared.PictureCommand.the-variants.{Store, Erase as ErasePicture}
+use Rattle.read.specs.declared.ValueCommand.the-variants.{Variable as EnterVariable, Counter as EnterCounter, Clear, Print}
+use Rattle.read.specs.declared.ListingCommand.the-variants.{Forms as ListForms, Pictures as ListPictures, Form as ListForm}
 use Rattle.read.specs.declared.Fault.the-variants.{Form as form, Limit}
 use Rattle.read.specs.declared.Read.{Read}
 use Rattle.read.specs.declared.Read.the-variants.{Taken as Reads, Refused}
@@ -49,10 +34,11 @@ use Rattle.session.specs.declared.answers.Answer.{Answer}
 use Rattle.session.specs.declared.answers.Answer.the-variants.{Taken, Unended, Long}
 use Rattle.session.specs.Answers.{Row, row, answerOf, isTaken, numberOf}
 use Rattle.session.specs.Lent.{World, rowsOf, wrongLent}
-use Rattle.commands.specs.World.{State}
+use Rattle.results.specs.World.{State}
+use Rattle.results.specs.Result.{done, ran, ranBy}
 use Rattle.commands.specs.Rows.{recordRows, runRows, placedRows, lineRows}
 use Rattle.commands.specs.Does.{doesLine, listsLine}
-use Rattle.commands.specs.Running.{done, ran, ranBy, lineBy}
+use Rattle.commands.specs.Running.{lineBy}
 use Rattle.commands.proofs.Ends.{line-read}
 use Rattle.station.specs.declared.Outcome.{Outcome}
 use Rattle.station.specs.Outcomes.{After, after, outcome}
@@ -151,44 +137,30 @@ late-answer (r ∷ rs) e = late-first (r .answer) (r .applies) rs e (late-answer
 late-record : (w : World) (line : List ℕ) (i : ℕ) (c : Command) → allLate (recordRows w line i c) ≡ true
 unfolding numberOf
 late-record w line i (item it) = refl
-late-record w line i (Length l) = refl
-late-record w line i (Width m) = refl
-late-record w line i (Turn t) = refl
-late-record w line i (Start n) = refl
 late-record w line i End = refl
-late-record w line i (Retrieve n) = refl
-late-record w line i (EraseForm n) = refl
-late-record w line i ListForms = refl
-late-record w line i (PrintForm n) = refl
-late-record w line i (Store p) = refl
-late-record w line i ListPictures = refl
-late-record w line i (ErasePicture n) = refl
-late-record w line i (SetVariable v) = refl
-late-record w line i (SetCounter c) = refl
-late-record w line i Clear = refl
-late-record w line i (Print p) = refl
-late-record w line i White = refl
+late-record w line i (Page c) = refl
+late-record w line i (Forms c) = refl
+late-record w line i (Pictures c) = refl
+late-record w line i (Values c) = refl
+late-record w line i (Listing c) = refl
 
 late-run : (w : World) (s : Session) (line more : List ℕ) (room : ℕ) (c : Command) → allLate (runRows w s line more room c) ≡ true
 unfolding numberOf
 late-run w s line more room (item it) = refl
-late-run w s line more room (Length l) = refl
-late-run w s line more room (Width m) = refl
-late-run w s line more room (Turn t) = refl
-late-run w s line more room (Start n) = refl
 late-run w s line more room End = refl
-late-run w s line more room (Retrieve n) = refl
-late-run w s line more room (EraseForm n) = refl
-late-run w s line more room ListForms = refl
-late-run w s line more room (PrintForm n) = refl
-late-run w s line more room (Store p) = refl
-late-run w s line more room ListPictures = refl
-late-run w s line more room (ErasePicture n) = refl
-late-run w s line more room (SetVariable v) = refl
-late-run w s line more room (SetCounter c) = refl
-late-run w s line more room Clear = refl
-late-run w s line more room (Print p) = refl
-late-run w s line more room White = refl
+late-run w s line more room (Page c) = refl
+late-run w s line more room (Forms (Start n)) = refl
+late-run w s line more room (Forms (Retrieve n)) = refl
+late-run w s line more room (Forms (EraseForm n)) = refl
+late-run w s line more room (Pictures (Store p)) = refl
+late-run w s line more room (Pictures (ErasePicture n)) = refl
+late-run w s line more room (Values (EnterVariable v)) = refl
+late-run w s line more room (Values (EnterCounter c)) = refl
+late-run w s line more room (Values Clear) = refl
+late-run w s line more room (Values (Print p)) = refl
+late-run w s line more room (Listing ListForms) = refl
+late-run w s line more room (Listing ListPictures) = refl
+late-run w s line more room (Listing (ListForm n)) = refl
 
 late-placed : (w : World) (s : Session) (line more : List ℕ) (room : ℕ) (c : Command) (f : Found) → allLate (placedRows w s line more room c f) ≡ true
 late-placed w s line more room c (At i) = late-record w line i c

@@ -16,11 +16,11 @@ use Rattle.session.specs.declared.answers.Answer.{Answer}
 use Rattle.session.specs.declared.answers.Answer.the-variants.{Taken, Lengths, Font, Unsound, NoneOwed}
 use Rattle.session.specs.Answers.{Row, row, answerOf, isTaken, numberOf}
 use Rattle.session.specs.Lent.{World, world}
-use Rattle.commands.specs.World.{activeOf}
+use Rattle.results.specs.World.{activeOf}
+use Rattle.results.proofs.Answers.{cond-true, cond-false, answer-skip, answer-stop}
 use Rattle.station.specs.Outcomes.{Drawn, drawnBy, labelled}
 use Rattle.station.specs.Table.{entryRows, labelTable}
 use Rattle.station.specs.Station.{turnedBy, labelPage, labelSession, settledLabel, labelledBy}
-use Rattle.commands.proofs.Answers.{cond-true, cond-false, answer-skip, answer-stop}
 
 -- ---- 1, 2 and 3
 

@@ -20,11 +20,11 @@ use Rattle.session.specs.declared.answers.Answer.the-variants.{Taken, Lengths}
 use Rattle.session.specs.Answers.{numberOf, isTaken, answerOf}
 use Rattle.session.specs.Session.{none, fresh, counted}
 use Rattle.session.specs.Lent.{World, world, rowsOf, wrongLent}
-use Rattle.commands.specs.World.{State, state, activeOf, activeDeclared}
+use Rattle.results.specs.World.{State, state, activeOf, activeDeclared}
+use Rattle.results.specs.Result.{Ran}
+use Rattle.commands.specs.Does.{doesLine, listsLine}
 use Rattle.station.specs.Outcomes.{After, after, outcome, Drawn, drawnBy, labelled, Opened, openedBy}
 use Rattle.station.specs.Table.{commandTable, labelTable, lineOf, moreOf}
-use Rattle.commands.specs.Does.{doesLine, listsLine}
-use Rattle.commands.specs.Running.{Ran}
 
 -- ---- opening
 

@@ -2,7 +2,7 @@ use mathlib.Core.Path.{sym, _∙_}
 use borrow.Author.Tests.{lt-ltb, le-ltb}
 use borrow.Author.Needs.{needs}
 use Rattle.session.specs.Lent.{world}
-use Rattle.commands.proofs.Bounds.{fits-read}
+use Rattle.commands.proofs.Kept.{short-read}
 use Rattle.commands.proofs.Ends.{lengths-by, long-by, line-read, fault-by}
 use Rattle.commands.proofs.lines.run_line.Statement.{statement}
 use Rattle.commands.proofs.lines.run_line.Tie as tie
@@ -29,9 +29,7 @@ enum-known-command : tie.Need-enum-known-command
 enum-known-command c = search needs
 
 on-command-requires : tie.Need-on-command-requires
-on-command-requires c κs =
-    fits-read (c .before .before .before .before .before .before .before .before .before .before .before .before .before .before .before .before .before .before .before .before .before .before .args .background .now) (c .before .before .before .before .before .before .before .before .before .before .before .before .before .before .before .before .before .before .before .before .before .before .args .store .now) (c .before .before .before .before .before .before .before .before .before .before .before .before .before .before .before .before .before .before .before .before .before .before .args .links .now) (c .before .before .before .before .before .before .before .before .before .before .before .before .before .before .before .before .before .before .before .before .before .before .args .directory .now) (c .before .before .before .before .before .before .before .before .before .before .before .before .before .before .before .before .before .before .before .before .before .before .args .values .now) (c .before .before .before .before .before .before .before .before .before .before .before .before .before .before .before .before .before .before .before .before .before .before .args .line .now) _ (c .before .before .before .before .before .before .before .before .before .before .if2 .left) (sym (c .before .before .before .before .before .before .before .before .before .before .before .before .lengths-wrong .ensures) ∙ c .before .before .before .before .before .before .before .before .before .before .before .if1 .left)
-    (sym (c .before .before .before .before .before .before .before .before .before .read-line .ensures) ∙ c .before .before .before .before .before .before .before .command .given .1)
+on-command-requires c κs = short-read _ _ _ (c .before .before .before .before .before .before .before .before .before .before .if2 .left) (sym (c .before .before .before .before .before .before .before .before .before .read-line .ensures) ∙ c .before .before .before .before .before .before .before .command .given .1)
 
 enum-known-fault : tie.Need-enum-known-fault
 enum-known-fault c = search needs

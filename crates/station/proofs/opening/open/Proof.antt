@@ -1,6 +1,6 @@
 use mathlib.Core.Path.{sym, _∙_}
 use native.Mathlib.Omega.{arith}
-use Rattle.commands.proofs.Answers.{page-bound}
+use Rattle.results.proofs.Lengths.{page-bound}
 use Rattle.station.proofs.Cleared.{opened-wrong, opened-uneven, opened-good}
 use borrow.Author.Needs.{needs}
 use Rattle.station.proofs.opening.open.Statement.{statement}

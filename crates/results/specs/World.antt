@@ -1,0 +1,60 @@
+-- What a command is lent, and the views of it that commands speak of.
+-- Assumes nothing.
+use Prim.Native.Nat.{ℕ}
+use mathlib.Core.Bool.{Bool, true, false}
+use mathlib.Core.List.{List}
+use Rattle.values.specs.declared.declarations.Declared.{Declared}
+use Rattle.values.specs.Stored.{unset}
+use Rattle.store.specs.Content.{content}
+use Rattle.moves.specs.Memory.{Memory, memory}
+use Rattle.forms.specs.Form.{declaredOf}
+use Rattle.sound.specs.Sound.{activeBytes}
+use Rattle.session.specs.declared.Session.{Session}
+use Rattle.session.specs.Session.{activated}
+use Rattle.session.specs.Lent.{World, world}
+
+-- the session and the lent lists together
+pub record State : Type 0 where
+  pub session : Session
+  pub world : World
+
+abbrev pub state : Session → World → State
+state s w = record { session = s; world = w }
+
+-- ---- views
+
+abbrev pub memoryOf : World → Memory
+memoryOf w = memory (w .store) (w .links) (w .directory)
+
+abbrev pub withMemory : World → Memory → World
+withMemory w m = world (w .background) (m .store) (m .links) (m .directory) (w .values)
+
+abbrev pub withBackground : World → List ℕ → World
+withBackground w b = world b (w .store) (w .links) (w .directory) (w .values)
+
+abbrev pub withValues : World → List ℕ → World
+withValues w v = world (w .background) (w .store) (w .links) (w .directory) v
+
+-- the bytes of entry i
+abbrev pub contentAt : World → ℕ → List ℕ
+contentAt w i = content (w .store) (w .links) (w .directory) i
+
+-- the bytes of the active form, and what it declares
+abbrev pub activeOf : World → Session → List ℕ
+activeOf w s = activeBytes (w .store) (w .links) (w .directory) (s .active)
+
+abbrev pub activeDeclared : World → Session → Declared
+activeDeclared w s = declaredOf (activeOf w s)
+
+-- one of two outcomes
+abbrev pub pickState : Bool → State → State → State
+pickState true a b = a
+pickState false a b = b
+
+-- "FR unsets all values; so does the end of activity, by N or FK": the variables; the counters go with `activated`
+abbrev pub unsetIn : World → World
+unsetIn w = withValues w (unset (w .values))
+
+-- no form is active any more
+abbrev pub inactive : Session → World → State
+inactive s w = state (activated s 65535) (unsetIn w)
