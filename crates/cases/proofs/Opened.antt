@@ -10,7 +10,7 @@ use Rattle.fields.specs.Data as Elements
 use Rattle.read.specs.Grammar as Grammar
 use Rattle.read.specs.Commands as Commands
 use Rattle.read.specs.Front as Front
-use Rattle.read.specs.Names as Names
+use Rattle.parts.specs.Names as Names
 use Rattle.normal.specs.Written as Written
 use Rattle.listing.specs.Listing as Listing
 use Rattle.cells.specs.Cell as Cell
@@ -45,7 +45,7 @@ use Rattle.cases.specs.Calls as Calls
 
 -- reading a line, and writing it in normal form
 unfoldable pub lines : Bool
-unfolding FitBytes.between FieldBytes.run FieldBytes.valueFrom Field.numberAt Field.textAt Field.signedAt Field.byteAt Grammar.find Grammar.headOf Grammar.fieldAt Grammar.fieldsFrom Grammar.spread Grammar.beyond Grammar.fieldLimits Grammar.limitsFrom Commands.itemOf Commands.orderOf Commands.judged Commands.headed Commands.readOf Front.sizeOf Front.askedBy Front.lineFront Front.frontOf Names.capital Names.nameByte Written.digits Written.signed Written.cased Written.writtenField Written.writtenFrom Written.writtenOf Written.headWritten Written.equal Written.isNormal
+unfolding FitBytes.between FieldBytes.run FieldBytes.valueFrom Field.numberAt Field.textAt Field.signedAt Field.byteAt Grammar.find Grammar.headBy Grammar.headOf Grammar.fieldAt Grammar.fieldsFrom Grammar.spread Grammar.meets Grammar.fieldLimits Grammar.limitsFrom Commands.itemOf Commands.orderOf Commands.judged Commands.headed Commands.readOf Front.sizeOf Front.askedBy Front.lineFront Front.frontOf Names.capital Names.nameByte Written.digits Written.signed Written.cased Written.writtenField Written.writtenFrom Written.writtenOf Written.headWritten Written.equal Written.isNormal
 lines = true
 
 -- the store, and what moves in it

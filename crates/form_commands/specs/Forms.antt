@@ -8,7 +8,7 @@ use Rattle.store.specs.declared.Found.{Found}
 use Rattle.moves.specs.Start.{hasRoom, started}
 use Rattle.read.specs.declared.FormCommand.{FormCommand}
 use Rattle.read.specs.declared.FormCommand.the-variants.{Start, Retrieve, Erase}
-use Rattle.read.specs.Names.{packedOf}
+use Rattle.parts.specs.Names.{packedOf}
 use Rattle.forms.specs.Form.{isAt}
 use Rattle.session.specs.declared.Session.{Session}
 use Rattle.session.specs.declared.answers.Answer.the-variants.{InUse, Missing, Full}

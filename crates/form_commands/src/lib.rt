@@ -8,9 +8,9 @@ ghost use Rattle.read.specs.declared.FormCommand.the-variants.{Start, Retrieve,
 ghost use Rattle.session.specs.Lent.{world};
 ghost use Rattle.results.specs.Result.{ran};
 ghost use Rattle.form_commands.specs.Forms.{formBy};
+use parts::packed;
 use read::FormCommand;
 use read::Named;
-use read::names::packed;
 use results::Done;
 use results::activate;
 use results::answered;

@@ -13,7 +13,7 @@ use borrow.Author.Tests.{eq-eqb, ne-eqb, lt-ltb, le-ltb, le-leb, lt-leb}
 use Rattle.cells.proofs.Counts.{same?, drop-none}
 use Rattle.store.specs.Lines.{lines, onto, linesOf, lineOf}
 use Rattle.values.specs.declared.declarations.Declared.{Declared}
-use Rattle.read.specs.Grammar.{headOf, find}
+use Rattle.read.specs.Grammar.{headOf, headBy, find}
 use Rattle.read.specs.Commands.{readOf, headed}
 use Rattle.normal.specs.Written.{isNormal}
 use Rattle.forms.specs.declared.Stored.{Stored}
@@ -84,7 +84,7 @@ pick-same true s = refl
 pick-same false s = refl
 
 read-empty : heldRead (readOf 1 []) ≡ Nothing
-unfolding readOf headed headOf find
+unfolding readOf headed headOf headBy find
 read-empty = refl
 
 pub item-empty : itemIn [] ≡ Nothing

@@ -18,7 +18,7 @@ use Rattle.read.specs.declared.Command.the-variants.{Item as item, End, Page, F
 use Rattle.read.specs.declared.Read.{Read}
 use Rattle.read.specs.declared.Read.the-variants.{Taken, Refused}
 use Rattle.read.specs.Commands.{readOf}
-use Rattle.read.specs.Names.{packedOf}
+use Rattle.parts.specs.Names.{packedOf}
 use Rattle.normal.specs.Written.{isNormal}
 use Rattle.forms.specs.declared.Stored.{Stored}
 use Rattle.forms.specs.declared.Stored.the-variants.{Holds, Nothing}

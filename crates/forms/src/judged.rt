@@ -4,7 +4,7 @@ ghost use mathlib.Core.Bool.{true};
 ghost use Rattle.forms.specs.Judged.{pickVerdict, judgedData, judged, declares, declaration, isTaken};
 ghost use Rattle.forms.specs.Form.{isAt, hasPicture};
 ghost use Rattle.store.specs.Find.{titledAt};
-ghost use Rattle.read.specs.Names.{packedOf};
+ghost use Rattle.parts.specs.Names.{packedOf};
 use crate::Verdict;
 use fitness::Judgement;
 use kinds::Kind;
@@ -72,7 +72,7 @@ pub fn is_declaration(item: Item) -> bool
 fn has_named(directory: &[u8], line: &[u8], at: usize, length: usize) -> bool
     ensures { λ r. ⌜ r ≡ isAt (titledAt (now (directory .entry)) true (packedOf (now (line .entry)) at length)) ⌝ }
 {
-    let found = store::find(directory, true, read::names::packed(line, at, length));
+    let found = store::find(directory, true, parts::packed(line, at, length));
     match found {
         Found::At(_) => true,
         Found::Nothing => false,

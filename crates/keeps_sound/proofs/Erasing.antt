@@ -26,7 +26,7 @@ use Rattle.read.specs.declared.Named.{Named}
 use Rattle.read.specs.declared.Command.the-variants.{Forms, Pictures}
 use Rattle.read.specs.declared.FormCommand.the-variants.{Erase as EraseForm}
 use Rattle.read.specs.declared.PictureCommand.the-variants.{Erase as ErasePicture}
-use Rattle.read.specs.Names.{packedOf}
+use Rattle.parts.specs.Names.{packedOf}
 use Rattle.session.specs.declared.Session.{Session}
 use Rattle.session.specs.Lent.{World}
 use Rattle.results.specs.World.{state, memoryOf, pickState, inactive}

@@ -19,7 +19,7 @@ use Rattle.read.specs.declared.PageCommand.the-variants.{Length, Width, Turn, W
 use Rattle.read.specs.declared.ValueCommand.{ValueCommand}
 use Rattle.read.specs.declared.ValueCommand.the-variants.{Variable as EnterVariable, Counter as EnterCounter, Clear, Print}
 use Rattle.read.specs.declared.Read.the-variants.{Taken}
-use Rattle.read.specs.Grammar.{rowOf, boundsOf, limitsFrom, fieldLimits, isNumber, beyond, spread, free}
+use Rattle.read.specs.Grammar.{rowOf, boundsOf, limitsFrom, fieldLimits, isNumber, meets, spread, free}
 use Rattle.read.specs.Commands.{readOf, itemOf, pageOf, valueOf, orderOf, isItem, isForm, isPicture, isValue, isListing}
 use Rattle.keeps_sound.proofs.Layers.{first-of}
 use Rattle.keeps_sound.proofs.Facts.{between-facts}
@@ -67,7 +67,7 @@ chosen-within false p e = absurd (false≢true (ap isWithin e))
 field-within : (l : ℕ × ℕ) (s : List ℕ) (u v p : ℕ) → fieldLimits 110 l s u v p ≡ Within → Ranged l v
 unfolding fieldLimits
 field-within l s u v p e =
-    between-facts (l .0) (l .1) v (first-of (between (l .0) (l .1) v) (beyond 110 s u v p) (chosen-within (between (l .0) (l .1) v && beyond 110 s u v p) p e))
+    between-facts (l .0) (l .1) v (first-of (between (l .0) (l .1) v) (meets 110 s u v p) (chosen-within (between (l .0) (l .1) v && meets 110 s u v p) p e))
 
 number-within :
     (fs : List ℕ) (ls : List (ℕ × ℕ)) (s : List ℕ) (u : ℕ) (vs ps : List ℕ) → limitsFrom (110 ∷ fs) ls s u vs ps ≡ Within →

@@ -26,7 +26,7 @@ use Rattle.read.specs.declared.FormCommand.the-variants.{Start}
 use Rattle.read.specs.declared.PictureCommand.the-variants.{Store}
 use Rattle.read.specs.declared.Read.the-variants.{Taken as Reads}
 use Rattle.read.specs.Commands.{readOf}
-use Rattle.read.specs.Names.{packedOf}
+use Rattle.parts.specs.Names.{packedOf}
 use Rattle.forms.specs.Form.{isAt}
 use Rattle.forms.proofs.Growing.{formOk-empty}
 use Rattle.session.specs.declared.Session.{Session}

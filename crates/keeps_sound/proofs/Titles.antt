@@ -24,11 +24,11 @@ use Rattle.fields.specs.Field.{runAt}
 use Rattle.moves.specs.Start.{nameEnd}
 use Rattle.store_sound.specs.Sound.{legalByte, nameByteOk}
 use Rattle.store_sound.specs.Shelf.{titleOk}
-use Rattle.read.specs.Grammar.{Got, good, bad, rowOf, boundsOf, headOf, fieldsFrom, limitsFrom, fieldLimits, firstOf, isNumber, beyond, spread, free, named}
-use Rattle.read.specs.Names.{capital, nameByte, packedOf}
+use Rattle.read.specs.Grammar.{Got, good, bad, rowOf, boundsOf, headOf, fieldsFrom, limitsFrom, fieldLimits, firstOf, isNumber, meets, spread, free, named}
+use Rattle.parts.specs.Names.{capital, nameByte, packedOf}
 use Rattle.read.specs.Commands.{readOf, headed, judged, decided, commandOf, itemOf, formOf, pictureOf, orderOf, isItem, isForm, isPicture, isValue, isListing, namedAt}
-use Rattle.read.specs.declared.Head.{Head}
-use Rattle.read.specs.declared.Head.the-variants.{Row, Unknown}
+use Rattle.grammar.specs.declared.Head.{Head}
+use Rattle.grammar.specs.declared.Head.the-variants.{Row, Unknown}
 use Rattle.read.specs.declared.Read.the-variants.{Taken as Reads}
 use Rattle.read.specs.declared.Named.{Named}
 use Rattle.read.specs.declared.StorePicture.{StorePicture}
@@ -143,7 +143,7 @@ pub record Parted (rows : ℕ) (s : List ℕ) (c : Command) : Type 0 where
 
 pub line-parted : (rows : ℕ) (s : List ℕ) (c : Command) → readOf rows s ≡ Reads c → Parted rows s c
 unfolding readOf headed judged
-line-parted rows s c h = go (headOf (getD s 0 0) (getD s 1 0)) h
+line-parted rows s c h = go (headOf s) h
   where
     within : (row : ℕ) (vs ps : List ℕ) (l : Limits) → limitsFrom (rowOf row .fields) (boundsOf row rows) s 0 vs ps ≡ l
         → decided l (commandOf row s vs ps) ≡ Reads c → Parted rows s c
@@ -152,7 +152,7 @@ line-parted rows s c h = go (headOf (getD s 0 0) (getD s 1 0)) h
 
     fields : (row : ℕ) (g : Got) → judged row rows s g ≡ Reads c → Parted rows s c
     fields row (good vs ps) d = within row vs ps (limitsFrom (rowOf row .fields) (boundsOf row rows) s 0 vs ps) refl d
-    fields row (bad p) d = absurd (let z : _≡_ {A = ℕ} 0 1 = cc in omega arith)
+    fields row (bad vs ps p) d = absurd (let z : _≡_ {A = ℕ} 0 1 = cc in omega arith)
 
     go : (x : Head) → headed x rows s ≡ Reads c → Parted rows s c
     go (Row row) d = fields row (fieldsFrom (rowOf row .fields) s 0) d
@@ -221,7 +221,7 @@ pub record Name (s : List ℕ) (p n : ℕ) : Type 0 where
   pub bytes : runAt NameByte s (p + 1) ≡ n
 
 name-field : (s : List ℕ) (u v p : ℕ) → fieldLimits 97 (1, 8) s u v p ≡ Within → Name s p v
-unfolding fieldLimits beyond between
+unfolding fieldLimits meets between
 name-field s u v p h = go (leb 1 v) (leb v 8) (named s p v) refl refl refl h
   where
     go : (a b c : Bool) → leb 1 v ≡ a → leb v 8 ≡ b → named s p v ≡ c → cond ((a && b) && c) Within (Outside p) ≡ Within → Name s p v

@@ -37,7 +37,7 @@ use Rattle.read.specs.declared.ValueCommand.the-variants.{Variable as EnterVari
 use Rattle.read.specs.declared.ListingCommand.the-variants.{Forms as ListForms, Pictures as ListPictures, Form as ListForm}
 use Rattle.read.specs.declared.Read.the-variants.{Taken as Reads}
 use Rattle.read.specs.Commands.{readOf}
-use Rattle.read.specs.Names.{packedOf}
+use Rattle.parts.specs.Names.{packedOf}
 use Rattle.forms.specs.Form.{declaredOf, picturesStored}
 use Rattle.sound.specs.Sound.{numbersOk, activeOk, owedOk}
 use Rattle.session.specs.declared.Session.{Session}

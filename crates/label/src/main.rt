@@ -27,7 +27,7 @@ fn say_answer(k: usize, answer: Answer, output: &[u8], written: usize) {
     say(b": ");
     say_number(number as usize);
     say(b"\n");
-    say(read::input::first(output, written));
+    say(parts::first(output, written));
 }
 
 // `label I black D`

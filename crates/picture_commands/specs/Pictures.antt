@@ -8,7 +8,7 @@ use Rattle.picture.specs.Rules.{legal as legalPicture}
 use Rattle.moves.specs.Start.{hasRoom, kept}
 use Rattle.read.specs.declared.PictureCommand.{PictureCommand}
 use Rattle.read.specs.declared.PictureCommand.the-variants.{Store, Erase}
-use Rattle.read.specs.Names.{packedOf}
+use Rattle.parts.specs.Names.{packedOf}
 use Rattle.forms.specs.Form.{isAt}
 use Rattle.session.specs.declared.Session.{Session}
 use Rattle.session.specs.declared.answers.Answer.the-variants.{InUse, Missing, Illegal, Full}

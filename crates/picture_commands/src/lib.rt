@@ -8,10 +8,10 @@ ghost use Rattle.read.specs.declared.PictureCommand.the-variants.{Store as Keep
 ghost use Rattle.session.specs.Lent.{world};
 ghost use Rattle.results.specs.Result.{ran};
 ghost use Rattle.picture_commands.specs.Pictures.{pictureBy};
+use parts::packed;
 use read::Named;
 use read::PictureCommand;
 use read::StorePicture;
-use read::names::packed;
 use results::Done;
 use results::answered;
 use results::names::entry_of;

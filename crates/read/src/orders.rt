@@ -27,6 +27,7 @@ use crate::Variable;
 use crate::Width;
 use crate::check::is_star;
 use fields::kind_from;
+use grammar::row;
 
 // The step of a counter without its sign.
 fn step_of(v: usize) -> usize
@@ -55,8 +56,8 @@ fn ink_of(row: usize) -> Ink
     ensures { λ r. ⌜ r ≡ inkOf row ⌝ }
 {
     match row {
-        5 => Ink::Black,
-        6 => Ink::Inverted,
+        row::LO => Ink::Black,
+        row::LE => Ink::Inverted,
         _ => Ink::White,
     }
 }
@@ -76,15 +77,15 @@ fn item_of(row: usize, v: [usize; 18], p: [usize; 18]) -> Item
     ensures { λ r. ⌜ r ≡ itemOf row v p ⌝ }
 {
     match row {
-        2 => Item::Origin(Origin { x: v[1], y: v[3] }),
-        8 => Item::Frame(Frame {
+        row::ORIGIN => Item::Origin(Origin { x: v[1], y: v[3] }),
+        row::FRAME => Item::Frame(Frame {
             a: v[1],
             b: v[3],
             c: v[5],
             d: v[7],
             e: v[9],
         }),
-        9 => Item::Text(Text {
+        row::TEXT => Item::Text(Text {
             x: v[1],
             y: v[3],
             r: v[5],
@@ -93,7 +94,7 @@ fn item_of(row: usize, v: [usize; 18], p: [usize; 18]) -> Item
             reverse: v[11] == 82,
             at: p[13],
         }),
-        10 => Item::Bars(Bars {
+        row::BARS => Item::Bars(Bars {
             x: v[1],
             y: v[3],
             r: v[5],
@@ -103,20 +104,20 @@ fn item_of(row: usize, v: [usize; 18], p: [usize; 18]) -> Item
             g: v[13],
             at: p[17],
         }),
-        11 => Item::Picture(Picture {
+        row::GG => Item::Picture(Picture {
             a: v[2],
             b: v[4],
             at: p[6],
             length: v[6],
         }),
-        22 => Item::Variable(Variable {
+        row::VARIABLE => Item::Variable(Variable {
             n: v[1],
             m: v[3],
             j: side_of(v[5]),
             at: p[7],
             length: v[7],
         }),
-        23 => Item::Counter(Counter {
+        row::COUNTER => Item::Counter(Counter {
             n: v[1],
             w: v[3],
             minus: v[5] < 1000000000,
@@ -139,10 +140,10 @@ fn page_of(row: usize, v: [usize; 18]) -> PageCommand
     ensures { λ r. ⌜ r ≡ pageOf row v ⌝ }
 {
     match row {
-        0 => PageCommand::Length(Length { m: v[1], g: v[3] }),
-        1 => PageCommand::Width(Width { m: v[1] }),
-        3 => PageCommand::Turn(Turn { half: false }),
-        4 => PageCommand::Turn(Turn { half: true }),
+        row::LENGTH => PageCommand::Length(Length { m: v[1], g: v[3] }),
+        row::WIDTH => PageCommand::Width(Width { m: v[1] }),
+        row::ZT => PageCommand::Turn(Turn { half: false }),
+        row::ZB => PageCommand::Turn(Turn { half: true }),
         _ => PageCommand::White,
     }
 }
@@ -151,8 +152,8 @@ fn form_of(row: usize, n: Named) -> FormCommand
     ensures { λ r. ⌜ r ≡ formOf row n ⌝ }
 {
     match row {
-        12 => FormCommand::Start(n),
-        14 => FormCommand::Retrieve(n),
+        row::FS => FormCommand::Start(n),
+        row::FR => FormCommand::Retrieve(n),
         _ => FormCommand::Erase(n),
     }
 }
@@ -174,16 +175,16 @@ fn value_of(row: usize, v: [usize; 18], p: [usize; 18]) -> ValueCommand
     ensures { λ r. ⌜ r ≡ valueOf row v p ⌝ }
 {
     match row {
-        24 => ValueCommand::Variable(SetVariable {
+        row::SET_VARIABLE => ValueCommand::Variable(SetVariable {
             n: v[2],
             at: p[4],
             length: v[4],
         }),
-        25 => ValueCommand::Counter(SetCounter {
+        row::SET_COUNTER => ValueCommand::Counter(SetCounter {
             n: v[2],
             value: v[4],
         }),
-        26 => ValueCommand::Print(Print { k: v[1] }),
+        row::PRINT => ValueCommand::Print(Print { k: v[1] }),
         _ => ValueCommand::Clear,
     }
 }
@@ -192,8 +193,8 @@ fn listing_of(row: usize, n: Named) -> ListingCommand
     ensures { λ r. ⌜ r ≡ listingOf row n ⌝ }
 {
     match row {
-        17 => ListingCommand::Forms,
-        18 => ListingCommand::Pictures,
+        row::FI => ListingCommand::Forms,
+        row::GI => ListingCommand::Pictures,
         _ => ListingCommand::Form(n),
     }
 }
@@ -203,9 +204,9 @@ fn is_item(row: usize) -> bool
     ensures { λ r. ⌜ r ≡ isItem row ⌝ }
 {
     match row {
-        2 => true,
-        5..=11 => true,
-        22..=23 => true,
+        row::ORIGIN => true,
+        row::LO..=row::GG => true,
+        row::VARIABLE..=row::COUNTER => true,
         _ => false,
     }
 }
@@ -214,9 +215,9 @@ fn is_form(row: usize) -> bool
     ensures { λ r. ⌜ r ≡ isForm row ⌝ }
 {
     match row {
-        12 => true,
-        14 => true,
-        15 => true,
+        row::FS => true,
+        row::FR => true,
+        row::FK => true,
         _ => false,
     }
 }
@@ -225,8 +226,8 @@ fn is_picture(row: usize) -> bool
     ensures { λ r. ⌜ r ≡ isPicture row ⌝ }
 {
     match row {
-        16 => true,
-        20 => true,
+        row::GK => true,
+        row::GM => true,
         _ => false,
     }
 }
@@ -235,10 +236,10 @@ fn is_value(row: usize) -> bool
     ensures { λ r. ⌜ r ≡ isValue row ⌝ }
 {
     match row {
-        21 => true,
-        24 => true,
-        25 => true,
-        26 => true,
+        row::VC => true,
+        row::SET_VARIABLE => true,
+        row::SET_COUNTER => true,
+        row::PRINT => true,
         _ => false,
     }
 }
@@ -247,9 +248,9 @@ fn is_listing(row: usize) -> bool
     ensures { λ r. ⌜ r ≡ isListing row ⌝ }
 {
     match row {
-        17 => true,
-        18 => true,
-        19 => true,
+        row::FI => true,
+        row::GI => true,
+        row::FP => true,
         _ => false,
     }
 }

@@ -8,7 +8,7 @@ use Rattle.store.specs.declared.Found.the-variants.{At, Nothing}
 use Rattle.store.specs.Find.{titledAt}
 use Rattle.moves.specs.Erase.{erasedAt, erasedAll}
 use Rattle.read.specs.declared.Named.{Named}
-use Rattle.read.specs.Names.{packedOf}
+use Rattle.parts.specs.Names.{packedOf}
 use Rattle.forms.specs.Form.{isAt}
 use Rattle.session.specs.Lent.{World}
 use Rattle.results.specs.World.{memoryOf, withMemory}

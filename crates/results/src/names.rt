@@ -8,8 +8,8 @@ ghost use Rattle.forms.specs.Form.{isAt};
 ghost use Rattle.session.specs.Lent.{world};
 ghost use Rattle.results.specs.Named.{placeOf, erasedNamed};
 use crate::sixteen_bits;
+use parts::packed;
 use read::Named;
-use read::names::packed;
 use store::Found;
 
 pub fn is_at(found: Found) -> bool

@@ -9,8 +9,8 @@ ghost use Rattle.station.specs.Table.{lineOf, moreOf};
 ghost use Rattle.station.specs.Station.{readAs, commanded};
 use crate::Outcome;
 use crate::checks::entry_answer;
+use parts::first;
 use read::Front;
-use read::input::first;
 use session::Answer;
 use session::Session;
 use session::answers::is_taken;
@@ -34,7 +34,7 @@ fn on_front(
     ensures { λ r. ⌜ after r (world (now (background .exit)) (now (store .exit)) (now (links .exit)) (now (directory .exit)) (now (values .exit))) (now (output .exit)) ≡ readAs k (lineBy (now (font .entry)) (world (now (background .entry)) (now (store .entry)) (now (links .entry)) (now (directory .entry)) (now (values .entry))) session (lineOf (now (input .entry)) n) (moreOf (now (input .entry)) n k) (now (output .entry))) ⌝ }
 {
     let line = first(input, n);
-    let more = first(read::input::rest(input, n + 1), less(k, n + 1));
+    let more = first(parts::rest(input, n + 1), less(k, n + 1));
     let d = commands::run_line(
         session,
         font,
@@ -127,5 +127,5 @@ pub fn command(
 pub fn rest<'a>(input: &'a [u8], read: usize) -> &'a [u8]
     ensures { λ r. ⌜ now r ≡ drop read (now (input .entry)) ⌝ }
 {
-    read::input::rest(input, read)
+    parts::rest(input, read)
 }

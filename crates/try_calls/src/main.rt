@@ -68,7 +68,7 @@ fn called(file: &[u8], r: Progress, record: &[u8]) -> Progress {
 
 // One record.
 fn one(file: &[u8], r: Progress) -> Progress {
-    let record = read::input::rest(file, r.at);
+    let record = parts::rest(file, r.at);
     match byte(record, 0) {
         b'S' => {
             let mut next = moved(r, 2);
