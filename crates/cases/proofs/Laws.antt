@@ -10,11 +10,10 @@ use lib.Seq.{drop-append-add}
 use lib.Dec.{eqb, leb, ltb}
 use Rattle.cells.specs.Cell.{cell}
 use Rattle.cells.specs.Count.{allZero}
-use Rattle.cells.proofs.Counts.{and-left, and-right, and-both, all-of}
+use Rattle.cells.proofs.Counts.{all-of}
 use Rattle.dots.specs.declared.Ink.the-variants.{Black}
 use Rattle.dots.specs.Dots.{within, rows, byteDrawn, redrawnFrom, redrawn, drawn, cut, box}
 use Rattle.dots.specs.Whole.{white, blackIn, blackDots}
-use Rattle.dots.proofs.Bits.{not-below}
 use Rattle.dots.proofs.WholePages.{white-outside-white}
 use Rattle.font.specs.Rules.{legal}
 use Rattle.store.specs.Chain.{isFree, portion}
@@ -40,6 +39,7 @@ use Rattle.station.specs.Station.{
   labelSession,
   labelledBy,
 }
+use Rattle.ground.proofs.Tests.{and-left, and-right, and-both, not-below}
 use Rattle.cases.specs.Calls.{Stand, stand, start, font, output, calls, afterCall, labels, afterLabel}
 
 -- ---- soundness, clause by clause

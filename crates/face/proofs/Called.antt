@@ -8,7 +8,6 @@ use lib.ListN.{length, set}
 use lib.Dec.{eqb}
 use lib.Seq.{sets}
 use borrow.Author.Tests.{eq-eqb, ne-eqb, eqb-true, not-false}
-use Rattle.values.proofs.Writing.{sets-all}
 use Rattle.session.specs.declared.Session.{Session}
 use Rattle.session.specs.declared.answers.Answer.the-variants.{Lengths}
 use Rattle.session.specs.Answers.{numberOf}
@@ -17,6 +16,7 @@ use Rattle.station.specs.declared.Outcome.{Outcome}
 use Rattle.station.specs.declared.Labelled.{Labelled}
 use Rattle.station.specs.Outcomes.{after, drawnBy, openedBy}
 use Rattle.station.specs.Station.{opened, commanded, labelledBy}
+use Rattle.ground.proofs.Stores.{sets-all}
 use Rattle.face.specs.Image.{bytesOf, counterBytes, sessionOf, imageOf}
 use Rattle.face.specs.Face.{countsStored, imageWrong, countsWrong, opening, commanding, labelling, openedFace, commandedFace, labelledFace}
 

@@ -5,9 +5,9 @@ ghost use Rattle.face.specs.Face.{countsStored, opening, commanding, lab
 use crate::image::IMAGE;
 use crate::image::decode;
 use crate::image::encode;
+use ground::either;
 use session::Answer;
 use session::answers::number;
-use values::bytes::either;
 
 // Bytes read and bytes written, at every answer; counts of another length are left as they are.
 fn store_counts(counts: &mut [u64], read: usize, written: usize)

@@ -5,10 +5,10 @@ ghost use Prim.Native.Nat.{_+_, _*_, _/_, _%_, _<_};
 ghost use lib.Seq.{sets};
 ghost use Rattle.values.specs.Counters.{counters};
 ghost use Rattle.face.specs.Image.{numberAt, bytesOf, everyFive, counterBytes, headOf, sessionOf, imageOf};
+use ground::byte;
+use ground::put;
 use session::Session;
 use values::Counters;
-use values::bytes::byte;
-use values::bytes::put;
 
 // The bytes of an image.
 pub const IMAGE: usize = 65;

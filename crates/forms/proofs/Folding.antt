@@ -10,12 +10,13 @@ use native.Mathlib.Decide.{decLe}
 use lib.ListN.{length, drop, length-drop}
 use lib.Dec.{eqb, ltb}
 use borrow.Author.Tests.{eq-eqb, ne-eqb, lt-ltb, le-ltb, le-leb, lt-leb}
-use Rattle.cells.proofs.Counts.{same?, drop-none}
+use Rattle.cells.proofs.Counts.{drop-none}
 use Rattle.store.specs.Lines.{lines, onto, linesOf, lineOf}
 use Rattle.values.specs.declared.declarations.Declared.{Declared}
 use Rattle.read.specs.Grammar.{headOf, headBy, find}
 use Rattle.read.specs.Commands.{readOf, headed}
 use Rattle.normal.specs.Written.{isNormal}
+use Rattle.ground.proofs.Tests.{same?}
 use Rattle.forms.specs.declared.Stored.{Stored}
 use Rattle.forms.specs.declared.Stored.the-variants.{Holds, Nothing}
 use Rattle.read.specs.declared.Item.{Item}

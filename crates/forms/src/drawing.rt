@@ -14,6 +14,8 @@ ghost use Rattle.font.specs.Text.{textDrawn};
 ghost use Rattle.bars.specs.Drawing.{barsDrawn};
 ghost use Rattle.forms.specs.Draw.{setting, inkOf, bytesAt, drawsItem};
 ghost use Rattle.forms.specs.Draw.{far as farOf};
+use ground::front;
+use ground::least;
 use read::Bars;
 use read::Frame;
 use read::Item;
@@ -23,13 +25,11 @@ use read::Text;
 use store::Found;
 use values::Counters;
 use values::Declared;
-use values::bytes::front;
-use values::bytes::lesser;
 
 fn far(a: usize, b: usize) -> usize
     ensures { λ r. ⌜ r ≡ farOf a b ⌝ }
 {
-    lesser(lesser(a, 4294967295) + lesser(b, 4294967295), 4294967295)
+    least(least(a, 4294967295) + least(b, 4294967295), 4294967295)
 }
 
 fn ink_of(ink: read::Ink) -> dots::Ink

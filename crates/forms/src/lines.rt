@@ -7,12 +7,12 @@ ghost use Rattle.store.specs.Content.{ahead, onward as onwardOf};
 ghost use Rattle.forms.specs.Walk.{lineIn, behind};
 ghost use Rattle.forms.specs.Form.{heldCommand, itemIn};
 use crate::Stored;
+use ground::front;
+use ground::less;
 use read::Command;
 use read::Read;
 use store::Cursor;
 use store::Next;
-use values::bytes::front;
-use values::bytes::less;
 
 fn held_command(c: Command) -> Stored
     ensures { λ r. ⌜ r ≡ heldCommand c ⌝ }

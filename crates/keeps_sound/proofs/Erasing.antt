@@ -8,7 +8,6 @@ use native.Mathlib.Omega.{arith}
 use lib.ListN.{getD}
 use lib.Dec.{eqb}
 use borrow.Author.Tests.{ne-eqb, eqb-false}
-use Rattle.cells.proofs.Counts.{and-left}
 use Rattle.cells.proofs.Scan.{lowest-passes}
 use Rattle.store.specs.declared.Found.{Found}
 use Rattle.store.specs.declared.Found.the-variants.{At, Nothing}
@@ -17,7 +16,7 @@ use Rattle.store.specs.Find.{sameName, titled, titledAt}
 use Rattle.store.proofs.Finding.{at-says}
 use Rattle.moves.specs.Memory.{Memory}
 use Rattle.moves.specs.Erase.{erasedAt, erasedAll}
-use Rattle.store_sound.specs.Shelf.{Held, nothing, shelfOf, pickHeld, swept}
+use Rattle.store_sound.specs.Shelf.{Held, nothing, shelfOf, swept}
 use Rattle.store_sound.proofs.Listing.{shelf-at}
 use Rattle.store_sound.proofs.Moving.{Moved}
 use Rattle.store_sound.proofs.Erase.{erase-moved}
@@ -35,6 +34,7 @@ use Rattle.results.specs.Result.{sixteenBits}
 use Rattle.results.proofs.Lengths.{directory-long}
 use Rattle.form_commands.specs.Forms.{erasedForm}
 use Rattle.commands.specs.Does.{runs}
+use Rattle.ground.proofs.Tests.{and-left}
 use Rattle.keeps_sound.specs.Good.{Good}
 use Rattle.keeps_sound.proofs.Stored.{heldOk, contentsOf, contents-at, contents-of, contents-moved, good-stored, good-moved, good-ended}
 
@@ -64,7 +64,7 @@ erasedAt-moved s w g i b n = rw (ne-eqb (kind (entry (w .directory) i)) 0 n) (er
 held-swept : (picture : Bool) (h : Held) → heldOk h ≡ true → heldOk (swept picture h) ≡ true
 held-swept picture h k = go (ofKind picture (h .kind))
   where
-    go : (b : Bool) → heldOk (pickHeld b nothing h) ≡ true
+    go : (b : Bool) → heldOk (cond b nothing h) ≡ true
     go true = refl
     go false = k
 
@@ -77,7 +77,7 @@ swept-contents picture m m′ v h = contents-of m′ (λ j l.
 form-stays : (m : Memory) (j : ℕ) → j < entries (m .directory) → kind (entry (m .directory) j) ≡ 1 → swept true (getD (shelfOf m) j nothing) ≡ getD (shelfOf m) j nothing
 form-stays m j b k =
     let q : getD (shelfOf m) j nothing .kind ≡ 1 = ap (λ (x : Held). x .kind) (shelf-at (m .store) (m .links) (m .directory) j b) ∙ k in
-    ap (λ (n : ℕ). pickHeld (ofKind true n) nothing (getD (shelfOf m) j nothing)) q
+    ap (λ (n : ℕ). cond (ofKind true n) nothing (getD (shelfOf m) j nothing)) q
 
 -- ---- the commands
 

@@ -8,7 +8,6 @@ use native.Mathlib.Omega.{arith}
 use lib.ListN.{length, set, length-set}
 use lib.Dec.{eqb}
 use borrow.Author.Tests.{eqb-false, leb-true, le-leb}
-use Rattle.kinds.proofs.Laws.{or-second}
 use Rattle.store.specs.Find.{recorded}
 use Rattle.values.specs.declared.declarations.Declared.{Declared}
 use Rattle.values.specs.declared.counters.Counters.{Counters}
@@ -28,6 +27,7 @@ use Rattle.results.proofs.Answers.{or-none}
 use Rattle.station.specs.Outcomes.{Drawn, drawnBy, labelled}
 use Rattle.station.specs.Table.{labelTable}
 use Rattle.station.specs.Station.{labelPage, labelSession, settledLabel, labelledBy}
+use Rattle.ground.proofs.Tests.{or-second}
 use Rattle.keeps_sound.specs.Good.{Good}
 use Rattle.keeps_sound.specs.Tens.{Tens}
 use Rattle.keeps_sound.proofs.Layers.{good-sound, sound-good}

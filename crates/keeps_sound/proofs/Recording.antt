@@ -8,7 +8,6 @@ use native.Mathlib.Omega.{arith}
 use lib.ListN.{length, length-append}
 use lib.Dec.{eqb, leb}
 use borrow.Author.Tests.{eq-eqb, eqb-true, le-leb}
-use Rattle.cells.proofs.Counts.{and-left, and-both}
 use Rattle.cells.proofs.Scan.{lowest-passes}
 use Rattle.store.specs.declared.Found.the-variants.{At}
 use Rattle.store.specs.Entry.{entries, entry, kind, name}
@@ -46,6 +45,7 @@ use Rattle.results.specs.World.{memoryOf, contentAt, activeOf, activeDeclared}
 use Rattle.item_commands.specs.Items.{isBefore, isUnknown, isReaching, isWrong, verdictRows}
 use Rattle.commands.specs.Rows.{recordRows}
 use Rattle.commands.specs.Does.{records}
+use Rattle.ground.proofs.Tests.{and-left, and-both}
 use Rattle.keeps_sound.specs.Good.{Good}
 use Rattle.keeps_sound.proofs.Tables.{clear, not-no}
 use Rattle.keeps_sound.proofs.OneLine.{normal-inside}

@@ -7,7 +7,6 @@ use Prim.Native.Nat.{ℕ, _<_}
 use native.Mathlib.Omega.{arith}
 use lib.ListN.{length}
 use borrow.Author.Tests.{eqb-true, lt-ltb}
-use Rattle.cells.proofs.Counts.{and-both}
 use Rattle.cells.proofs.Scan.{lowest-passes}
 use Rattle.store.specs.declared.Found.{Found}
 use Rattle.store.specs.declared.Found.the-variants.{At, Nothing}
@@ -37,6 +36,7 @@ use Rattle.results.specs.World.{memoryOf}
 use Rattle.results.specs.Named.{lookup, named}
 use Rattle.commands.specs.Rows.{runRows}
 use Rattle.commands.specs.Does.{runs}
+use Rattle.ground.proofs.Tests.{and-both}
 use Rattle.keeps_sound.specs.Good.{Good}
 use Rattle.keeps_sound.proofs.Tables.{clear, not-no}
 use Rattle.keeps_sound.proofs.Titles.{start-title, store-title}

@@ -13,8 +13,8 @@ use borrow.Author.Tests.{eq-eqb, eqb-true, leb-true, leb-false, le-leb, lt-leb, 
 use Rattle.kinds.specs.Bytes.{between}
 use Rattle.cells.specs.Count.{allTo}
 use Rattle.cells.specs.Scan.{lowest}
-use Rattle.cells.proofs.Counts.{same?, and-both, all-at, all-of}
-use Rattle.cells.proofs.Scan.{either, lowest-passes, lowest-first, lowest-most}
+use Rattle.cells.proofs.Counts.{all-at, all-of}
+use Rattle.cells.proofs.Scan.{lowest-passes, lowest-first, lowest-most}
 use Rattle.fields.specs.declared.Class.{Class}
 use Rattle.fields.specs.declared.Class.the-variants.{Named as NameByte}
 use Rattle.fields.specs.declared.Limits.{Limits}
@@ -37,6 +37,7 @@ use Rattle.read.specs.declared.Command.the-variants.{Item as item, End, Page, F
 use Rattle.read.specs.declared.FormCommand.{FormCommand}
 use Rattle.read.specs.declared.FormCommand.the-variants.{Start, Retrieve, Erase as EraseForm}
 use Rattle.read.specs.declared.PictureCommand.the-variants.{Store, Erase as ErasePicture}
+use Rattle.ground.proofs.Tests.{same?, and-both, either}
 
 -- ---- a name in capitals is a title
 

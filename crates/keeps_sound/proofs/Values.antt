@@ -13,7 +13,6 @@ use borrow.Author.Tests.{le-leb, not-false}
 use Rattle.cells.specs.Cell.{zeros}
 use Rattle.cells.proofs.Cells.{length-zeros}
 use Rattle.cells.proofs.Scan.{lowest-passes, lowest-before}
-use Rattle.kinds.proofs.Laws.{or-second}
 use Rattle.store.specs.declared.Found.{Found}
 use Rattle.store.specs.declared.Found.the-variants.{At, Nothing}
 use Rattle.store.specs.Entry.{entries, entry, kind, ofKind}
@@ -53,6 +52,7 @@ use Rattle.page_commands.specs.Page.{whitened}
 use Rattle.value_commands.specs.Values.{textOf}
 use Rattle.commands.specs.Rows.{runRows}
 use Rattle.commands.specs.Does.{runs}
+use Rattle.ground.proofs.Tests.{or-second}
 use Rattle.keeps_sound.specs.Good.{Good}
 use Rattle.keeps_sound.specs.Tens.{Tens}
 use Rattle.keeps_sound.proofs.Layers.{first-of}

@@ -136,7 +136,7 @@ fn calls(
         if read == 0 {
             return;
         }
-        at = dots::capped_sum(at, read);
+        at = ground::capped_sum(at, read);
     }
 }
 

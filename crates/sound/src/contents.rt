@@ -15,7 +15,7 @@ fn picture_legal(store: &[u8], links: &[u16], directory: &[u8], i: usize, buffer
         return false;
     }
     let n = store::copy_out(store, links, directory, i, buffer);
-    picture::is_legal(values::bytes::front(buffer, n))
+    picture::is_legal(ground::front(buffer, n))
 }
 
 // The content of entry i is what its kind asks for.

@@ -9,12 +9,12 @@ ghost use Rattle.station.specs.Table.{lineOf, moreOf};
 ghost use Rattle.station.specs.Station.{readAs, commanded};
 use crate::Outcome;
 use crate::checks::entry_answer;
+use ground::less;
 use parts::first;
 use read::Front;
 use session::Answer;
 use session::Session;
 use session::answers::is_taken;
-use values::bytes::less;
 
 // "Others read the line, and for a well-formed GM also its n bytes, taken or refused": n bytes of line, k bytes read.
 fn on_front(

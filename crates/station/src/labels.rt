@@ -11,10 +11,10 @@ ghost use Rattle.station.specs.Table.{labelTable};
 ghost use Rattle.station.specs.Station.{turnedBy, labelPage, labelSession, labelledBy};
 use crate::Labelled;
 use crate::checks::entry_answer;
+use ground::either;
 use session::Answer;
 use session::Session;
 use session::answers::is_taken;
-use values::bytes::either;
 
 // The table of a label call.
 fn label_answer(
