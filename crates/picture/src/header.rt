@@ -4,10 +4,10 @@ use ground::byte_at;
 use ground::less;
 ghost use mathlib.Core.Path.{_≡_};
 ghost use Prim.Native.Nat.{_≤_, _<_};
-ghost use Rattle.picture.specs.Rules.{word, width, height, lineBytes, sized, ten, version, ones, ordered, measured, lined, headed};
+ghost use Rattle.picture.specs.Rules.{headerBytes, word, width, height, lineBytes, sized, ten, version, ones, ordered, measured, lined, headed};
 
 pub(crate) fn word_at(bytes: &[u8], at: usize) -> usize
-    requires { ⌜ at < 128 ⌝ }
+    requires { ⌜ at < headerBytes ⌝ }
     ensures { λ r. ⌜ (r ≡ word (now (bytes .entry)) at) × (r < 65536) ⌝ }
 {
     byte_at(bytes, at) + byte_at(bytes, at + 1) * 256

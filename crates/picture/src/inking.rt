@@ -1,4 +1,5 @@
 // A picture drawn: eight dots at a time, each run at once, rows outside the page passed over.
+use crate::body::HEADER_BYTES;
 use crate::body::next_of;
 use crate::body::times_of;
 use crate::header::height_of;
@@ -71,7 +72,7 @@ pub(crate) fn ink_runs(page: &mut [u8], p: Spot, bytes: &[u8])
     requires { ⌜ Fits p (length (decoded (now bytes))) (now page) ⌝ }
     ensures { λ _. ⌜ now (page .exit) ≡ drawn Black (part p (λ k. getD (decoded (now (bytes .entry))) k 0) 0 (length (decoded (now (bytes .entry))))) (now (page .entry)) ⌝ }
 {
-    let mut i: usize = 128;
+    let mut i: usize = HEADER_BYTES;
     let mut n: usize = 0;
     let mut q: usize = 0;
     while i < bytes.len() {

@@ -63,8 +63,8 @@ fn legal_byte(b: u8) -> bool
     ensures { λ r. ⌜ r ≡ legalByte b ⌝ }
 {
     both(
-        both(32 <= b, b <= 126),
-        both(b != 42, both(b != 34, !both(97 <= b, b <= 122))),
+        both(b' ' <= b, b <= b'~'),
+        both(b != b'*', both(b != b'"', !both(b'a' <= b, b <= b'z'))),
     )
 }
 
