@@ -3,7 +3,7 @@ ghost use mathlib.Core.Path.{_≡_};
 ghost use mathlib.Core.Bool.{not, _&&_};
 ghost use mathlib.Core.List.{[]};
 ghost use Rattle.store.specs.Find.{titledAt};
-ghost use Rattle.read.specs.Names.{packedOf};
+ghost use Rattle.parts.specs.Names.{packedOf};
 ghost use Rattle.forms.specs.Form.{isAt};
 ghost use Rattle.session.specs.Lent.{world};
 ghost use Rattle.results.specs.Named.{placeOf, erasedNamed};
