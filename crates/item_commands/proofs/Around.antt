@@ -8,31 +8,34 @@ use borrow.Author.Tests.{not-true, not-false}
 use Rattle.values.specs.declared.declarations.Declared.{Declared}
 use Rattle.values.specs.Declarations.{nothing}
 use Rattle.read.specs.declared.Item.{Item}
-use Rattle.forms.specs.declared.Verdict.{Verdict}
-use Rattle.forms.specs.declared.Verdict.the-variants.{Taken as Fine, Again as Before, Undeclared as Unknown, Past as Reaches, Unfit as Wrong}
-use Rattle.forms.specs.Judged.{judged}
 use Rattle.forms.specs.Form.{hasPicture}
 use Rattle.session.specs.declared.Session.{Session}
 use Rattle.session.specs.declared.answers.Answer.{Answer}
-use Rattle.session.specs.declared.answers.Answer.the-variants.{Taken, Missing, Full}
+use Rattle.session.specs.declared.answers.Answer.the-variants.{Taken, Missing, Again, Undeclared, Past, Unfit, Full}
 use Rattle.session.specs.Answers.{Row, row, answerOf, isTaken, numberOf}
 use Rattle.session.specs.Lent.{world}
 use Rattle.results.specs.Result.{done, ran, ranBy}
 use Rattle.results.proofs.Answers.{cond-map, cond-true, cond-false, answer-skip, answer-stop}
 use Rattle.results.proofs.Parts.{onBackground}
-use Rattle.item_commands.specs.Items.{verdictRows, itemRows, basedBy, itemRuns, itemBy}
+use Rattle.item_commands.specs.Items.{declaredBefore, notDeclared, reachesPast, unfitData, shownBy, itemRows, basedBy, itemRuns, itemBy}
 
 item-join :
-    (h : Bool) (v : Verdict) (rest : List Row) →
-    answerOf (row Missing (not h) ∷ verdictRows v rest)
-    ≡ cond (isTaken (answerOf (row Missing (not h) ∷ verdictRows v []))) (answerOf rest) (answerOf (row Missing (not h) ∷ verdictRows v []))
+    (h a b c e : Bool) (rest : List Row) →
+    let rows : (List Row → List Row) = λ after. row Missing (not h) ∷ row Again a ∷ row Undeclared b ∷ row Past c ∷ row Unfit e ∷ after in
+    answerOf (rows rest) ≡ cond (isTaken (answerOf (rows []))) (answerOf rest) (answerOf (rows []))
 unfolding answerOf isTaken numberOf
-item-join false v rest = refl
-item-join true Fine rest = refl
-item-join true Before rest = refl
-item-join true Unknown rest = refl
-item-join true Reaches rest = refl
-item-join true Wrong rest = refl
+item-join false a b c e rest = refl
+item-join true true b c e rest = refl
+item-join true false true c e rest = refl
+item-join true false false true e rest = refl
+item-join true false false false true rest = refl
+item-join true false false false false rest = refl
+
+item-rows :
+    (d : Declared) (dir line : List ℕ) (it : Item) (rest : List Row) →
+    answerOf (itemRows d dir line it rest) ≡ cond (isTaken (answerOf (itemRows d dir line it []))) (answerOf rest) (answerOf (itemRows d dir line it []))
+item-rows d dir line it rest =
+    item-join (hasPicture dir line it) (declaredBefore d it) (notDeclared d line (shownBy it)) (reachesPast d line (shownBy it)) (unfitData d line (shownBy it)) rest
 
 pub item-refused :
     (d : Declared) (dir line : List ℕ) (it : Item) (rest : List Row) (a : Answer) (b : Bool) →
@@ -42,13 +45,13 @@ item-refused d dir line it rest a b e f n =
     ∙ sym
     (cond-false (isTaken (answerOf (itemRows d dir line it []))) (answerOf rest) (answerOf (itemRows d dir line it []))
     (sym (ap isTaken e) ∙ sym f ∙ not-true b n))
-    ∙ sym (item-join (hasPicture dir line it) (judged d line it) rest)
+    ∙ sym (item-rows d dir line it rest)
 
 item-passed :
     (d : Declared) (dir line : List ℕ) (it : Item) (rest : List Row) (a : Answer) (b : Bool) →
     a ≡ answerOf (itemRows d dir line it []) → b ≡ isTaken a → not b ≡ false → answerOf (itemRows d dir line it rest) ≡ answerOf rest
 item-passed d dir line it rest a b e f n =
-    item-join (hasPicture dir line it) (judged d line it) rest
+    item-rows d dir line it rest
     ∙ cond-true (isTaken (answerOf (itemRows d dir line it []))) (answerOf rest) (answerOf (itemRows d dir line it []))
     (sym (ap isTaken e) ∙ sym f ∙ not-false b n)
 

@@ -4,58 +4,107 @@ use Prim.Native.Nat.{ℕ}
 use mathlib.Core.Bool.{Bool, true, false, not}
 use mathlib.Core.List.{List, [], _∷_}
 use Rattle.values.specs.declared.declarations.Declared.{Declared}
-use Rattle.values.specs.Declarations.{nothing}
+use Rattle.values.specs.Declarations.{nothing, variableDeclared, counterDeclared}
+use Rattle.kinds.specs.declared.Kind.{Kind}
+use Rattle.kinds.specs.declared.Kind.the-variants.{Shown}
+use Rattle.fields.specs.Data.{elements}
+use Rattle.fitness.specs.declared.answers.DataAnswer.{DataAnswer}
+use Rattle.fitness.specs.declared.answers.DataAnswer.the-variants.{Good as InReach, Undeclared as Unnamed, Past as TooFar}
+use Rattle.fitness.specs.declared.judging.Judgement.{Judgement}
+use Rattle.fitness.specs.declared.judging.Judgement.the-variants.{Fit as AlwaysFit, Undeclared as NamesUndeclared, Past as GoesPast, Unfit as NotFit}
+use Rattle.fitness.specs.Answers.{undeclaredBy, pastBy, someOf}
+use Rattle.fitness.specs.Summary.{judged as fitAlways}
 use Rattle.read.specs.declared.Item.{Item}
 use Rattle.read.specs.declared.Item.the-variants.{Origin, Variable, Counter, Text, Bars, Box, Frame, Picture}
 use Rattle.forms.specs.declared.Verdict.{Verdict}
 use Rattle.forms.specs.declared.Verdict.the-variants.{Taken as Fine, Again as Before, Undeclared as Unknown, Past as Reaches, Unfit as Wrong}
-use Rattle.forms.specs.Judged.{judged}
 use Rattle.forms.specs.Form.{hasPicture}
 use Rattle.forms.specs.Draw.{setting, drawsItem}
 use Rattle.session.specs.declared.Session.{Session}
-use Rattle.session.specs.declared.answers.Answer.the-variants.{Missing, Again, Undeclared, Past, Unfit}
+use Rattle.session.specs.declared.answers.Answer.{Answer}
+use Rattle.session.specs.declared.answers.Answer.the-variants.{Taken, Missing, Again, Undeclared, Past, Unfit}
 use Rattle.session.specs.Answers.{Row, row, answerOf}
 use Rattle.session.specs.Session.{based}
 use Rattle.session.specs.Lent.{World}
 use Rattle.results.specs.World.{State, state, withBackground}
 use Rattle.results.specs.Result.{sixteenBits, Ran, ranBy}
 
--- [12] to [15] by what an item is judged after the declarations d
-abbrev pub isBefore : Verdict → Bool
-isBefore Fine = false
-isBefore Before = true
-isBefore Unknown = false
-isBefore Reaches = false
-isBefore Wrong = false
+-- ---- what rows 12 to 15 ask of an item, each for itself: none looks at another
 
-abbrev pub isUnknown : Verdict → Bool
-isUnknown Fine = false
-isUnknown Before = false
-isUnknown Unknown = true
-isUnknown Reaches = false
-isUnknown Wrong = false
+-- the data that an item shows: from which place of its line on, and for what
+pub data Shows : Type 0 where
+  noData : Shows
+  dataAt : ℕ → Kind → Shows
 
-abbrev pub isReaching : Verdict → Bool
-isReaching Fine = false
-isReaching Before = false
-isReaching Unknown = false
-isReaching Reaches = true
-isReaching Wrong = false
+abbrev pub shownBy : Item → Shows
+shownBy (Origin o) = noData
+shownBy (Variable v) = noData
+shownBy (Counter c) = noData
+shownBy (Text t) = dataAt (t .at) Shown
+shownBy (Bars b) = dataAt (b .at) (b .kind)
+shownBy (Box r) = noData
+shownBy (Frame f) = noData
+shownBy (Picture p) = noData
 
-abbrev pub isWrong : Verdict → Bool
-isWrong Fine = false
-isWrong Before = false
-isWrong Unknown = false
-isWrong Reaches = false
-isWrong Wrong = true
+-- [12] "declared before in this form": V and C numbers are separate
+unfoldable pub declaredBefore : Declared → Item → Bool
+declaredBefore d (Origin o) = false
+declaredBefore d (Variable v) = variableDeclared d (v .n)
+declaredBefore d (Counter c) = counterDeclared d (c .n)
+declaredBefore d (Text t) = false
+declaredBefore d (Bars b) = false
+declaredBefore d (Box r) = false
+declaredBefore d (Frame f) = false
+declaredBefore d (Picture p) = false
 
-abbrev pub verdictRows : Verdict → List Row → List Row
-verdictRows v rows =
-    row Again (isBefore v) ∷ row Undeclared (isUnknown v) ∷ row Past (isReaching v) ∷ row Unfit (isWrong v) ∷ rows
+-- [13] "variable or counter not declared"
+unfoldable pub notDeclared : Declared → List ℕ → Shows → Bool
+notDeclared d line noData = false
+notDeclared d line (dataAt at kind) = someOf (undeclaredBy d) (elements line at)
 
--- an item, by the picture it draws [11] and its verdict; then what comes after
+-- [14] "a modifier reaches past the declared length". Of a variable that is not declared the length is 0, so that every modifier reaches past it
+unfoldable pub reachesPast : Declared → List ℕ → Shows → Bool
+reachesPast d line noData = false
+reachesPast d line (dataAt at kind) = someOf (pastBy d) (elements line at)
+
+-- [15] "unfit data": some permitted values make it so. A variable that is not declared has length 0: it shows nothing
+unfoldable pub unfitData : Declared → List ℕ → Shows → Bool
+unfitData d line noData = false
+unfitData d line (dataAt at kind) = not (fitAlways line d (elements line at) kind)
+
+abbrev pub fitRows : Declared → List ℕ → Item → List Row → List Row
+fitRows d line it rows =
+    row Again (declaredBefore d it)
+    ∷ row Undeclared (notDeclared d line (shownBy it))
+    ∷ row Past (reachesPast d line (shownBy it))
+    ∷ row Unfit (unfitData d line (shownBy it))
+    ∷ rows
+
+-- an item, by the picture it draws [11] and these; then what comes after
 abbrev pub itemRows : Declared → List ℕ → List ℕ → Item → List Row → List Row
-itemRows d directory line it rows = row Missing (not (hasPicture directory line it)) ∷ verdictRows (judged d line it) rows
+itemRows d directory line it rows = row Missing (not (hasPicture directory line it)) ∷ fitRows d line it rows
+
+-- ---- the table's answers of what judges an item: the code walks its data once and gives the first that applies (proofs/First.antt)
+
+abbrev pub verdictAnswer : Verdict → Answer
+verdictAnswer Fine = Taken
+verdictAnswer Before = Again
+verdictAnswer Unknown = Undeclared
+verdictAnswer Reaches = Past
+verdictAnswer Wrong = Unfit
+
+abbrev pub judgementAnswer : Judgement → Answer
+judgementAnswer AlwaysFit = Taken
+judgementAnswer NamesUndeclared = Undeclared
+judgementAnswer GoesPast = Past
+judgementAnswer NotFit = Unfit
+
+abbrev pub dataAnswerOf : DataAnswer → Answer
+dataAnswerOf InReach = Taken
+dataAnswerOf Unnamed = Undeclared
+dataAnswerOf TooFar = Past
+
+-- ---- what an item does outside a form
 
 -- "`Rm,n` .. It replaces the earlier one and is added to coordinates after it"
 abbrev pub basedBy : Session → Item → Session

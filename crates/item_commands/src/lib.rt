@@ -7,7 +7,7 @@ ghost use mathlib.Core.List.{[]};
 ghost use Rattle.session.specs.Answers.{answerOf};
 ghost use Rattle.session.specs.Lent.{world};
 ghost use Rattle.results.specs.Result.{ran};
-ghost use Rattle.item_commands.specs.Items.{verdictRows, itemRows, basedBy, itemBy};
+ghost use Rattle.item_commands.specs.Items.{verdictAnswer, itemRows, basedBy, itemBy};
 use forms::Verdict;
 use read::Item;
 use results::Done;
@@ -21,7 +21,7 @@ use values::Declared;
 
 // What a verdict answers: [12] to [15], or taken.
 fn answer_of(v: Verdict) -> Answer
-    ensures { λ r. ⌜ r ≡ answerOf (verdictRows v []) ⌝ }
+    ensures { λ r. ⌜ r ≡ verdictAnswer v ⌝ }
 {
     match v {
         Verdict::Taken => Answer::Taken,

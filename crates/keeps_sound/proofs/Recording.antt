@@ -30,8 +30,7 @@ use Rattle.read.specs.declared.Read.the-variants.{Taken as Reads}
 use Rattle.normal.specs.Written.{normal, takenItem, equal, isNormal}
 use Rattle.normal.proofs.Round.{normal-line, item-rows}
 use Rattle.normal.proofs.Short.{normal-short}
-use Rattle.forms.specs.declared.Verdict.{Verdict}
-use Rattle.forms.specs.declared.Verdict.the-variants.{Taken as Fine, Again as Before, Undeclared as Unknown, Past as Reaches, Unfit as Wrong}
+use Rattle.forms.specs.declared.Verdict.the-variants.{Taken as Fine}
 use Rattle.forms.specs.declared.Stored.the-variants.{Holds, Nothing as NoItem}
 use Rattle.forms.specs.Judged.{judged, isTaken as isFine}
 use Rattle.forms.specs.Form.{formOk, declaredOf, itemIn, heldRead, pickStored, takesStored, takes, picturesStored}
@@ -42,7 +41,8 @@ use Rattle.session.specs.declared.answers.Answer.the-variants.{Taken, Misplaced
 use Rattle.session.specs.Answers.{Row, isTaken, numberOf, answerOf}
 use Rattle.session.specs.Lent.{World, rowsOf}
 use Rattle.results.specs.World.{memoryOf, contentAt, activeOf, activeDeclared}
-use Rattle.item_commands.specs.Items.{isBefore, isUnknown, isReaching, isWrong, verdictRows}
+use Rattle.item_commands.specs.Items.{fitRows}
+use Rattle.item_commands.proofs.First.{first-verdict}
 use Rattle.commands.specs.Rows.{recordRows}
 use Rattle.commands.specs.Does.{records}
 use Rattle.ground.proofs.Tests.{and-left, and-both}
@@ -105,21 +105,15 @@ module _ (s : Session) (w : World) (g : Good s w) (i : ℕ) (e : recorded (w .di
 
 -- ---- a line
 
-verdict-fine : (v : Verdict) (rows : List Row) → answerOf (verdictRows v rows) ≡ Taken → (v ≡ Fine) × (answerOf rows ≡ Taken)
+fit-fine :
+    (d : Declared) (line : List ℕ) (it : Item) (rows : List Row) → answerOf (fitRows d line it rows) ≡ Taken → (judged d line it ≡ Fine) × (answerOf rows ≡ Taken)
 unfolding isTaken numberOf
-verdict-fine v rows h =
+fit-fine d line it rows h =
     let a = clear Again _ _ refl h in
     let b = clear Undeclared _ _ refl (a .1) in
     let c = clear Past _ _ refl (b .1) in
-    let d = clear Unfit _ _ refl (c .1) in
-    (go v (a .0) (b .0) (c .0) (d .0), d .1)
-  where
-    go : (v : Verdict) → isBefore v ≡ false → isUnknown v ≡ false → isReaching v ≡ false → isWrong v ≡ false → v ≡ Fine
-    go Fine p q r t = refl
-    go Before p q r t = absurd (false≢true (sym p))
-    go Unknown p q r t = absurd (false≢true (sym q))
-    go Reaches p q r t = absurd (false≢true (sym r))
-    go Wrong p q r t = absurd (false≢true (sym t))
+    let e = clear Unfit _ _ refl (c .1) in
+    (rw (first-verdict d line it, a .0, b .0, c .0, e .0), e .1)
 
 equal-self : (l : List ℕ) → equal l l ≡ true
 unfolding equal
@@ -152,7 +146,7 @@ module _ (s : Session) (w : World) (g : Good s w) (i : ℕ) (e : recorded (w .di
   keeps-recorded line it r h c =
       let c₀ = clear Misplaced _ _ refl c in
       let c₁ = clear Missing _ _ refl (c₀ .1) in
-      let c₂ = verdict-fine (judged (declaredOf (contentAt w i)) line it) _ (c₁ .1) in
+      let c₂ = fit-fine (declaredOf (contentAt w i)) line it _ (c₁ .1) in
       let c₃ = clear Full _ _ refl (c₂ .1) in
       let more : List ℕ = normal line ++ (10 ∷ []) in
       let can : canGrow (w .links) (entry (w .directory) i) (length more) ≡ true =

@@ -201,7 +201,7 @@ read-by row s vs ps =
         (choice (λ (c : FormCommand). ReadBy row vs ps (Forms c)) (eqb row 14) _ _ (λ e. tt) tt)
 
     picture : (b : Bool) → eqb row 16 ≡ b → isPicture row ≡ true → ReadBy row vs ps (Pictures (pictureOf row n (getD vs 4 0)))
-    picture true e h = rw e
+    picture true e h = rw e tt
     picture false e h = rw e (eqb-true row 20 (either-row (eqb row 16) (eqb row 20) h e), (refl, refl))
 
 -- ---- its name is within its limits

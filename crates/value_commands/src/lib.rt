@@ -5,10 +5,9 @@
 ghost use mathlib.Core.Path.{_≡_};
 ghost use mathlib.Core.List.{[]};
 ghost use Rattle.read.specs.declared.ValueCommand.the-variants.{Variable as Enter, Counter as Count, Clear, Print as Owe};
-ghost use Rattle.session.specs.Answers.{answerOf};
 ghost use Rattle.session.specs.Lent.{world};
 ghost use Rattle.results.specs.Result.{ran};
-ghost use Rattle.value_commands.specs.Values.{enteredRows, valueBy};
+ghost use Rattle.value_commands.specs.Values.{enteredAnswer, valueBy};
 use parts::inside;
 use read::Print;
 use read::SetCounter;
@@ -27,7 +26,7 @@ use values::stored::unset_all;
 
 // [13] and [17], by what entering a value answers.
 fn entered(e: Entered) -> Answer
-    ensures { λ r. ⌜ r ≡ answerOf (enteredRows e) ⌝ }
+    ensures { λ r. ⌜ r ≡ enteredAnswer e ⌝ }
 {
     match e {
         Entered::Taken => Answer::Taken,

@@ -1,4 +1,3 @@
-use Rattle.session.specs.Answers.{answerOf}
 use borrow.Author.Needs.{needs}
 use Rattle.item_commands.proofs.answer_of.Statement.{statement}
 use Rattle.item_commands.proofs.answer_of.Tie as tie
@@ -19,23 +18,18 @@ enum-told-5 : tie.Need-enum-told-5
 enum-told-5 c = search needs
 
 returns : tie.Need-returns
-unfolding answerOf
 returns c = rw (c .enum-told .given .1)
 
 returns-2 : tie.Need-returns-2
-unfolding answerOf
 returns-2 c = rw (c .enum-told2 .given .1)
 
 returns-3 : tie.Need-returns-3
-unfolding answerOf
 returns-3 c = rw (c .enum-told3 .given .1)
 
 returns-4 : tie.Need-returns-4
-unfolding answerOf
 returns-4 c = rw (c .enum-told4 .given .1)
 
 returns-5 : tie.Need-returns-5
-unfolding answerOf
 returns-5 c = rw (c .enum-told5 .given .1)
 
 pub answer-of-spec : {M : Type 1} → statement M

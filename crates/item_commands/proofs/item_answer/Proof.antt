@@ -1,3 +1,4 @@
+use Rattle.item_commands.proofs.First.{fit-answer}
 use Rattle.session.specs.Answers.{answerOf}
 use borrow.Author.Needs.{needs}
 use Rattle.item_commands.proofs.item_answer.Statement.{statement}
@@ -14,7 +15,7 @@ answer-of-requires c κs = search needs
 
 returns : tie.Need-returns
 unfolding answerOf
-returns c = rw (← c .before .before .before .has-picture .ensures, c .before .before .if1 .taken, ← c .before .judge .ensures) (c .answer-of .ensures)
+returns c = rw (← c .before .before .before .has-picture .ensures, c .before .before .if1 .taken, c .answer-of .ensures, c .before .judge .ensures) (fit-answer _ _ _)
 
 returns-2 : tie.Need-returns-2
 unfolding answerOf

@@ -1,4 +1,7 @@
-use mathlib.Core.Path.{refl}
+use mathlib.Core.Path.{refl, sym, ap, _∙_}
+use Rattle.values.specs.declared.counters.Counted.{Counted}
+use Rattle.value_commands.specs.Values.{enteredAnswer}
+use Rattle.value_commands.proofs.Entering.{counter-first}
 use Rattle.results.proofs.Parts.{refused-by, taken-by}
 use borrow.Author.Needs.{needs}
 use Rattle.value_commands.proofs.enter_counter.Statement.{statement}
@@ -21,7 +24,7 @@ answered-requires c κs = search needs
 
 returns : tie.Need-returns
 returns c = rw (c .answered .ensures, ← c .before .before .before .before .before .before .active-declared .ensures, ← c .before .before .before .before .before .set-counter .ensures)
-    (refused-by _ _ _ _ _ _ _ (c .before .before .before .entered .ensures) (c .before .before .is-taken .ensures) (c .before .if1 .taken))
+    (refused-by _ _ _ _ _ _ _ (c .before .before .before .entered .ensures ∙ ap (λ (k : Counted). enteredAnswer (k .answer)) (c .before .before .before .before .before .set-counter .ensures) ∙ sym (counter-first _ _ _ _)) (c .before .before .is-taken .ensures) (c .before .if1 .taken))
 
 counting-requires : tie.Need-counting-requires
 counting-requires c κs = search needs
@@ -31,7 +34,7 @@ taken-requires c κs = search needs
 
 returns-2 : tie.Need-returns-2
 returns-2 c = rw (c .taken .ensures, c .before .counting .ensures, ← c .before .before .before .before .before .before .before .active-declared .ensures, ← c .before .before .before .before .before .before .set-counter .ensures)
-    (taken-by _ _ _ _ _ _ (c .before .before .before .before .entered .ensures) (c .before .before .before .is-taken .ensures) (c .before .before .if1 .left) refl)
+    (taken-by _ _ _ _ _ _ (c .before .before .before .before .entered .ensures ∙ ap (λ (k : Counted). enteredAnswer (k .answer)) (c .before .before .before .before .before .before .set-counter .ensures) ∙ sym (counter-first _ _ _ _)) (c .before .before .before .is-taken .ensures) (c .before .before .if1 .left) refl)
 
 pub enter-counter-spec : {M : Type 1} → statement M
 enter-counter-spec = tie.close (tie.spec active-declared-requires set-counter-requires entered-requires is-taken-requires answered-requires returns counting-requires taken-requires returns-2)

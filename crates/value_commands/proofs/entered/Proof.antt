@@ -1,4 +1,3 @@
-use Rattle.session.specs.Answers.{answerOf}
 use borrow.Author.Needs.{needs}
 use Rattle.value_commands.proofs.entered.Statement.{statement}
 use Rattle.value_commands.proofs.entered.Tie as tie
@@ -13,15 +12,12 @@ enum-told-3 : tie.Need-enum-told-3
 enum-told-3 c = search needs
 
 returns : tie.Need-returns
-unfolding answerOf
 returns c = rw (c .enum-told .given .1)
 
 returns-2 : tie.Need-returns-2
-unfolding answerOf
 returns-2 c = rw (c .enum-told2 .given .1)
 
 returns-3 : tie.Need-returns-3
-unfolding answerOf
 returns-3 c = rw (c .enum-told3 .given .1)
 
 pub entered-spec : {M : Type 1} → statement M
