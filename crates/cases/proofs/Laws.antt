@@ -164,7 +164,7 @@ answered s w input a l f g e =
 -- a label call on an owed label
 pub labels-taken : (s : Session) (w : World) (page : List ℕ) → (wrongLent w || not (eqb (length page) (length (w .background)))) ≡ false → legal font ≡ true → sound s w ≡ true
     → eqb (s .owed) 0 ≡ false
-    → labelledBy s font w page ≡ drawnBy (labelled Taken (labelSession s w)) (labelPage font s w page)
+    → labelledBy s font w page ≡ drawnBy (labelled Taken (labelSession s w)) (labelPage font s w)
 unfolding labelledBy labelTable answerOf isTaken numberOf
 labels-taken s w page l f g o = rw (l, f, g, o)
 

@@ -20,7 +20,7 @@ use Rattle.session.specs.declared.Session.{Session}
 use Rattle.session.specs.declared.answers.Answer.{Answer}
 use Rattle.session.specs.declared.answers.Answer.the-variants.{Taken, Lengths}
 use Rattle.session.specs.Answers.{numberOf, isTaken, answerOf}
-use Rattle.session.specs.Session.{session, counting}
+use Rattle.session.specs.Session.{withLabels, counting}
 use Rattle.session.specs.Lent.{World, wrongLent}
 use Rattle.results.specs.World.{activeOf, activeDeclared}
 use Rattle.results.proofs.Answers.{or-none}
@@ -71,7 +71,7 @@ module _ (s : Session) (w : World) (g : Good s w) (t : Tens s) where
   c′ = movedAll (activeDeclared w s) (s .counters)
 
   abbrev one-less : Session
-  one-less = session (s .width) (s .length) (s .turn) (s .x) (s .y) (s .active) (s .owed - 1) (s .drawn + 1) c′
+  one-less = withLabels (counting s c′) (s .owed - 1) (s .drawn + 1)
 
   counted-good : (b : Bool) → (eqb (s .owed) 0 || eqb (s .drawn) 65535) ≡ b → Good (cond b (counting s c′) one-less) w
   unfolding numbersOk
@@ -144,12 +144,12 @@ module _ (s : Session) (w : World) (g : Good s w) (t : Tens s) where
   pub label-good : (font page : List ℕ) → Good (labelledBy s font w page .outcome .session) w
   unfolding labelledBy
   label-good font page =
-      settled-good (isTaken (answerOf (labelTable s font w (length page)))) (answerOf (labelTable s font w (length page))) (labelPage font s w page) page
+      settled-good (isTaken (answerOf (labelTable s font w (length page)))) (answerOf (labelTable s font w (length page))) (labelPage font s w) page
 
   pub label-tens : (font page : List ℕ) → Tens (labelledBy s font w page .outcome .session)
   unfolding labelledBy
   label-tens font page =
-      settled-tens (isTaken (answerOf (labelTable s font w (length page)))) (answerOf (labelTable s font w (length page))) (labelPage font s w page) page
+      settled-tens (isTaken (answerOf (labelTable s font w (length page)))) (answerOf (labelTable s font w (length page))) (labelPage font s w) page
 
 -- with lent lengths that are wrong nothing is taken, so sound alone is enough
 label-lengths : (s : Session) (font : List ℕ) (w : World) (page : ℕ) → answerOf (labelTable s font w page) ≡ Taken → wrongLent w ≡ false

@@ -4,6 +4,8 @@ use Prim.Native.Nat.{ℕ}
 use mathlib.Core.Bool.{Bool, true, false}
 use mathlib.Core.List.{List, [], _∷_}
 use lib.Dec.{eqb}
+use Rattle.session.specs.declared.Session.{Session}
+use Rattle.session.specs.declared.answers.Labelled.{Labelled}
 use Rattle.session.specs.declared.answers.Answer.{Answer}
 use Rattle.session.specs.declared.answers.Answer.the-variants.{
   Taken,
@@ -74,3 +76,7 @@ pickAnswer false a b = b
 unfoldable pub answerOf : List Row → Answer
 answerOf [] = Taken
 answerOf (r ∷ rs) = pickAnswer (r .applies) (r .answer) (answerOf rs)
+
+-- what opening and a label call answer
+abbrev pub labelled : Answer → Session → Labelled
+labelled a s = record { answer = a; session = s }

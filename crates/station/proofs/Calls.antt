@@ -44,7 +44,7 @@ use Rattle.station.specs.declared.Outcome.{Outcome}
 use Rattle.station.specs.Outcomes.{After, after, outcome}
 use Rattle.station.specs.Table.{entryRows, frontRows, commandTable, lineOf, moreOf}
 use Rattle.station.specs.Station.{frontRead, readBy, doesFront, listsFront, accepted, refused, settled, readAs, commanded}
-use Rattle.station.proofs.Marked.{checked, entry-passed, entry-right}
+use Rattle.sound.proofs.EntryRows.{checked, entry-passed, entry-right}
 
 -- ---- a command call that ends there
 

@@ -5,16 +5,18 @@ ghost use lib.ListN.{drop};
 ghost use Rattle.session.specs.Lent.{world};
 ghost use Rattle.commands.specs.Running.{lineBy};
 ghost use Rattle.station.specs.Outcomes.{after, outcome};
-ghost use Rattle.station.specs.Table.{lineOf, moreOf};
-ghost use Rattle.station.specs.Station.{readAs, commanded};
+ghost use Rattle.station.specs.Table.{lineOf, moreOf, frontRead};
+ghost use Rattle.station.specs.Station.{readBy, readAs, commanded};
 use crate::Outcome;
-use crate::checks::entry_answer;
+use ground::both;
 use ground::less;
 use parts::first;
 use read::Front;
 use session::Answer;
 use session::Session;
 use session::answers::is_taken;
+use session::answers::number;
+use sound::entry_answer;
 
 // "Others read the line, and for a well-formed GM also its n bytes, taken or refused": n bytes of line, k bytes read.
 fn on_front(
@@ -123,9 +125,33 @@ pub fn command(
     }
 }
 
-// The unread rest of the input, as a part of the caller's slice.
-pub fn rest<'a>(input: &'a [u8], read: usize) -> &'a [u8]
-    ensures { λ r. ⌜ now r ≡ drop read (now (input .entry)) ⌝ }
+// How many bytes the front of an input takes.
+fn front_read(f: Front) -> usize
+    ensures { λ r. ⌜ r ≡ frontRead f ⌝ }
 {
+    match f {
+        Front::Short => 0,
+        Front::Long(k) => k,
+        Front::Idle(k) => k,
+        Front::Line(_, k) => k,
+    }
+}
+
+// "Answers 1 to 4 read nothing."
+fn read_by(input: &[u8], answer: Answer) -> usize
+    ensures { λ r. ⌜ r ≡ readBy answer (now (input .entry)) ⌝ }
+{
+    let n = number(answer);
+    if both(1 <= n, n <= 4) {
+        return 0;
+    }
+    front_read(read::input::front(input))
+}
+
+// The unread rest of the input of a call that gave this answer, as a part of the caller's slice.
+pub fn rest<'a>(input: &'a [u8], answer: Answer) -> &'a [u8]
+    ensures { λ r. ⌜ now r ≡ drop (readBy answer (now (input .entry))) (now (input .entry)) ⌝ }
+{
+    let read = read_by(input, answer);
     parts::rest(input, read)
 }

@@ -1,0 +1,77 @@
+// Opening a station.
+//
+// Paper 01: "Opening clears all lent memory (output aside), frees all portions, and sets width 608, length N, origin 0,0, ZT, nothing owed." It looks at
+// lengths alone (1), so that any memory can be opened, and "a refused opening returns zeros" and leaves what it was lent. `open` promises one equation
+// between its result with every lent list at exit and `opened` (specs/Opening.antt) of what it was lent.
+ghost use mathlib.Core.Path.{_≡_};
+ghost use lib.ListN.{length, replicate};
+ghost use Rattle.session.specs.Answers.{labelled};
+ghost use Rattle.session.specs.Lent.{world};
+ghost use Rattle.session.specs.Session.{none};
+ghost use Rattle.session.specs.declared.answers.Answer.the-variants.{Lengths};
+ghost use Rattle.opening.specs.Opening.{freeLink, openedBy, opened};
+use session::Answer;
+use session::BYTES_A_ROW;
+use session::Labelled;
+use session::Session;
+
+// "65535 free."
+const FREE_LINK: u16 = 65535;
+
+// Every link free.
+fn free_all(links: &mut [u16])
+    ensures { λ _. ⌜ now (links .exit) ≡ replicate (length (now (links .entry))) freeLink ⌝ }
+{
+    let mut i = 0;
+    while i < links.len() {
+        links[i] = FREE_LINK;
+        i += 1;
+    }
+}
+
+// "a refused opening returns zeros."
+fn refused() -> Labelled
+    ensures { λ r. ⌜ r ≡ labelled Lengths none ⌝ }
+{
+    let session = Session::none();
+    Labelled {
+        answer: Answer::Lengths,
+        session: session,
+    }
+}
+
+pub fn open(
+    page: &mut [u8],
+    background: &mut [u8],
+    store: &mut [u8],
+    links: &mut [u16],
+    directory: &mut [u8],
+    values: &mut [u8],
+) -> Labelled
+    ensures { λ r. ⌜ openedBy r (now (page .exit)) (world (now (background .exit)) (now (store .exit)) (now (links .exit)) (now (directory .exit)) (now (values .exit))) ≡ opened (now (page .entry)) (world (now (background .entry)) (now (store .entry)) (now (links .entry)) (now (directory .entry)) (now (values .entry))) ⌝ }
+{
+    if session::lengths_wrong(
+        background.len(),
+        store.len(),
+        links.len(),
+        directory.len(),
+        values.len(),
+    ) {
+        return refused();
+    }
+    if page.len() != background.len() {
+        return refused();
+    }
+    let rows = (background.len() / BYTES_A_ROW) as u16;
+    dots::whiten(page);
+    dots::whiten(background);
+    dots::whiten(store);
+    free_all(links);
+    dots::whiten(directory);
+    dots::whiten(values);
+    let session = Session::fresh(rows);
+    Labelled {
+        answer: Answer::Taken,
+        session: session,
+    }
+}
