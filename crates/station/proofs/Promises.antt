@@ -17,7 +17,7 @@ use Rattle.session.specs.Session.{none, fresh}
 use Rattle.session.specs.Lent.{World, rowsOf, wrongLent}
 use Rattle.station.specs.Outcomes.{After, after, outcome, Drawn, drawnBy, labelled, Opened, openedBy}
 use Rattle.station.specs.Table.{commandTable, labelTable}
-use Rattle.commands.specs.World.{State}
+use Rattle.results.specs.World.{State}
 use Rattle.station.specs.Station.{
   cleared,
   pickOpened,
