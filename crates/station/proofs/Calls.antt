@@ -31,7 +31,7 @@ use Rattle.font.specs.Rules.{legal}
 use Rattle.sound.specs.Sound.{sound}
 use Rattle.session.specs.declared.Session.{Session}
 use Rattle.session.specs.declared.answers.Answer.{Answer}
-use Rattle.session.specs.declared.answers.Answer.the-variants.{Taken, Unended, Long}
+use Rattle.session.specs.declared.answers.Answer.the-variants.{Taken}
 use Rattle.session.specs.Answers.{Row, row, answerOf, isTaken, numberOf}
 use Rattle.session.specs.Lent.{World, rowsOf, wrongLent}
 use Rattle.results.specs.World.{State}
@@ -42,8 +42,8 @@ use Rattle.commands.specs.Running.{lineBy}
 use Rattle.commands.proofs.Ends.{line-read}
 use Rattle.station.specs.declared.Outcome.{Outcome}
 use Rattle.station.specs.Outcomes.{After, after, outcome}
-use Rattle.station.specs.Table.{entryRows, frontRows, commandTable, lineOf, moreOf}
-use Rattle.station.specs.Station.{frontRead, readBy, doesFront, listsFront, accepted, refused, settled, readAs, commanded}
+use Rattle.station.specs.Table.{entryRows, frontAnswer, frontRead, isLine, lineIn, frontRows, commandTable, lineOf, moreOf}
+use Rattle.station.specs.Station.{readBy, doesFront, listsFront, accepted, refused, settled, readAs, commanded}
 use Rattle.sound.proofs.EntryRows.{checked, entry-passed, entry-right}
 
 -- ---- a command call that ends there
@@ -92,20 +92,20 @@ command-passed s font w output input f x a b q e g n h =
     (e ∙ ap (λ (k : Bool). answerOf (entryRows k font s w [])) q) g n)
     ∙ ap (fronted s font w output input) h
 
-front-short : (s : Session) (font : List ℕ) (w : World) (output input : List ℕ) → fronted s font w output input Short ≡ after (outcome Unended s 0 0) w output
+front-other :
+    (s : Session) (font : List ℕ) (w : World) (output input : List ℕ) (f : Front) → isLine f ≡ false →
+    fronted s font w output input f ≡ after (outcome (frontAnswer f) s (frontRead f) 0) w output
 unfolding answerOf isTaken numberOf
-front-short s font w output input = refl
+front-other s font w output input Short e = refl
+front-other s font w output input (LongLine k) e = refl
+front-other s font w output input (Idle k) e = refl
+front-other s font w output input (Line n k) e = absurd (true≢false e)
 
-front-long :
-    (s : Session) (font : List ℕ) (w : World) (output input : List ℕ) (k : ℕ) →
-    fronted s font w output input (LongLine k) ≡ after (outcome Long s k 0) w output
-unfolding answerOf isTaken numberOf
-front-long s font w output input k = refl
-
-front-idle :
-    (s : Session) (font : List ℕ) (w : World) (output input : List ℕ) (k : ℕ) → fronted s font w output input (Idle k) ≡ after (outcome Taken s k 0) w output
-unfolding answerOf isTaken numberOf
-front-idle s font w output input k = refl
+line-is : (f : Front) → isLine f ≡ true → f ≡ Line (lineIn f) (frontRead f)
+line-is Short e = absurd (true≢false (sym e))
+line-is (LongLine k) e = absurd (true≢false (sym e))
+line-is (Idle k) e = absurd (true≢false (sym e))
+line-is (Line n k) e = refl
 
 -- ---- a line: no answer from 6 on is one of 1 to 4
 
@@ -191,18 +191,6 @@ line-call s font w o line more k r a e =
 
 -- ---- "A line is up to 255 bytes"
 
-abbrev isLine : Front → Bool
-isLine Short = false
-isLine (LongLine k) = false
-isLine (Idle k) = false
-isLine (Line n k) = true
-
-abbrev lineIn : Front → ℕ
-lineIn Short = 0
-lineIn (LongLine k) = 0
-lineIn (Idle k) = 0
-lineIn (Line n k) = n
-
 line-front : (b c : Bool) (n k : ℕ) → n < 256 → lineIn (cond b (Idle (n + 1)) (cond c (Line n k) Short)) < 256
 line-front true c n k h = omega arith
 line-front false true n k h = h
@@ -225,7 +213,7 @@ front-least s =
     front-cases s (ltb (run Inside s) (length s)) (ltb (run Inside s) 256) (ltb (length s) 256) (run Inside s) (run Inside s + 1) (length s)
     (ltb-true (run Inside s) 256)
 
-pub line-short : (s : List ℕ) (n k : ℕ) → frontOf s ≡ Line n k → n < 256
+line-short : (s : List ℕ) (n k : ℕ) → frontOf s ≡ Line n k → n < 256
 line-short s n k e = subst (λ (f : Front). lineIn f < 256) e (front-least s)
 
 line-least : (s : List ℕ) (n : ℕ) → n < 256 → ltb 255 (length (lineOf s n)) ≡ false
@@ -240,30 +228,28 @@ front-line s font w output input n k h l =
     ∙ ap (readAs k)
     (line-read font w s (lineOf input n) (moreOf input n k) output (readOf (rowsOf w) (lineOf input n)) h (line-least input n l) refl)
 
+-- a line's length as the code has it
+pub line-fits : (s : List ℕ) (f : Front) (n : ℕ) → f ≡ frontOf s → n ≡ lineIn f → n < 256
+line-fits s f n e h = subst (λ (k : ℕ). k < 256) (sym (h ∙ ap lineIn e)) (front-least s)
+
 -- ---- a command call that passes the checks, from its own steps to `commanded`
 
-module _ (s : Session) (font : List ℕ) (w : World) (output input : List ℕ) (x : Bool) (a : Answer) (b : Bool)
-    (q : x ≡ wrongLent w) (e : a ≡ answerOf (entryRows x font s w [])) (g : b ≡ isTaken a) (n : not b ≡ false) where
-  pub command-short : (r : Outcome) → frontOf input ≡ Short → r ≡ outcome Unended s 0 0 → after r w output ≡ commanded s font w output input
-  command-short r h z =
-      ap (λ (o : Outcome). after o w output) z
-      ∙ sym (command-passed s font w output input Short x a b q e g n h ∙ front-short s font w output input)
-
-  pub command-long : (k : ℕ) (r : Outcome) → frontOf input ≡ LongLine k → r ≡ outcome Long s k 0 → after r w output ≡ commanded s font w output input
-  command-long k r h z =
-      ap (λ (o : Outcome). after o w output) z
-      ∙ sym (command-passed s font w output input (LongLine k) x a b q e g n h ∙ front-long s font w output input k)
-
-  pub command-idle : (k : ℕ) (r : Outcome) → frontOf input ≡ Idle k → r ≡ outcome Taken s k 0 → after r w output ≡ commanded s font w output input
-  command-idle k r h z =
-      ap (λ (o : Outcome). after o w output) z
-      ∙ sym (command-passed s font w output input (Idle k) x a b q e g n h ∙ front-idle s font w output input k)
+module _ (s : Session) (font : List ℕ) (w : World) (output input : List ℕ) (a : Answer) (b : Bool) (f : Front) (l : Bool) (m : ℕ)
+    (e : a ≡ answerOf (entryRows (wrongLent w) font s w [])) (g : b ≡ isTaken a) (n : not b ≡ false) (h : f ≡ frontOf input) (d : m ≡ frontRead f)
+    (i : l ≡ isLine f) where
+  pub command-other : (o : Answer) (r : Outcome) → l ≡ false → o ≡ frontAnswer f → r ≡ outcome o s m 0 → after r w output ≡ commanded s font w output input
+  command-other o r t p z =
+      ap (λ (x : Outcome). after x w output) (z ∙ (λ j. outcome (p j) s (d j) 0))
+      ∙ sym (command-passed s font w output input f (wrongLent w) a b refl e g n (sym h) ∙ front-other s font w output input f (sym i ∙ t))
 
   pub command-line :
-      (m k : ℕ) (t : After) → frontOf input ≡ Line m k → t ≡ readAs k (lineBy font w s (lineOf input m) (moreOf input m k) output) →
+      (k : ℕ) (t : After) → l ≡ true → k ≡ lineIn f → t ≡ readAs m (lineBy font w s (lineOf input k) (moreOf input k m) output) →
       t ≡ commanded s font w output input
-  command-line m k t h z =
+  command-line k t y p z =
+      let v : frontOf input ≡ Line (lineIn f) (frontRead f) = sym h ∙ line-is f (sym i ∙ y) in
       z
+      ∙ (λ j. readAs (d j) (lineBy font w s (lineOf input (p j)) (moreOf input (p j) (d j)) output))
       ∙ sym
-      (command-passed s font w output input (Line m k) x a b q e g n h
-      ∙ front-line s font w output input m k (entry-right x (wrongLent w) font s w a b q e g n) (line-short input m k h))
+      (command-passed s font w output input (Line (lineIn f) (frontRead f)) (wrongLent w) a b refl e g n v
+      ∙ front-line s font w output input (lineIn f) (frontRead f) (entry-right (wrongLent w) (wrongLent w) font s w a b refl e g n)
+      (line-short input (lineIn f) (frontRead f) v))

@@ -1,7 +1,7 @@
 -- Paper 01's table for a command call, a row for each line of it that the call can give, in its order.
 -- Assumes nothing.
 use Prim.Native.Nat.{ℕ, _+_, _-_}
-use mathlib.Core.Bool.{true}
+use mathlib.Core.Bool.{Bool, true, false}
 use mathlib.Core.List.{List, [], _∷_}
 use lib.ListN.{take, drop}
 use Rattle.read.specs.declared.Front.{Front}
@@ -41,6 +41,19 @@ frontRead Short = 0
 frontRead (LongLine k) = k
 frontRead (Idle k) = k
 frontRead (Line n k) = k
+
+-- whether a line that is not idle stands there whole, and its length
+abbrev pub isLine : Front → Bool
+isLine Short = false
+isLine (LongLine k) = false
+isLine (Idle k) = false
+isLine (Line n k) = true
+
+abbrev pub lineIn : Front → ℕ
+lineIn Short = 0
+lineIn (LongLine k) = 0
+lineIn (Idle k) = 0
+lineIn (Line n k) = n
 
 -- ---- the rows
 
