@@ -13,8 +13,8 @@ use crate::Outcome;
 use ground::both;
 use ground::less;
 use parts::first;
-use results::Done;
 use read::Front;
+use results::Done;
 use session::Answer;
 use session::Session;
 use session::answers::is_taken;
@@ -137,8 +137,7 @@ fn on_line(
     ensures { λ r. ⌜ after r (world (now (background .exit)) (now (store .exit)) (now (links .exit)) (now (directory .exit)) (now (values .exit))) (now (output .exit)) ≡ readAs k (lineBy (now (font .entry)) (world (now (background .entry)) (now (store .entry)) (now (links .entry)) (now (directory .entry)) (now (values .entry))) session (lineOf (now (input .entry)) n) (moreOf (now (input .entry)) n k) (now (output .entry))) ⌝ }
 {
     let line = first(input, n);
-    let more = first(parts::rest(input, n + 1), less(k, n + 1));
-use results::Done;
+    let more = more_of(input, n, k);
     let d = commands::run_line(
         session,
         font,
