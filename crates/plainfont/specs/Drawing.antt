@@ -1,8 +1,9 @@
 -- The drawing of the font: 95 cells of 8 by 16 dots, a hash for a black one, sixteen to a band in the order of their codes.
 -- Capitals and digits stand on the third to the thirteenth row, small letters begin on the sixth, and the first row is white, so that lines of
 -- text set close do not touch. Strokes are two dots thick, and letters keep two white columns between them where their form allows it.
--- What is easily taken for another is drawn apart: 0 has a stroke across and bulges, O is straight-sided and empty, D has square corners on its
--- left; 1 has a flag and a foot, I four short feet, l a tail to the right; B is wider than 8 and straight on its left; 5 has a flat top, S none.
+-- What is easily taken for another is drawn apart: 0 bulges and has a stroke across, O is straight-sided and empty, D has square corners on its
+-- left; 1 has a flag and a broad foot, I a short stroke at both ends, l a tail to the right; B is wider than 8 and straight on its left; 5 has a
+-- flat top, S a round one.
 use Prim.Native.String.{String}
 use mathlib.Core.List.{List, [], _∷_, _++_}
 
