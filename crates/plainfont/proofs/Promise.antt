@@ -12,7 +12,7 @@ use Rattle.font.specs.Written.{CellKept, GlyphKept, GlyphsKept}
 use Rattle.font.proofs.Writing.{written-legal}
 use Rattle.plainfont.specs.Plain.{cell, rowsAt, glyphAt, glyphsFrom, fontOf, plain}
 
-length-rowsAt : (band : List String) (at n : ℕ) → length (rowsAt band at n) ≡ n
+pub length-rowsAt : (band : List String) (at n : ℕ) → length (rowsAt band at n) ≡ n
 unfolding rowsAt
 length-rowsAt band at zero = refl
 length-rowsAt [] at (suc n) = ap suc (length-rowsAt [] at n)
