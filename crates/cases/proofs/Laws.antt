@@ -27,18 +27,7 @@ use Rattle.session.specs.Answers.{numberOf, isTaken, answerOf}
 use Rattle.session.specs.Lent.{World, rowsOf, wrongLent}
 use Rattle.station.specs.Outcomes.{After, Drawn, drawnBy, labelled}
 use Rattle.station.specs.Table.{commandTable, labelTable}
-use Rattle.station.specs.Station.{
-  readBy,
-  doesFront,
-  listsFront,
-  accepted,
-  refused,
-  settled,
-  commanded,
-  labelPage,
-  labelSession,
-  labelledBy,
-}
+use Rattle.station.specs.Station.{readBy, doesFront, listsFront, accepted, refused, commanded, labelPage, labelSession, labelledBy}
 use Rattle.ground.proofs.Tests.{and-left, and-right, and-both, not-below}
 use Rattle.cases.specs.Calls.{Stand, stand, start, font, output, calls, afterCall, labels, afterLabel}
 
@@ -155,10 +144,10 @@ past-three s w room input a b c = rw (a, b, c)
 pub answered : (s : Session) (w : World) (input : List ℕ) (a : Answer) → wrongLent w ≡ false → legal font ≡ true → sound s w ≡ true
     → answerOf (drop 3 (commandTable s font w (length output) input)) ≡ a
     → commanded s font w output input
-    ≡ settled (isTaken a) (accepted (readBy a input) (doesFront font w s input (frontOf input)) (listsFront w input (frontOf input)) output) (refused a (readBy a input) s w output)
+    ≡ cond (isTaken a) (accepted (readBy a input) (doesFront font w s input (frontOf input)) (listsFront w input (frontOf input)) output) (refused a (readBy a input) s w output)
 unfolding commanded
 answered s w input a l f g e =
-    ap (λ (b : Answer). settled (isTaken b) (accepted (readBy b input) (doesFront font w s input (frontOf input)) (listsFront w input (frontOf input)) output) (refused b (readBy b input) s w output))
+    ap (λ (b : Answer). cond (isTaken b) (accepted (readBy b input) (doesFront font w s input (frontOf input)) (listsFront w input (frontOf input)) output) (refused b (readBy b input) s w output))
     (past-three s w (length output) input l f g ∙ e)
 
 -- a label call on an owed label

@@ -1,7 +1,7 @@
 -- What a command of forms leaves, in all that is lent.
 -- Assumes nothing.
 use mathlib.Core.Path.{_≡_}
-use mathlib.Core.Bool.{Bool, true, false}
+use mathlib.Core.Bool.{Bool, true, false, cond}
 use mathlib.Core.List.{List, [], _∷_}
 use Prim.Native.Nat.{ℕ}
 use lib.Dec.{eqb}
@@ -17,7 +17,7 @@ use Rattle.session.specs.declared.answers.Answer.the-variants.{Taken, Missing}
 use Rattle.session.specs.Answers.{Row, row, answerOf, isTaken}
 use Rattle.session.specs.Session.{activated}
 use Rattle.session.specs.Lent.{World, world}
-use Rattle.results.specs.World.{state, unsetIn, inactive, pickState}
+use Rattle.results.specs.World.{state, unsetIn, inactive}
 use Rattle.results.specs.Result.{done, Ran, ran, ranBy}
 use Rattle.results.specs.Named.{placeOf, named, notFound, erasedNamed, erasedEvery}
 use Rattle.results.proofs.Answers.{cond-map}
@@ -32,11 +32,11 @@ erase-in :
     (a : Answer) (p q : Bool) (f : Found) (s : Session) (b st l d v o : List ℕ) →
     onForms b o
     (ranBy a s (world [] st l d v) []
-    (pickState p (inactive s (erasedEvery (world [] st l d v) false))
-    (pickState q (inactive s (erasedNamed (world [] st l d v) f)) (state s (erasedNamed (world [] st l d v) f)))) [])
+    (cond p (inactive s (erasedEvery (world [] st l d v) false))
+    (cond q (inactive s (erasedNamed (world [] st l d v) f)) (state s (erasedNamed (world [] st l d v) f)))) [])
     ≡ ranBy a s (world b st l d v) o
-    (pickState p (inactive s (erasedEvery (world b st l d v) false))
-    (pickState q (inactive s (erasedNamed (world b st l d v) f)) (state s (erasedNamed (world b st l d v) f)))) []
+    (cond p (inactive s (erasedEvery (world b st l d v) false))
+    (cond q (inactive s (erasedNamed (world b st l d v) f)) (state s (erasedNamed (world b st l d v) f)))) []
 erase-in a true q f s b st l d v o =
     cond-map (onForms b o) (isTaken a) (ran (done Taken (activated s 65535) 0) (unsetIn (erasedEvery (world [] st l d v) false)) [])
     (ran (done a s 0) (world [] st l d v) [])

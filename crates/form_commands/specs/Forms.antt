@@ -1,7 +1,7 @@
 -- FS, FR, FK: their rows of the table, and what they do.
 -- Assumes nothing.
 use Prim.Native.Nat.{ℕ}
-use mathlib.Core.Bool.{true, false, not}
+use mathlib.Core.Bool.{true, false, not, cond}
 use mathlib.Core.List.{List, [], _∷_}
 use lib.Dec.{eqb}
 use Rattle.store.specs.declared.Found.{Found}
@@ -15,7 +15,7 @@ use Rattle.session.specs.declared.answers.Answer.the-variants.{InUse, Missing, 
 use Rattle.session.specs.Answers.{Row, row, answerOf}
 use Rattle.session.specs.Session.{activated}
 use Rattle.session.specs.Lent.{World}
-use Rattle.results.specs.World.{State, state, memoryOf, withMemory, unsetIn, inactive, pickState}
+use Rattle.results.specs.World.{State, state, memoryOf, withMemory, unsetIn, inactive}
 use Rattle.results.specs.Result.{Ran, ranBy}
 use Rattle.results.specs.Named.{placeOf, named, notFound, erasedNamed, erasedEvery}
 
@@ -27,13 +27,13 @@ formRows w line (Erase n) = row Missing (notFound w false line n) ∷ []
 
 -- a form that is erased is no longer active
 abbrev pub erasedForm : Session → World → Found → State
-erasedForm s w found = pickState (eqb (s .active) (placeOf found)) (inactive s (erasedNamed w found)) (state s (erasedNamed w found))
+erasedForm s w found = cond (eqb (s .active) (placeOf found)) (inactive s (erasedNamed w found)) (state s (erasedNamed w found))
 
 -- "FR unsets all values"; `FK"*"` "erases all, none included"
 abbrev pub formRuns : World → Session → List ℕ → FormCommand → State
 formRuns w s line (Start n) = state s (withMemory w (started (memoryOf w) 3 (packedOf line (n .at) (n .length))))
 formRuns w s line (Retrieve n) = state (activated s (placeOf (named w false line n))) (unsetIn w)
-formRuns w s line (Erase n) = pickState (n .all) (inactive s (erasedEvery w false)) (erasedForm s w (named w false line n))
+formRuns w s line (Erase n) = cond (n .all) (inactive s (erasedEvery w false)) (erasedForm s w (named w false line n))
 
 -- what such a command leaves
 abbrev pub formBy : World → Session → List ℕ → FormCommand → Ran

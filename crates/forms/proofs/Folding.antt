@@ -1,7 +1,7 @@
 -- The lines of a form, one after another: a fold over all lines of some bytes is a step with the first, and the fold over what stands behind it.
 -- Assumes nothing.
 use mathlib.Core.Path.{_≡_, refl, sym, ap, _∙_}
-use mathlib.Core.Bool.{Bool, true, false, _&&_}
+use mathlib.Core.Bool.{Bool, true, false, _&&_, cond}
 use mathlib.Core.List.{List, [], _∷_}
 use mathlib.Core.Logic.{_⊎_, ⊎-elim}
 use Prim.Native.Nat.{ℕ, suc, _-_, _≤_, _<_}
@@ -21,7 +21,7 @@ use Rattle.forms.specs.declared.Stored.{Stored}
 use Rattle.forms.specs.declared.Stored.the-variants.{Holds, Nothing}
 use Rattle.read.specs.declared.Item.{Item}
 use Rattle.forms.specs.Judged.{declares}
-use Rattle.forms.specs.Form.{pickStored, heldRead, itemIn, takes, declaring, takesAll, declaredBy, hasStored, hasAll}
+use Rattle.forms.specs.Form.{heldRead, itemIn, takes, declaring, takesAll, declaredBy, hasStored, hasAll}
 use Rattle.forms.specs.Draw.{Setting, Drawing, drawsLine, drawsLines}
 use Rattle.forms.specs.Walk.{lineIn, behind, restOk}
 use Rattle.forms.proofs.Bytes.{and-false, and-true, and-swap, and-assoc}
@@ -80,7 +80,7 @@ module _ (a : List ℕ) where
 
 -- ---- a line that holds nothing
 
-pick-same : (b : Bool) (s : Stored) → pickStored b s s ≡ s
+pick-same : (b : Bool) (s : Stored) → cond b s s ≡ s
 pick-same true s = refl
 pick-same false s = refl
 

@@ -22,7 +22,7 @@ use Rattle.normal.specs.Written.{isNormal}
 use Rattle.forms.specs.declared.Stored.{Stored}
 use Rattle.forms.specs.declared.Stored.the-variants.{Holds, Nothing}
 use Rattle.forms.specs.Judged.{declares}
-use Rattle.forms.specs.Form.{heldCommand, heldRead, pickStored, itemIn, declaring, declaresStored, hasPicture, hasStored}
+use Rattle.forms.specs.Form.{heldCommand, heldRead, itemIn, declaring, declaresStored, hasPicture, hasStored}
 
 choice : {A : Type 0} (q : A → Type 0) (b : Bool) {x y : A} → q x → q y → q (cond b x y)
 choice q true f g = f
@@ -113,7 +113,7 @@ module _ (q : Stored → Type 0) (none : q Nothing) (ok : ℕ → Bool) (items :
   unfolding itemIn
   item-is = by (isNormal line)
     where
-      by : (b : Bool) → q (pickStored b (heldRead (readOf 1 line)) Nothing)
+      by : (b : Bool) → q (cond b (heldRead (readOf 1 line)) Nothing)
       by true = read-is
       by false = none
 

@@ -1,7 +1,7 @@
 -- "each form a row of normalised lines that recording would take one after another (presence of pictures aside)"
 -- Assumes nothing.
 use Prim.Native.Nat.{ℕ}
-use mathlib.Core.Bool.{Bool, true, false, _&&_}
+use mathlib.Core.Bool.{Bool, true, false, _&&_, cond}
 use mathlib.Core.List.{List, [], _∷_}
 use lib.ListN.{length}
 use lib.Dec.{eqb}
@@ -40,13 +40,9 @@ abbrev pub heldRead : Read → Stored
 heldRead (Taken c) = heldCommand c
 heldRead (Refused f) = Nothing
 
-abbrev pub pickStored : Bool → Stored → Stored → Stored
-pickStored true a b = a
-pickStored false a b = b
-
 -- what a stored line holds: at most 255 bytes, in normal form. No item asks for the rows of a page
 unfoldable pub itemIn : List ℕ → Stored
-itemIn line = pickStored (isNormal line) (heldRead (readOf 1 line)) Nothing
+itemIn line = cond (isNormal line) (heldRead (readOf 1 line)) Nothing
 
 -- "recording would take" it, after the declarations d
 abbrev pub takesStored : Declared → List ℕ → Stored → Bool

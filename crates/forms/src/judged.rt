@@ -1,7 +1,7 @@
 // An item judged as recording does, what it declares, and whether its picture is stored.
 ghost use mathlib.Core.Path.{_≡_};
-ghost use mathlib.Core.Bool.{true};
-ghost use Rattle.forms.specs.Judged.{pickVerdict, judgedData, judged, declares, declaration, isTaken};
+ghost use mathlib.Core.Bool.{true, cond};
+ghost use Rattle.forms.specs.Judged.{judgedData, judged, declares, declaration, isTaken};
 ghost use Rattle.forms.specs.Form.{isAt, hasPicture};
 ghost use Rattle.store.specs.Find.{titledAt};
 ghost use Rattle.parts.specs.Names.{packedOf};
@@ -13,7 +13,7 @@ use store::Found;
 use values::Declared;
 
 fn again(declared: bool) -> Verdict
-    ensures { λ r. ⌜ r ≡ pickVerdict declared Verdict.Again Verdict.Taken ⌝ }
+    ensures { λ r. ⌜ r ≡ cond declared Verdict.Again Verdict.Taken ⌝ }
 {
     if declared {
         Verdict::Again

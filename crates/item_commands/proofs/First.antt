@@ -18,7 +18,7 @@ use Rattle.read.specs.declared.Item.{Item}
 use Rattle.read.specs.declared.Item.the-variants.{Origin, Variable, Counter, Text, Bars, Box, Frame, Picture}
 use Rattle.forms.specs.declared.Verdict.{Verdict}
 use Rattle.forms.specs.declared.Verdict.the-variants.{Taken as Fine, Again as Before, Undeclared as Unknown, Past as Reaches, Unfit as Wrong}
-use Rattle.forms.specs.Judged.{pickVerdict, ofData, judged}
+use Rattle.forms.specs.Judged.{ofData, judged}
 use Rattle.session.specs.declared.answers.Answer.{Answer}
 use Rattle.session.specs.declared.answers.Answer.the-variants.{Taken, Again, Undeclared, Past, Unfit}
 use Rattle.session.specs.Answers.{Row, row, answerOf}
@@ -26,9 +26,9 @@ use Rattle.item_commands.specs.Items.{declaredBefore, notDeclared, reach
 
 -- the first of four tests that applies
 abbrev pub firstVerdict : Bool → Bool → Bool → Bool → Verdict
-firstVerdict a b c e = pickVerdict a Before (pickVerdict b Unknown (pickVerdict c Reaches (pickVerdict e Wrong Fine)))
+firstVerdict a b c e = cond a Before (cond b Unknown (cond c Reaches (cond e Wrong Fine)))
 
-again-first : (b : Bool) → pickVerdict b Before Fine ≡ firstVerdict b false false false
+again-first : (b : Bool) → cond b Before Fine ≡ firstVerdict b false false false
 again-first true = refl
 again-first false = refl
 

@@ -46,7 +46,7 @@ use Rattle.commands.specs.Rows.{runRows, placedRows, lineRows}
 use Rattle.commands.specs.Does.{runs, placed, doesLine}
 use Rattle.station.specs.Table.{lineOf, moreOf, frontRows, commandTable}
 use Rattle.station.specs.Outcomes.{After}
-use Rattle.station.specs.Station.{doesFront, settled, commanded}
+use Rattle.station.specs.Station.{doesFront, commanded}
 use Rattle.keeps_sound.specs.Good.{Good}
 use Rattle.keeps_sound.specs.Tens.{Tens}
 use Rattle.keeps_sound.proofs.Layers.{good-sound, sound-good}
@@ -161,7 +161,7 @@ module _ (font : List ℕ) (w : World) (s : Session) (g : Good s w) (t : Tens s)
 -- ---- the call, taken or refused
 
 settled-keeps : (p : Session → World → Type 0) (b : Bool) (x y : After) → (b ≡ true → p (x .outcome .session) (x .world)) → p (y .outcome .session) (y .world)
-    → p (settled b x y .outcome .session) (settled b x y .world)
+    → p (cond b x y .outcome .session) (cond b x y .world)
 settled-keeps p true x y h k = h refl
 settled-keeps p false x y h k = k
 

@@ -28,7 +28,7 @@ use Rattle.read.specs.declared.PictureCommand.the-variants.{Erase as ErasePictu
 use Rattle.parts.specs.Names.{packedOf}
 use Rattle.session.specs.declared.Session.{Session}
 use Rattle.session.specs.Lent.{World}
-use Rattle.results.specs.World.{state, memoryOf, pickState, inactive}
+use Rattle.results.specs.World.{state, memoryOf, inactive}
 use Rattle.results.specs.Named.{named, erasedNamed, erasedEvery}
 use Rattle.results.specs.Result.{sixteenBits}
 use Rattle.results.proofs.Lengths.{directory-long}
@@ -94,14 +94,14 @@ module _ (s : Session) (w : World) (g : Good s w) (z : s .owed ≡ 0) where
     where
       go : (b : Bool) → eqb (s .active) i ≡ b → Good (inactive s (erasedNamed w (At i)) .session) (inactive s (erasedNamed w (At i)) .world)
           → ((s .active ≡ i → ⊥) → Good s (erasedNamed w (At i)))
-          → Good (pickState b (inactive s (erasedNamed w (At i))) (state s (erasedNamed w (At i))) .session)
-          (pickState b (inactive s (erasedNamed w (At i))) (state s (erasedNamed w (At i))) .world)
+          → Good (cond b (inactive s (erasedNamed w (At i))) (state s (erasedNamed w (At i))) .session)
+          (cond b (inactive s (erasedNamed w (At i))) (state s (erasedNamed w (At i))) .world)
       go true q x y = x
       go false q x y = y (eqb-false (s .active) i q)
   erased-form n Nothing e = go (eqb (s .active) 65535) (good-ended s w g z (memoryOf w) (g .store) refl (g .contents))
     where
       go : (b : Bool) → Good (inactive s w .session) (inactive s w .world)
-          → Good (pickState b (inactive s w) (state s w) .session) (pickState b (inactive s w) (state s w) .world)
+          → Good (cond b (inactive s w) (state s w) .session) (cond b (inactive s w) (state s w) .world)
       go true x = x
       go false x = g
 
@@ -115,8 +115,8 @@ module _ (s : Session) (w : World) (g : Good s w) (z : s .owed ≡ 0) where
       → Good (runs font w s line more (Forms (EraseForm n)) .session) (runs font w s line more (Forms (EraseForm n)) .world)
   keeps-erase-form font line more n = go (n .all)
     where
-      go : (b : Bool) → Good (pickState b (inactive s (erasedEvery w false)) (erasedForm s w (named w false line n)) .session)
-          (pickState b (inactive s (erasedEvery w false)) (erasedForm s w (named w false line n)) .world)
+      go : (b : Bool) → Good (cond b (inactive s (erasedEvery w false)) (erasedForm s w (named w false line n)) .session)
+          (cond b (inactive s (erasedEvery w false)) (erasedForm s w (named w false line n)) .world)
       go true = erased-forms
       go false = erased-form (packedOf line (n .at) (n .length)) (named w false line n) refl
 

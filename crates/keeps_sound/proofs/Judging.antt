@@ -41,7 +41,7 @@ use Rattle.normal.proofs.Data.{a-text, a-variable, a-counter, Chain, ended, the
 use Rattle.normal.proofs.Round.{Normal, item-parted}
 use Rattle.forms.specs.declared.Verdict.{Verdict}
 use Rattle.forms.specs.declared.Verdict.the-variants.{Taken, Again}
-use Rattle.forms.specs.Judged.{pickVerdict, ofData, judgedData, judged}
+use Rattle.forms.specs.Judged.{ofData, judgedData, judged}
 use Rattle.keeps_sound.proofs.Titles.{ReadBy, read-by, choice}
 
 abbrev Piece : Type 0
@@ -229,8 +229,8 @@ item-tells rows s i h =
 
 abbrev judgedItem : Declared → List Piece → Item → Verdict
 judgedItem d xs (Origin o) = Taken
-judgedItem d xs (Variable v) = pickVerdict (variableDeclared d (v .n)) Again Taken
-judgedItem d xs (Counter c) = pickVerdict (counterDeclared d (c .n)) Again Taken
+judgedItem d xs (Variable v) = cond (variableDeclared d (v .n)) Again Taken
+judgedItem d xs (Counter c) = cond (counterDeclared d (c .n)) Again Taken
 judgedItem d xs (Text t) = judgedBy d xs Shown
 judgedItem d xs (Bars b) = judgedBy d xs (b .kind)
 judgedItem d xs (Box r) = Taken

@@ -26,7 +26,7 @@ use Rattle.results.specs.World.{activeOf, activeDeclared}
 use Rattle.results.proofs.Answers.{or-none}
 use Rattle.station.specs.Outcomes.{Drawn, drawnBy, labelled}
 use Rattle.station.specs.Table.{labelTable}
-use Rattle.station.specs.Station.{labelPage, labelSession, settledLabel, labelledBy}
+use Rattle.station.specs.Station.{labelPage, labelSession, labelledBy}
 use Rattle.ground.proofs.Tests.{or-second}
 use Rattle.keeps_sound.specs.Good.{Good}
 use Rattle.keeps_sound.specs.Tens.{Tens}
@@ -133,11 +133,11 @@ module _ (s : Session) (w : World) (g : Good s w) (t : Tens s) where
 
   -- ---- the call, taken or refused
 
-  settled-good : (b : Bool) (a : Answer) (p q : List ℕ) → Good (settledLabel b (drawnBy (labelled Taken (labelSession s w)) p) (drawnBy (labelled a s) q) .outcome .session) w
+  settled-good : (b : Bool) (a : Answer) (p q : List ℕ) → Good (cond b (drawnBy (labelled Taken (labelSession s w)) p) (drawnBy (labelled a s) q) .outcome .session) w
   settled-good true a p q = label-session-good
   settled-good false a p q = g
 
-  settled-tens : (b : Bool) (a : Answer) (p q : List ℕ) → Tens (settledLabel b (drawnBy (labelled Taken (labelSession s w)) p) (drawnBy (labelled a s) q) .outcome .session)
+  settled-tens : (b : Bool) (a : Answer) (p q : List ℕ) → Tens (cond b (drawnBy (labelled Taken (labelSession s w)) p) (drawnBy (labelled a s) q) .outcome .session)
   settled-tens true a p q = label-session-tens
   settled-tens false a p q = t
 
@@ -158,7 +158,7 @@ label-lengths s font w page a = or-none (wrongLent w) (not (eqb page (length (w 
 
 settled-sound :
     (s : Session) (w : World) (b : Bool) (x y : Drawn) → (b ≡ true → sound (x .outcome .session) w ≡ true) → sound (y .outcome .session) w ≡ true →
-    sound (settledLabel b x y .outcome .session) w ≡ true
+    sound (cond b x y .outcome .session) w ≡ true
 settled-sound s w true x y h k = h refl
 settled-sound s w false x y h k = k
 

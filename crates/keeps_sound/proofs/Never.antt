@@ -1,7 +1,7 @@
 -- On a sound world of right lengths no call answers 3.
 -- Assumes nothing.
 use mathlib.Core.Path.{_≡_, refl, sym, ap, _∙_}
-use mathlib.Core.Bool.{Bool, true, false, not, _&&_, _||_, true≢false, false≢true}
+use mathlib.Core.Bool.{Bool, true, false, not, _&&_, _||_, true≢false, false≢true, cond}
 use mathlib.Core.List.{List, [], _∷_}
 use Prim.Native.Nat.{ℕ}
 use lib.ListN.{length}
@@ -26,12 +26,12 @@ use Rattle.sound.specs.Sound.{sound}
 use Rattle.session.specs.declared.Session.{Session}
 use Rattle.session.specs.declared.answers.Answer.{Answer}
 use Rattle.session.specs.declared.answers.Answer.the-variants.{Taken, Unsound}
-use Rattle.session.specs.Answers.{Row, numberOf, isTaken, pickAnswer, answerOf}
+use Rattle.session.specs.Answers.{Row, numberOf, isTaken, answerOf}
 use Rattle.session.specs.Lent.{World, rowsOf}
 use Rattle.commands.specs.Rows.{recordRows, runRows, placedRows, lineRows}
 use Rattle.station.specs.Outcomes.{After, Drawn, drawnBy, labelled}
 use Rattle.station.specs.Table.{lineOf, moreOf, frontRows, commandTable, labelTable}
-use Rattle.station.specs.Station.{readBy, settled, refused, commanded, settledLabel, labelledBy}
+use Rattle.station.specs.Station.{readBy, refused, commanded, labelledBy}
 use Rattle.keeps_sound.proofs.Layers.{first-of, second-of}
 
 -- ---- tables none of whose rows gives 3
@@ -40,7 +40,7 @@ abbrev harmless : List Row → Bool
 harmless [] = true
 harmless (r ∷ rs) = (not (eqb (numberOf (r .answer)) 3) || not (r .applies)) && harmless rs
 
-picked-not : (b : Bool) (a x : Answer) → (not (eqb (numberOf a) 3) || not b) ≡ true → (x ≡ Unsound → ⊥) → pickAnswer b a x ≡ Unsound → ⊥
+picked-not : (b : Bool) (a x : Answer) → (not (eqb (numberOf a) 3) || not b) ≡ true → (x ≡ Unsound → ⊥) → cond b a x ≡ Unsound → ⊥
 unfolding numberOf
 picked-not true a x h n e = false≢true (ap (λ (k : Answer). not (eqb (numberOf k) 3) || false) (sym e) ∙ h)
 picked-not false a x h n e = n e
@@ -109,12 +109,12 @@ module _ (s : Session) (font : List ℕ) (w : World) (h : sound s w ≡ true) wh
   unfolding labelTable numberOf
   label-harmless page = rw h
 
-  settled-never : (b : Bool) (x y : After) → x .outcome .answer ≡ Taken → (y .outcome .answer ≡ Unsound → ⊥) → settled b x y .outcome .answer ≡ Unsound → ⊥
+  settled-never : (b : Bool) (x y : After) → x .outcome .answer ≡ Taken → (y .outcome .answer ≡ Unsound → ⊥) → cond b x y .outcome .answer ≡ Unsound → ⊥
   unfolding isTaken numberOf
   settled-never true x y p q e = true≢false (ap isTaken (sym p ∙ e))
   settled-never false x y p q e = q e
 
-  settled-label-never : (b : Bool) (x y : Drawn) → x .outcome .answer ≡ Taken → (y .outcome .answer ≡ Unsound → ⊥) → settledLabel b x y .outcome .answer ≡ Unsound → ⊥
+  settled-label-never : (b : Bool) (x y : Drawn) → x .outcome .answer ≡ Taken → (y .outcome .answer ≡ Unsound → ⊥) → cond b x y .outcome .answer ≡ Unsound → ⊥
   unfolding isTaken numberOf
   settled-label-never true x y p q e = true≢false (ap isTaken (sym p ∙ e))
   settled-label-never false x y p q e = q e

@@ -1,7 +1,7 @@
 -- While a form is recorded: a line is kept behind it, FE ends it.
 -- Assumes nothing.
 use mathlib.Core.Path.{_≡_, refl, sym, ap, _∙_}
-use mathlib.Core.Bool.{Bool, true, false, _&&_, _||_, false≢true}
+use mathlib.Core.Bool.{Bool, true, false, _&&_, _||_, false≢true, cond}
 use mathlib.Core.List.{List, [], _∷_, _++_}
 use Prim.Native.Nat.{ℕ, _≤_, _<_}
 use native.Mathlib.Omega.{arith}
@@ -33,7 +33,7 @@ use Rattle.normal.proofs.Short.{normal-short}
 use Rattle.forms.specs.declared.Verdict.the-variants.{Taken as Fine}
 use Rattle.forms.specs.declared.Stored.the-variants.{Holds, Nothing as NoItem}
 use Rattle.forms.specs.Judged.{judged, isTaken as isFine}
-use Rattle.forms.specs.Form.{formOk, declaredOf, itemIn, heldRead, pickStored, takesStored, takes, picturesStored}
+use Rattle.forms.specs.Form.{formOk, declaredOf, itemIn, heldRead, takesStored, takes, picturesStored}
 use Rattle.forms.proofs.Growing.{formOk-grows}
 use Rattle.sound.specs.Sound.{owedOk}
 use Rattle.session.specs.declared.Session.{Session}
@@ -126,7 +126,7 @@ unfolding itemIn isNormal
 normal-holds l i h r n =
     let t : (leb (length l) 255 && (takenItem (readOf 1 l) && equal (normal l) l)) ≡ true =
     and-both _ _ (le-leb (length l) 255 h) (and-both _ _ (ap takenItem r) (ap (λ (x : List ℕ). equal x l) n ∙ equal-self l)) in
-    ap (λ (b : Bool). pickStored b (heldRead (readOf 1 l)) NoItem) t ∙ ap heldRead r
+    ap (λ (b : Bool). cond b (heldRead (readOf 1 l)) NoItem) t ∙ ap heldRead r
 
 -- "recording would take" the normal form of a line that is taken
 pub normal-takes : (rows : ℕ) (d : Declared) (line : List ℕ) (it : Item) → readOf rows line ≡ Reads (item it) → length line ≤ 255

@@ -32,13 +32,13 @@ use Rattle.session.specs.declared.Session.{Session}
 use Rattle.session.specs.Answers.{isTaken, answerOf}
 use Rattle.session.specs.Session.{activated}
 use Rattle.session.specs.Lent.{World, rowsOf}
-use Rattle.results.specs.World.{State, activeDeclared, pickState}
+use Rattle.results.specs.World.{State, activeDeclared}
 use Rattle.results.specs.Named.{placeOf, named}
 use Rattle.item_commands.specs.Items.{basedBy}
 use Rattle.commands.specs.Does.{records, runs, placed, doesLine}
 use Rattle.station.specs.Table.{lineOf, moreOf, commandTable}
 use Rattle.station.specs.Outcomes.{After}
-use Rattle.station.specs.Station.{doesFront, settled, commanded}
+use Rattle.station.specs.Station.{doesFront, commanded}
 use Rattle.keeps_sound.specs.Tens.{Tens}
 
 -- ---- counters and sessions
@@ -69,7 +69,7 @@ based-tens s (Picture p) t = t
 activated-tens : (s : Session) (a : ℕ) → Tens (activated s a)
 activated-tens s a = record { flags = refl; values = refl }
 
-picked-tens : (b : Bool) (x y : State) → Tens (x .session) → Tens (y .session) → Tens (pickState b x y .session)
+picked-tens : (b : Bool) (x y : State) → Tens (x .session) → Tens (y .session) → Tens (cond b x y .session)
 picked-tens true x y p q = p
 picked-tens false x y p q = q
 
@@ -123,7 +123,7 @@ module _ (font : List ℕ) (w : World) (s : Session) (t : Tens s) where
   front-tens input (Idle k) = t
   front-tens input (Line n k) = line-tens font w s (lineOf input n) (moreOf input n k) t (readOf (rowsOf w) (lineOf input n))
 
-  settled-tens : (b : Bool) (x y : After) → Tens (x .outcome .session) → Tens (y .outcome .session) → Tens (settled b x y .outcome .session)
+  settled-tens : (b : Bool) (x y : After) → Tens (x .outcome .session) → Tens (y .outcome .session) → Tens (cond b x y .outcome .session)
   settled-tens true x y p q = p
   settled-tens false x y p q = q
 

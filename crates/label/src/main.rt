@@ -3,10 +3,10 @@
 // Paper 01, "Sample session": each call's number and answer are written, then the listing that the call gave, then a line for each label that it owes,
 // with the black dots of its page. All that matters is in crate `station`; the sample session stands in `stdin`, and what it must give in `stdout`.
 ghost use Prim.Native.Nat.{_≤_};
+use dots::BYTES_A_ROW;
 use libc::STDIN_FILENO;
 use libc::STDOUT_FILENO;
 use session::Answer;
-use session::BYTES_A_ROW;
 use session::BYTES_OF_VALUES;
 use session::Session;
 use station::Outcome;

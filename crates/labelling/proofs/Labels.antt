@@ -1,7 +1,7 @@
 -- A label call: what its table answers, and the two ways it ends.
 -- Assumes nothing.
 use mathlib.Core.Path.{_≡_, refl, sym, ap, _∙_}
-use mathlib.Core.Bool.{Bool, true, false, not, _||_, true≢false}
+use mathlib.Core.Bool.{Bool, true, false, not, _||_, true≢false, cond}
 use mathlib.Core.List.{List, [], _∷_}
 use Prim.Native.Nat.{ℕ}
 use lib.ListN.{length}
@@ -17,7 +17,7 @@ use Rattle.session.proofs.Rows.{answer-skip, answer-stop}
 use Rattle.session.proofs.LabelMade.{label-whole}
 use Rattle.sound.specs.Entry.{entryRows}
 use Rattle.sound.proofs.EntryRows.{entry-passed}
-use Rattle.labelling.specs.Labelling.{Drawn, drawnBy, labelTable, settledLabel, labelledBy}
+use Rattle.labelling.specs.Labelling.{Drawn, drawnBy, labelTable, labelledBy}
 
 pub label-none :
     (x : Bool) (font : List ℕ) (s : Session) (w : World) (a : Answer) (b : Bool) → a ≡ answerOf (entryRows x font s w []) → b ≡ isTaken a → not b ≡ false →
@@ -30,11 +30,11 @@ pub label-some :
 unfolding answerOf
 label-some x font s w a b e f n z = sym (entry-passed x font s w (row NoneOwed (eqb (s .owed) 0) ∷ []) a b e f n ∙ answer-skip NoneOwed _ [] (ne-eqb _ _ z))
 
-settled-no : (a : Answer) (t : Bool) (s : Session) (page : List ℕ) (d : Drawn) → t ≡ false → drawnBy (labelled a s) page ≡ settledLabel t d (drawnBy (labelled a s) page)
+settled-no : (a : Answer) (t : Bool) (s : Session) (page : List ℕ) (d : Drawn) → t ≡ false → drawnBy (labelled a s) page ≡ cond t d (drawnBy (labelled a s) page)
 settled-no a true s page d e = absurd (true≢false e)
 settled-no a false s page d e = refl
 
-settled-yes : (t : Bool) (c d : Drawn) → t ≡ true → c ≡ settledLabel t c d
+settled-yes : (t : Bool) (c d : Drawn) → t ≡ true → c ≡ cond t c d
 settled-yes true c d e = refl
 settled-yes false c d e = absurd (true≢false (sym e))
 

@@ -1,7 +1,7 @@
 -- A label call: the table decides, and what is drawn and moved is `labelPage` and `labelSession` of crate `session`.
 -- Assumes nothing.
 use Prim.Native.Nat.{ℕ}
-use mathlib.Core.Bool.{Bool, true, false, not, _||_}
+use mathlib.Core.Bool.{Bool, true, false, not, _||_, cond}
 use mathlib.Core.List.{List, [], _∷_}
 use lib.ListN.{length}
 use lib.Dec.{eqb}
@@ -27,12 +27,8 @@ unfoldable pub labelTable : Session → List ℕ → World → ℕ → List Row
 labelTable s font w page =
     entryRows (wrongLent w || not (eqb page (length (w .background)))) font s w (row NoneOwed (eqb (s .owed) 0) ∷ [])
 
-abbrev pub settledLabel : Bool → Drawn → Drawn → Drawn
-settledLabel true a b = a
-settledLabel false a b = b
-
 -- the first row of the table that applies is the answer; if none does the label is drawn. "A refusal leaves session and all lent memory unchanged"
 unfoldable pub labelledBy : Session → List ℕ → World → List ℕ → Drawn
 labelledBy s font w page =
     let a : Answer = answerOf (labelTable s font w (length page)) in
-    settledLabel (isTaken a) (drawnBy (labelled Taken (labelSession s w)) (labelPage font s w)) (drawnBy (labelled a s) page)
+    cond (isTaken a) (drawnBy (labelled Taken (labelSession s w)) (labelPage font s w)) (drawnBy (labelled a s) page)

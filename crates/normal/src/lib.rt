@@ -21,6 +21,7 @@ use fields::element_at;
 use grammar::Head;
 use grammar::heads::head_of;
 use grammar::table::line_up;
+use ground::least;
 use parts::first;
 use parts::folded;
 use parts::rest;
@@ -46,12 +47,6 @@ fn case(fold: bool, b: u8) -> u8
     ensures { λ r. ⌜ r ≡ cond fold (capital b) b ⌝ }
 {
     if fold { folded(b) } else { b }
-}
-
-fn least(a: usize, b: usize) -> usize
-    ensures { λ r. ⌜ r ≡ min a b ⌝ }
-{
-    if a < b { a } else { b }
 }
 
 // Copies bytes, in capitals or as they are, as far as there is room.

@@ -14,7 +14,8 @@ use Rattle.dots.specs.Whole.{white}
 use Rattle.session.specs.declared.answers.Answer.the-variants.{Taken, Lengths}
 use Rattle.session.specs.Answers.{labelled}
 use Rattle.session.specs.Session.{none, fresh}
-use Rattle.session.specs.Lent.{World, world, bytesARow, wrongLent}
+use Rattle.dots.specs.Dots.{bytesARow}
+use Rattle.session.specs.Lent.{World, world, wrongLent}
 use Rattle.opening.specs.Opening.{freeLink, openedBy, opened, cleared}
 
 -- ---- links freed one after another

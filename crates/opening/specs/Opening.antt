@@ -1,7 +1,7 @@
 -- "Opening clears all lent memory (output aside), frees all portions, and sets width 608, length N, origin 0,0, ZT, nothing owed."
 -- Assumes nothing.
 use Prim.Native.Nat.{ℕ}
-use mathlib.Core.Bool.{Bool, true, false, not, _||_}
+use mathlib.Core.Bool.{Bool, true, false, not, _||_, cond}
 use mathlib.Core.List.{List}
 use lib.ListN.{length, replicate}
 use lib.Dec.{eqb}
@@ -31,13 +31,9 @@ cleared w =
     world (zeros (length (w .background))) (zeros (length (w .store))) (replicate (length (w .links)) freeLink) (zeros (length (w .directory)))
     (zeros (length (w .values)))
 
-abbrev pub pickOpened : Bool → Opened → Opened → Opened
-pickOpened true a b = a
-pickOpened false a b = b
-
 -- [1] "a lent length is wrong": "a refused opening returns zeros"
 unfoldable pub opened : List ℕ → World → Opened
 opened page w =
-    pickOpened (wrongLent w || not (eqb (length page) (length (w .background))))
+    cond (wrongLent w || not (eqb (length page) (length (w .background))))
     (openedBy (labelled Lengths none) page w)
     (openedBy (labelled Taken (fresh (rowsOf w))) (zeros (length page)) (cleared w))

@@ -10,8 +10,8 @@ ghost use Rattle.session.specs.Lent.{world};
 ghost use Rattle.session.specs.Session.{none};
 ghost use Rattle.session.specs.declared.answers.Answer.the-variants.{Lengths};
 ghost use Rattle.opening.specs.Opening.{freeLink, openedBy, opened};
+use dots::BYTES_A_ROW;
 use session::Answer;
-use session::BYTES_A_ROW;
 use session::Labelled;
 use session::Session;
 

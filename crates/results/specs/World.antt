@@ -47,10 +47,6 @@ abbrev pub activeDeclared : World → Session → Declared
 activeDeclared w s = declaredOf (activeOf w s)
 
 -- one of two outcomes
-abbrev pub pickState : Bool → State → State → State
-pickState true a b = a
-pickState false a b = b
-
 -- "FR unsets all values; so does the end of activity, by N or FK": the variables; the counters go with `activated`
 abbrev pub unsetIn : World → World
 unsetIn w = withValues w (unset (w .values))

@@ -5,7 +5,8 @@ use mathlib.Core.Bool.{Bool, true, false, not, _||_, true≢false}
 use Prim.Native.Nat.{ℕ, _*_, _%_, _≤_}
 use lib.Dec.{eqb, ltb}
 use borrow.Author.Tests.{ltb-false}
-use Rattle.session.specs.Lent.{bytesARow, mostRows, pageWrong, storeWrong, directoryWrong, valuesWrong, lengthsWrong}
+use Rattle.dots.specs.Dots.{bytesARow}
+use Rattle.session.specs.Lent.{mostRows, pageWrong, storeWrong, directoryWrong, valuesWrong, lengthsWrong}
 
 or-none : (a b : Bool) → (a || b) ≡ false → (a ≡ false) × (b ≡ false)
 or-none true b e = absurd (true≢false e)

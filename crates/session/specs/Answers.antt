@@ -1,7 +1,7 @@
 -- Paper 01's table: "No. | Given exactly when".
 -- Assumes nothing.
 use Prim.Native.Nat.{ℕ}
-use mathlib.Core.Bool.{Bool, true, false}
+use mathlib.Core.Bool.{Bool, true, false, cond}
 use mathlib.Core.List.{List, [], _∷_}
 use lib.Dec.{eqb}
 use Rattle.session.specs.declared.Session.{Session}
@@ -68,14 +68,10 @@ pub record Row : Type 0 where
 abbrev pub row : Answer → Bool → Row
 row a b = record { answer = a; applies = b }
 
-abbrev pub pickAnswer : Bool → Answer → Answer → Answer
-pickAnswer true a b = a
-pickAnswer false a b = b
-
 -- "The lowest number that applies is given": the rows stand in the table's order, and the first that applies is the answer
 unfoldable pub answerOf : List Row → Answer
 answerOf [] = Taken
-answerOf (r ∷ rs) = pickAnswer (r .applies) (r .answer) (answerOf rs)
+answerOf (r ∷ rs) = cond (r .applies) (r .answer) (answerOf rs)
 
 -- what opening and a label call answer
 abbrev pub labelled : Answer → Session → Labelled

@@ -5,6 +5,10 @@ use mathlib.Core.Bool.{Bool, not, _||_}
 use mathlib.Core.List.{List}
 use lib.ListN.{length}
 use lib.Dec.{eqb, ltb}
+use Rattle.dots.specs.Dots.{bytesARow}
+use Rattle.values.specs.Stored.{bytesAField}
+use Rattle.store.specs.Chain.{bytesAPortion}
+use Rattle.store.specs.Entry.{bytesAnEntry}
 
 -- the lists that every call is lent beside the font
 pub record World : Type 0 where
@@ -18,9 +22,6 @@ abbrev pub world : List ℕ → List ℕ → List ℕ → List ℕ → List ℕ 
 world b s l d v = record { background = b; store = s; links = l; directory = d; values = v }
 
 -- "76 bytes a row, N rows, 1 to 4,000"
-abbrev pub bytesARow : ℕ
-bytesARow = 76
-
 abbrev pub mostRows : ℕ
 mostRows = 4000
 
@@ -32,9 +33,6 @@ unfoldable pub pageWrong : ℕ → Bool
 pageWrong n = not (eqb (n % bytesARow) 0) || (ltb n bytesARow || ltb (mostRows * bytesARow) n)
 
 -- "1 to 2,024 portions of 256 bytes", "one" link "for each portion"
-abbrev pub bytesAPortion : ℕ
-bytesAPortion = 256
-
 abbrev pub mostPortions : ℕ
 mostPortions = 2024
 
@@ -42,9 +40,6 @@ unfoldable pub storeWrong : ℕ → ℕ → Bool
 storeWrong store links = ltb mostPortions links || (eqb links 0 || not (eqb store (links * bytesAPortion)))
 
 -- "1 to 512 entries of 16 bytes"
-abbrev pub bytesAnEntry : ℕ
-bytesAnEntry = 16
-
 abbrev pub mostEntries : ℕ
 mostEntries = 512
 
@@ -52,9 +47,6 @@ unfoldable pub directoryWrong : ℕ → Bool
 directoryWrong n = not (eqb (n % bytesAnEntry) 0) || (ltb n bytesAnEntry || ltb (mostEntries * bytesAnEntry) n)
 
 -- "10 fields of 34 bytes"
-abbrev pub bytesAField : ℕ
-bytesAField = 34
-
 abbrev pub bytesOfValues : ℕ
 bytesOfValues = 10 * bytesAField
 

@@ -2,21 +2,18 @@
 ghost use mathlib.Core.Path.{_≡_};
 ghost use mathlib.Core.Bool.{_||_};
 ghost use Rattle.session.specs.Lent.{pageWrong, storeWrong, directoryWrong, lengthsWrong};
+use dots::BYTES_A_ROW;
 use ground::either;
+use store::BYTES_A_PORTION;
+use store::BYTES_AN_ENTRY;
 
-// "76 bytes a row, N rows, 1 to 4,000."
-pub const BYTES_A_ROW: usize = 76;
-
+// "N rows, 1 to 4,000."
 const MOST_ROWS: usize = 4000;
 
-// "1 to 2,024 portions of 256 bytes."
-const BYTES_A_PORTION: usize = 256;
-
+// "1 to 2,024 portions."
 const MOST_PORTIONS: usize = 2024;
 
-// "1 to 512 entries of 16 bytes."
-const BYTES_AN_ENTRY: usize = 16;
-
+// "1 to 512 entries."
 const MOST_ENTRIES: usize = 512;
 
 // "10 fields of 34 bytes."

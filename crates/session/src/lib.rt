@@ -19,7 +19,6 @@ pub use active::active_declared;
 pub use active::active_pictures;
 pub use answers::Answer;
 pub use answers::Labelled;
-pub use lent::BYTES_A_ROW;
 pub use lent::BYTES_OF_VALUES;
 pub use lent::lengths_wrong;
 

@@ -16,7 +16,8 @@ ghost use Rattle.session.specs.Lent.{world};
 ghost use Rattle.session.specs.Session.{leastWidth, mostWidth, mostX, mostY, mostLabels};
 ghost use Rattle.sound.specs.Sound.{backgroundOk, activeOk, owedWith, activitySound, sound};
 pub use checks::entry_answer;
-use session::BYTES_A_ROW;
+use dots::BYTES_A_ROW;
+use ground::both;
 use session::LEAST_WIDTH;
 use session::MOST_LABELS;
 use session::MOST_WIDTH;
@@ -32,13 +33,6 @@ use values::Declared;
 
 mod checks; // 1, 2 and 3, that every read and label call checks first
 mod contents; // forms and pictures, entry by entry
-
-// a and b, without a branch.
-fn both(a: bool, b: bool) -> bool
-    ensures { λ r. ⌜ r ≡ (a && b) ⌝ }
-{
-    if a { b } else { false }
-}
 
 fn wide(x: u16) -> usize
     ensures { λ r. ⌜ r ≡ x ⌝ }

@@ -43,7 +43,7 @@ use Rattle.commands.proofs.Ends.{line-read}
 use Rattle.station.specs.declared.Outcome.{Outcome}
 use Rattle.station.specs.Outcomes.{After, after, outcome}
 use Rattle.station.specs.Table.{entryRows, frontAnswer, frontRead, isLine, lineIn, frontRows, commandTable, lineOf, moreOf}
-use Rattle.station.specs.Station.{readBy, doesFront, listsFront, accepted, refused, settled, readAs, commanded}
+use Rattle.station.specs.Station.{readBy, doesFront, listsFront, accepted, refused, readAs, commanded}
 use Rattle.sound.proofs.EntryRows.{checked, entry-passed, entry-right}
 
 -- ---- a command call that ends there
@@ -51,7 +51,7 @@ use Rattle.sound.proofs.EntryRows.{checked, entry-passed, entry-right}
 early-call :
     (x y z : Bool) (rows : List Row) (input output : List ℕ) (s : Session) (w : World) (t : After) → isTaken (answerOf (checked x y z [])) ≡ false →
     after (outcome (answerOf (checked x y z [])) s 0 0) w output
-    ≡ settled (isTaken (answerOf (checked x y z rows))) t
+    ≡ cond (isTaken (answerOf (checked x y z rows))) t
     (refused (answerOf (checked x y z rows)) (readBy (answerOf (checked x y z rows)) input) s w output)
 unfolding answerOf isTaken numberOf readBy
 early-call true y z rows input output s w t h = refl
@@ -76,7 +76,7 @@ readFrom a f = cond (leb 1 (numberOf a) && leb (numberOf a) 4) 0 (frontRead f)
 
 abbrev answered : Session → List ℕ → World → List ℕ → List ℕ → Front → Answer → After
 answered s font w output input f a =
-    settled (isTaken a) (accepted (readFrom a f) (doesFront font w s input f) (listsFront w input f) output) (refused a (readFrom a f) s w output)
+    cond (isTaken a) (accepted (readFrom a f) (doesFront font w s input f) (listsFront w input f) output) (refused a (readFrom a f) s w output)
 
 abbrev fronted : Session → List ℕ → World → List ℕ → List ℕ → Front → After
 fronted s font w output input f = answered s font w output input f (answerOf (frontRows w s input (length output) f))
@@ -174,7 +174,7 @@ late-line w s line more room (Reads c) = late-placed w s line more room c (recor
 
 line-choice :
     (t e : Bool) (a : Answer) (s : Session) (w : World) (o : List ℕ) (k : ℕ) (st : State) (bytes : List ℕ) → not e ≡ true →
-    settled t (accepted (cond e 0 k) st bytes o) (refused a (cond e 0 k) s w o)
+    cond t (accepted (cond e 0 k) st bytes o) (refused a (cond e 0 k) s w o)
     ≡ readAs k (cond t (ran (done Taken (st .session) (length bytes)) (st .world) (sets o 0 bytes)) (ran (done a s 0) w o))
 line-choice true false a s w o k st bytes h = refl
 line-choice false false a s w o k st bytes h = refl
@@ -182,7 +182,7 @@ line-choice t true a s w o k st bytes h = absurd (true≢false (sym h))
 
 line-call :
     (s : Session) (font : List ℕ) (w : World) (o line more : List ℕ) (k : ℕ) (r : Read) (a : Answer) → a ≡ answerOf (lineRows w s line more (length o) r) →
-    settled (isTaken a) (accepted (cond (leb 1 (numberOf a) && leb (numberOf a) 4) 0 k) (doesLine font w s line more r) (listsLine w line r) o)
+    cond (isTaken a) (accepted (cond (leb 1 (numberOf a) && leb (numberOf a) 4) 0 k) (doesLine font w s line more r) (listsLine w line r) o)
     (refused a (cond (leb 1 (numberOf a) && leb (numberOf a) 4) 0 k) s w o)
     ≡ readAs k (ranBy a s w o (doesLine font w s line more r) (listsLine w line r))
 line-call s font w o line more k r a e =

@@ -18,30 +18,14 @@ use Rattle.session.specs.Lent.{World, rowsOf, wrongLent}
 use Rattle.station.specs.Outcomes.{After, after, outcome, Drawn, drawnBy, labelled, Opened, openedBy}
 use Rattle.station.specs.Table.{commandTable, labelTable}
 use Rattle.results.specs.World.{State}
-use Rattle.station.specs.Station.{
-  cleared,
-  pickOpened,
-  opened,
-  frontRead,
-  readBy,
-  doesFront,
-  listsFront,
-  accepted,
-  refused,
-  settled,
-  commanded,
-  labelPage,
-  labelSession,
-  settledLabel,
-  labelledBy,
-}
+use Rattle.station.specs.Station.{cleared, opened, frontRead, readBy, doesFront, listsFront, accepted, refused, commanded, labelPage, labelSession, labelledBy}
 
 -- ---- a label call that is refused keeps session and page
 
 label-keeps :
     (t : Bool) (a : Answer) (s : Session) (page : List ℕ) (c : Drawn) → c .outcome .answer ≡ Taken →
-    isTaken (settledLabel t c (drawnBy (labelled a s) page) .outcome .answer) ≡ false →
-    settledLabel t c (drawnBy (labelled a s) page) ≡ drawnBy (labelled (settledLabel t c (drawnBy (labelled a s) page) .outcome .answer) s) page
+    isTaken (cond t c (drawnBy (labelled a s) page) .outcome .answer) ≡ false →
+    cond t c (drawnBy (labelled a s) page) ≡ drawnBy (labelled (cond t c (drawnBy (labelled a s) page) .outcome .answer) s) page
 unfolding isTaken numberOf
 label-keeps true a s page c e h = absurd (true≢false (sym (ap isTaken e) ∙ h))
 label-keeps false a s page c e h = refl
@@ -58,8 +42,8 @@ label-refusal-keeps s font w page h =
 
 open-keeps :
     (t : Bool) (page : List ℕ) (w : World) (c : Opened) → c .outcome .answer ≡ Taken →
-    isTaken (pickOpened t (openedBy (labelled Lengths none) page w) c .outcome .answer) ≡ false →
-    pickOpened t (openedBy (labelled Lengths none) page w) c ≡ openedBy (labelled Lengths none) page w
+    isTaken (cond t (openedBy (labelled Lengths none) page w) c .outcome .answer) ≡ false →
+    cond t (openedBy (labelled Lengths none) page w) c ≡ openedBy (labelled Lengths none) page w
 unfolding isTaken numberOf
 open-keeps true page w c e h = refl
 open-keeps false page w c e h = absurd (true≢false (sym (ap isTaken e) ∙ h))
@@ -75,9 +59,9 @@ open-refusal-keeps page w h =
 
 command-keeps :
     (t : Bool) (a : Answer) (n : Answer → ℕ) (s : Session) (w : World) (output : List ℕ) (c : After) → c .outcome .answer ≡ Taken →
-    isTaken (settled t c (after (outcome a s (n a) 0) w output) .outcome .answer) ≡ false →
-    settled t c (after (outcome a s (n a) 0) w output)
-    ≡ after (outcome (settled t c (after (outcome a s (n a) 0) w output) .outcome .answer) s (n (settled t c (after (outcome a s (n a) 0) w output) .outcome .answer)) 0) w output
+    isTaken (cond t c (after (outcome a s (n a) 0) w output) .outcome .answer) ≡ false →
+    cond t c (after (outcome a s (n a) 0) w output)
+    ≡ after (outcome (cond t c (after (outcome a s (n a) 0) w output) .outcome .answer) s (n (cond t c (after (outcome a s (n a) 0) w output) .outcome .answer)) 0) w output
 unfolding isTaken numberOf
 command-keeps true a n s w output c e h = absurd (true≢false (sym (ap isTaken e) ∙ h))
 command-keeps false a n s w output c e h = refl
@@ -98,8 +82,8 @@ taken-reads a input h = ap (λ (n : ℕ). cond (leb 1 n && leb n 4) 0 (frontRead
 
 either-reads :
     (t : Bool) (a : Answer) (n : Answer → ℕ) (s : Session) (w : World) (output : List ℕ) (st : State) (bytes : List ℕ) → (t ≡ true → n a ≡ n Taken) →
-    settled t (accepted (n a) st bytes output) (refused a (n a) s w output) .outcome .read
-    ≡ n (settled t (accepted (n a) st bytes output) (refused a (n a) s w output) .outcome .answer)
+    cond t (accepted (n a) st bytes output) (refused a (n a) s w output) .outcome .read
+    ≡ n (cond t (accepted (n a) st bytes output) (refused a (n a) s w output) .outcome .answer)
 either-reads true a n s w output st bytes h = h refl
 either-reads false a n s w output st bytes h = refl
 

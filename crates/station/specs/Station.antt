@@ -21,11 +21,9 @@ use Rattle.station.specs.Table.{commandTable, lineOf, moreOf}
 use Rattle.commands.specs.Does.{doesLine, listsLine}
 use Rattle.results.specs.Result.{Ran}
 pub use Rattle.station.specs.Table.{frontRead}
-pub use Rattle.opening.specs.Opening.{pickOpened}
 unfoldable pub use Rattle.opening.specs.Opening.{cleared, opened}
 pub use Rattle.session.specs.Label.{turnedBy}
 unfoldable pub use Rattle.session.specs.Label.{labelPage, labelSession}
-pub use Rattle.labelling.specs.Labelling.{settledLabel}
 unfoldable pub use Rattle.labelling.specs.Labelling.{labelledBy}
 
 -- "Answers 1 to 4 read nothing"; what others read, the front of the input says
@@ -52,15 +50,11 @@ accepted n st bytes output = after (outcome Taken (st .session) n (length bytes)
 abbrev pub refused : Answer → ℕ → Session → World → List ℕ → After
 refused a n s w output = after (outcome a s n 0) w output
 
-abbrev pub settled : Bool → After → After → After
-settled true a b = a
-settled false a b = b
-
 -- one command: the first row of the table that applies is the answer; if none does the command is taken
 unfoldable pub commanded : Session → List ℕ → World → List ℕ → List ℕ → After
 commanded s font w output input =
     let a : Answer = answerOf (commandTable s font w (length output) input) in
-    settled (isTaken a)
+    cond (isTaken a)
     (accepted (readBy a input) (doesFront font w s input (frontOf input)) (listsFront w input (frontOf input)) output)
     (refused a (readBy a input) s w output)
 
