@@ -6,6 +6,7 @@ use mathlib.Core.List.{List}
 use lib.ListN.{length, replicate}
 use lib.Dec.{eqb}
 use Rattle.cells.specs.Cell.{zeros}
+use Rattle.store.specs.Chain.{freeLink}
 use Rattle.session.specs.declared.answers.Labelled.{Labelled}
 use Rattle.session.specs.declared.answers.Answer.the-variants.{Taken, Lengths}
 use Rattle.session.specs.Answers.{labelled}
@@ -20,10 +21,6 @@ pub record Opened : Type 0 where
 
 abbrev pub openedBy : Labelled → List ℕ → World → Opened
 openedBy r p w = record { outcome = r; page = p; world = w }
-
--- "65535 free"
-abbrev pub freeLink : ℕ
-freeLink = 65535
 
 -- "clears all lent memory (output aside), frees all portions"
 unfoldable pub cleared : World → World

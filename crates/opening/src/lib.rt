@@ -4,30 +4,15 @@
 // lengths alone (1), so that any memory can be opened, and "a refused opening returns zeros" and leaves what it was lent. `open` promises one equation
 // between its result with every lent list at exit and `opened` (specs/Opening.antt) of what it was lent.
 ghost use mathlib.Core.Path.{_≡_};
-ghost use lib.ListN.{length, replicate};
 ghost use Rattle.session.specs.Answers.{labelled};
 ghost use Rattle.session.specs.Lent.{world};
 ghost use Rattle.session.specs.Session.{none};
 ghost use Rattle.session.specs.declared.answers.Answer.the-variants.{Lengths};
-ghost use Rattle.opening.specs.Opening.{freeLink, openedBy, opened};
+ghost use Rattle.opening.specs.Opening.{openedBy, opened};
 use dots::BYTES_A_ROW;
 use session::Answer;
 use session::Labelled;
 use session::Session;
-
-// "65535 free."
-const FREE_LINK: u16 = 65535;
-
-// Every link free.
-fn free_all(links: &mut [u16])
-    ensures { λ _. ⌜ now (links .exit) ≡ replicate (length (now (links .entry))) freeLink ⌝ }
-{
-    let mut i = 0;
-    while i < links.len() {
-        links[i] = FREE_LINK;
-        i += 1;
-    }
-}
 
 // "a refused opening returns zeros."
 fn refused() -> Labelled
@@ -65,10 +50,8 @@ pub fn open(
     let rows = (background.len() / BYTES_A_ROW) as u16;
     dots::whiten(page);
     dots::whiten(background);
-    dots::whiten(store);
-    free_all(links);
-    dots::whiten(directory);
-    dots::whiten(values);
+    moves::clear(store, links, directory);
+    values::stored::unset_all(values);
     let session = Session::fresh(rows);
     Labelled {
         answer: Answer::Taken,

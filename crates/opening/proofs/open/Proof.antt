@@ -30,17 +30,11 @@ whiten-requires c κs = search needs
 whiten-requires-2 : tie.Need-whiten-requires-2
 whiten-requires-2 c κs = search needs
 
-whiten-requires-3 : tie.Need-whiten-requires-3
-whiten-requires-3 c κs = search needs
+clear-requires : tie.Need-clear-requires
+clear-requires c κs = search needs
 
-free-all-requires : tie.Need-free-all-requires
-free-all-requires c κs = search needs
-
-whiten-requires-4 : tie.Need-whiten-requires-4
-whiten-requires-4 c κs = search needs
-
-whiten-requires-5 : tie.Need-whiten-requires-5
-whiten-requires-5 c κs = search needs
+unset-all-requires : tie.Need-unset-all-requires
+unset-all-requires c κs = search needs
 
 fresh-requires : tie.Need-fresh-requires
 fresh-requires c κs = search needs
@@ -64,8 +58,12 @@ same-length-6 : tie.Need-same-length-6
 same-length-6 c = search needs
 
 returns-3 : tie.Need-returns-3
-returns-3 c = rw (c .fresh .ensures, c .before .before .before .whiten5 .ensures, c .before .before .before .before .before .before .before .whiten4 .ensures, c .before .before .before .before .before .before .before .before .before .before .before .free-all .ensures, c .before .before .before .before .before .before .before .before .before .before .before .before .before .before .before .whiten3 .ensures, c .before .before .before .before .before .before .before .before .before .before .before .before .before .before .before .before .before .before .before .whiten2 .ensures, c .before .before .before .before .before .before .before .before .before .before .before .before .before .before .before .before .before .before .before .before .before .before .before .whiten .ensures)
-    (sym (opened-good _ _ (sym (c .before .before .before .before .before .before .before .before .before .before .before .before .before .before .before .before .before .before .before .before .before .before .before .before .before .before .before .lengths-wrong .ensures) ∙ c .before .before .before .before .before .before .before .before .before .before .before .before .before .before .before .before .before .before .before .before .before .before .before .before .before .before .if1 .left) (c .before .before .before .before .before .before .before .before .before .before .before .before .before .before .before .before .before .before .before .before .before .before .before .before .before .if2 .left)))
+returns-3 c =
+    rw (c .fresh .ensures, c .before .before .before .before .before .before .before .before .before .before .before .before .before .before .before .before .before .whiten2 .ensures, c .before .before .before .before .before .before .before .before .before .before .before .before .before .before .before .before .before .before .before .before .before .whiten .ensures)
+    (sym
+    (opened-good _ _ _ _ _ _ (sym (c .before .before .before .before .before .before .before .before .before .before .before .before .before .before .before .before .before .before .before .before .before .before .before .before .before .lengths-wrong .ensures) ∙ c .before .before .before .before .before .before .before .before .before .before .before .before .before .before .before .before .before .before .before .before .before .before .before .before .if1 .left)
+    (c .before .before .before .before .before .before .before .before .before .before .before .before .before .before .before .before .before .before .before .before .before .before .before .if2 .left) (c .before .before .before .before .before .before .before .before .before .before .before .clear .ensures)
+    (c .before .before .before .unset-all .ensures)))
 
 pub open-spec : {M : Type 1} → statement M
 open-spec =
@@ -79,10 +77,8 @@ open-spec =
     cast-rows
     whiten-requires
     whiten-requires-2
-    whiten-requires-3
-    free-all-requires
-    whiten-requires-4
-    whiten-requires-5
+    clear-requires
+    unset-all-requires
     fresh-requires
     same-length
     same-length-2
