@@ -10,3 +10,5 @@ mod image; // a session as its bytes
 pub use calls::station_command;
 pub use calls::station_label;
 pub use calls::station_open;
+pub use image::decode;
+pub use image::encode;
