@@ -63,8 +63,15 @@ saidOf k a line =
     bytes "line " ++ (decimal k ++ (bytes ": " ++ (decimal (numberOf a) ++ (bytes ", " ++ (wordsOf a ++ (bytes ": " ++ (line ++ bytes "\n")))))))
 
 -- `label I of N: NAME`
-unfoldable pub labelOf : ℕ → ℕ → List ℕ → List ℕ
-labelOf i n name = bytes "label " ++ (decimal i ++ (bytes " of " ++ (decimal n ++ (bytes ": " ++ (name ++ bytes "\n")))))
+unfoldable pub whichOf : ℕ → ℕ → List ℕ → List ℕ
+whichOf i n name = bytes "label " ++ (decimal i ++ (bytes " of " ++ (decimal n ++ (bytes ": " ++ name))))
+
+-- `, W by L dots, B black`
+unfoldable pub sizeOf : ℕ → ℕ → ℕ → List ℕ
+sizeOf width rows black = bytes ", " ++ (decimal width ++ (bytes " by " ++ (decimal rows ++ (bytes " dots, " ++ (decimal black ++ bytes " black\n")))))
+
+abbrev pub labelOf : ℕ → ℕ → List ℕ → ℕ → ℕ → ℕ → List ℕ
+labelOf i n name width rows black = whichOf i n name ++ sizeOf width rows black
 
 -- `T lines taken, R refused, L labels drawn`
 unfoldable pub sumOf : ℕ → ℕ → ℕ → List ℕ

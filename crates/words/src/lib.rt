@@ -6,7 +6,7 @@ ghost use mathlib.Core.List.{_++_};
 ghost use mathlib.Core.Bool.{cond};
 ghost use lib.Dec.{eqb};
 ghost use Rattle.normal.specs.Written.{Wrote};
-ghost use Rattle.words.specs.Words.{wordsOf, saidOf, zerosOf, nameOf, labelOf, sumOf, lastSlash};
+ghost use Rattle.words.specs.Words.{wordsOf, saidOf, zerosOf, nameOf, whichOf, sizeOf, labelOf, sumOf, lastSlash};
 use normal::put_decimal;
 use session::Answer;
 use session::answers::number;
@@ -105,16 +105,44 @@ pub fn joined(a: &[u8], b: &[u8], out: &mut [u8]) -> usize
 }
 
 // `label I of N: NAME`
-pub fn label(i: usize, n: usize, name: &[u8], out: &mut [u8]) -> usize
-    ensures { λ r. ⌜ Wrote (now (out .entry)) 0 (labelOf i n (now (name .entry))) r (now (out .exit)) ⌝ }
+fn put_which(i: usize, n: usize, name: &[u8], out: &mut [u8]) -> usize
+    ensures { λ r. ⌜ Wrote (now (out .entry)) 0 (whichOf i n (now (name .entry))) r (now (out .exit)) ⌝ }
 {
     let first = put(out, 0, b"label ");
     let of = put_decimal(i, out, first);
     let all = put(out, of, b" of ");
     let colon = put_decimal(n, out, all);
     let place = put(out, colon, b": ");
-    let end = put(out, place, name);
-    put(out, end, b"\n")
+    put(out, place, name)
+}
+
+// `, W by L dots, B black`
+fn put_size(width: usize, rows: usize, black: usize, out: &mut [u8], at: usize) -> usize
+    ensures { λ r. ⌜ Wrote (now (out .entry)) at (sizeOf width rows black) r (now (out .exit)) ⌝ }
+{
+    let a = put(out, at, b", ");
+    let b = put_decimal(width, out, a);
+    let c = put(out, b, b" by ");
+    let d = put_decimal(rows, out, c);
+    let e = put(out, d, b" dots, ");
+    let f = put_decimal(black, out, e);
+    put(out, f, b" black\n")
+}
+
+// `label I of N: NAME, W by L dots, B black`
+pub fn label(
+    i: usize,
+    n: usize,
+    name: &[u8],
+    width: usize,
+    rows: usize,
+    black: usize,
+    out: &mut [u8],
+) -> usize
+    ensures { λ r. ⌜ Wrote (now (out .entry)) 0 (labelOf i n (now (name .entry)) width rows black) r (now (out .exit)) ⌝ }
+{
+    let at = put_which(i, n, name, out);
+    put_size(width, rows, black, out, at)
 }
 
 // `T lines taken, R refused, L labels drawn`

@@ -1,80 +1,27 @@
-use Rattle.words.specs.Words.{labelOf}
 use Rattle.normal.proofs.Writes.{wrote-then}
 use borrow.Author.Needs.{needs}
 use Rattle.words.proofs.label.Statement.{statement}
 use Rattle.words.proofs.label.Tie as tie
 use Rattle.words.proofs.label.Reads as reads
 use Rattle.words.proofs.label.Lts as lts
-use Rattle.normal.proofs.put_decimal.Reads as put-decimal-reads
-use Rattle.words.proofs.put.Reads as put-reads
+use Rattle.words.proofs.put_size.Reads as put-size-reads
+use Rattle.words.proofs.put_which.Reads as put-which-reads
 
--- src/lib.rt:111:29
-slice-aggregate-put : tie.Need-slice-aggregate-put
-slice-aggregate-put c = search needs
+-- src/lib.rt:144:9
+put-which-requires : tie.Need-put-which-requires
+put-which-requires c κs = search needs
 
--- src/lib.rt:111:9
-put-requires : tie.Need-put-requires
-put-requires c κs = search needs
+-- src/lib.rt:145:5
+put-size-requires : tie.Need-put-size-requires
+put-size-requires c κs = search needs
 
--- src/lib.rt:112:9
-put-decimal-requires : tie.Need-put-decimal-requires
-put-decimal-requires c κs = search needs
-
--- src/lib.rt:113:28
-slice-aggregate-put-2 : tie.Need-slice-aggregate-put-2
-slice-aggregate-put-2 c = search needs
-
--- src/lib.rt:113:9
-put-requires-2 : tie.Need-put-requires-2
-put-requires-2 c κs = search needs
-
--- src/lib.rt:114:9
-put-decimal-requires-2 : tie.Need-put-decimal-requires-2
-put-decimal-requires-2 c κs = search needs
-
--- src/lib.rt:115:33
-slice-aggregate-put-3 : tie.Need-slice-aggregate-put-3
-slice-aggregate-put-3 c = search needs
-
--- src/lib.rt:115:9
-put-requires-3 : tie.Need-put-requires-3
-put-requires-3 c κs = search needs
-
--- src/lib.rt:116:9
-put-requires-4 : tie.Need-put-requires-4
-put-requires-4 c κs = search needs
-
--- src/lib.rt:117:19
-slice-aggregate-put-4 : tie.Need-slice-aggregate-put-4
-slice-aggregate-put-4 c = search needs
-
--- src/lib.rt:117:5
-put-requires-5 : tie.Need-put-requires-5
-put-requires-5 c κs = search needs
-
--- src/lib.rt:108:1
+-- src/lib.rt:133:1
 same-length : tie.Need-same-length
 same-length c = search needs
 
--- src/lib.rt:108:1
+-- src/lib.rt:133:1
 returns : tie.Need-returns
-unfolding labelOf
-returns c = wrote-then (c .before .before .before .before .before .before .before .before .before .before .before .before .before .before .before .before .before .before .before .before .before .before .before .before .before .before .before .before .before .put .ensures) (wrote-then (c .before .before .before .before .before .before .before .before .before .before .before .before .before .before .before .before .before .before .before .before .before .before .before .before .before .put-decimal .ensures) (wrote-then (c .before .before .before .before .before .before .before .before .before .before .before .before .before .before .before .before .before .before .before .before .put2 .ensures) (wrote-then (c .before .before .before .before .before .before .before .before .before .before .before .before .before .before .before .before .put-decimal2 .ensures) (wrote-then (c .before .before .before .before .before .before .before .before .before .before .before .put3 .ensures) (wrote-then (c .before .before .before .before .before .before .before .put4 .ensures) (c .before .before .put5 .ensures))))))
+returns c = wrote-then (c .before .before .before .before .before .before .put-which .ensures) (c .before .before .put-size .ensures)
 
 pub label-spec : {M : Type 1} → statement M
-label-spec =
-    tie.close
-    (tie.spec
-    slice-aggregate-put
-    put-requires
-    put-decimal-requires
-    slice-aggregate-put-2
-    put-requires-2
-    put-decimal-requires-2
-    slice-aggregate-put-3
-    put-requires-3
-    put-requires-4
-    slice-aggregate-put-4
-    put-requires-5
-    same-length
-    returns)
+label-spec = tie.close (tie.spec put-which-requires put-size-requires same-length returns)
