@@ -12,3 +12,5 @@ pub use calls::station_command;
 pub use calls::station_label;
 pub use calls::station_open;
 pub use image::IMAGE;
+pub use image::decode;
+pub use image::encode;
