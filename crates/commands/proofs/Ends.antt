@@ -24,9 +24,9 @@ use Rattle.session.specs.Lent.{World, world, rowsOf, wrongLent}
 use Rattle.results.specs.Result.{done, Ran, ran, ranBy}
 use Rattle.results.proofs.Answers.{cond-map, answer-skip}
 use Rattle.results.proofs.Parts.{onMemory}
-use Rattle.commands.specs.Rows.{recordRows, lineRows}
+use Rattle.commands.specs.Rows.{recordRows, faultAnswer, lineRows}
 use Rattle.commands.specs.Does.{recordedLine, doesLine, listsLine}
-use Rattle.commands.specs.Running.{recordBy, ranRead, lineTable, lineBy, faulted}
+use Rattle.commands.specs.Running.{recordBy, ranRead, lineTable, lineBy}
 
 -- ---- 1 and 5 come first, whoever calls
 
@@ -53,8 +53,8 @@ line-read font w s line more o r h k e =
 -- ---- 6 and 7
 
 pub fault-by :
-    (f : Fault) (font : List ℕ) (w : World) (s : Session) (line more o : List ℕ) → ran (done (faulted f) s 0) w o ≡ ranRead font w s line more o (Refused f)
-unfolding answerOf isTaken numberOf faulted
+    (f : Fault) (font : List ℕ) (w : World) (s : Session) (line more o : List ℕ) → ran (done (faultAnswer f) s 0) w o ≡ ranRead font w s line more o (Refused f)
+unfolding answerOf isTaken numberOf
 fault-by (form p) font w s line more o = refl
 fault-by (Limit p) font w s line more o = refl
 

@@ -13,6 +13,7 @@ use Rattle.store.specs.Find.{recorded}
 use Rattle.moves.specs.Grow.{canGrow}
 use Rattle.read.specs.declared.Command.{Command}
 use Rattle.read.specs.declared.Command.the-variants.{Item as item, End, Page, Forms, Pictures, Values, Listing}
+use Rattle.read.specs.declared.Fault.{Fault}
 use Rattle.read.specs.declared.Fault.the-variants.{Form as form, Limit}
 use Rattle.read.specs.declared.Read.{Read}
 use Rattle.read.specs.declared.Read.the-variants.{Taken as Reads, Refused}
@@ -21,6 +22,7 @@ use Rattle.forms.specs.declared.Stored.{Stored}
 use Rattle.forms.specs.declared.Stored.the-variants.{Holds, Nothing as NoItem}
 use Rattle.forms.specs.Form.{declaredOf, heldCommand}
 use Rattle.session.specs.declared.Session.{Session}
+use Rattle.session.specs.declared.answers.Answer.{Answer}
 use Rattle.session.specs.declared.answers.Answer.the-variants.{Unwritten, Limits, Owing, Misplaced, Full}
 use Rattle.session.specs.Answers.{Row, row}
 use Rattle.session.specs.Lent.{World}
@@ -64,8 +66,12 @@ abbrev pub placedRows : World → Session → List ℕ → List ℕ → ℕ → 
 placedRows w s line more room c (At i) = recordRows w line i c
 placedRows w s line more room c Nothing = runRows w s line more room c
 
+-- [6] "the line has not the written form", [7] "a number, name or prompt outside its limits"
+abbrev pub faultAnswer : Fault → Answer
+faultAnswer (form p) = Unwritten
+faultAnswer (Limit p) = Limits
+
 -- ---- 6, 7, 8: a line that is read. more are the bytes of a well-formed GM
 abbrev pub lineRows : World → Session → List ℕ → List ℕ → ℕ → Read → List Row
-lineRows w s line more room (Refused (form p)) = row Unwritten true ∷ []
-lineRows w s line more room (Refused (Limit p)) = row Limits true ∷ []
+lineRows w s line more room (Refused f) = row (faultAnswer f) true ∷ []
 lineRows w s line more room (Reads c) = row Owing (ltb 0 (s .owed)) ∷ placedRows w s line more room c (recorded (w .directory))

@@ -5,8 +5,6 @@ use mathlib.Core.List.{List, _∷_}
 use lib.ListN.{length}
 use lib.Dec.{ltb}
 use Rattle.read.specs.declared.Command.{Command}
-use Rattle.read.specs.declared.Fault.{Fault}
-use Rattle.read.specs.declared.Fault.the-variants.{Form as form, Limit}
 use Rattle.read.specs.declared.Read.{Read}
 use Rattle.read.specs.Commands.{readOf}
 use Rattle.normal.specs.Written.{normal}
@@ -14,8 +12,7 @@ use Rattle.forms.specs.declared.Stored.{Stored}
 use Rattle.forms.specs.declared.Stored.the-variants.{Holds, Nothing as NoItem}
 use Rattle.forms.specs.Form.{heldCommand}
 use Rattle.session.specs.declared.Session.{Session}
-use Rattle.session.specs.declared.answers.Answer.{Answer}
-use Rattle.session.specs.declared.answers.Answer.the-variants.{Lengths, Long, Unwritten, Limits}
+use Rattle.session.specs.declared.answers.Answer.the-variants.{Lengths, Long}
 use Rattle.session.specs.Answers.{Row, row, answerOf}
 use Rattle.session.specs.Lent.{World, rowsOf, wrongLent}
 use Rattle.results.specs.Result.{Ran, ranBy}
@@ -43,11 +40,6 @@ unfoldable pub lineBy : List ℕ → World → Session → List ℕ → List ℕ
 lineBy font w s line more o =
     ranBy (answerOf (lineTable w s line more (length o))) s w o (doesLine font w s line more (readOf (rowsOf w) line))
     (listsLine w line (readOf (rowsOf w) line))
-
--- [6] and [7]
-unfoldable pub faulted : Fault → Answer
-faulted (form p) = Unwritten
-faulted (Limit p) = Limits
 
 -- What serves the code alone: the normal form of an item that was read is a line.
 abbrev pub shortStored : Stored → List ℕ → Type 0

@@ -3,7 +3,8 @@ ghost use mathlib.Core.Path.{_≡_};
 ghost use Rattle.session.specs.Lent.{world};
 ghost use Rattle.read.specs.declared.Read.the-variants.{Taken as Reads};
 ghost use Rattle.results.specs.Result.{ran};
-ghost use Rattle.commands.specs.Running.{ranRead, lineBy, faulted, short};
+ghost use Rattle.commands.specs.Rows.{faultAnswer};
+ghost use Rattle.commands.specs.Running.{ranRead, lineBy, short};
 use crate::records::record;
 use crate::runs::run;
 use read::Command;
@@ -17,7 +18,7 @@ use store::Found;
 
 // [6] or [7].
 fn fault_answer(fault: Fault) -> Answer
-    ensures { λ r. ⌜ r ≡ faulted fault ⌝ }
+    ensures { λ r. ⌜ r ≡ faultAnswer fault ⌝ }
 {
     match fault {
         Fault::Form(_) => Answer::Unwritten,

@@ -38,7 +38,8 @@ use Rattle.normal.specs.Written.{kept, cased, whatWritten, normal}
 use Rattle.normal.specs.Contents.{unplaced, pieces, held, heldBy, contentsOf, headContents, contents}
 use Rattle.normal.proofs.Back.{text-fits}
 use Rattle.normal.proofs.Data.{a-text, a-variable, a-counter, Chain, ended, then, chain-of}
-use Rattle.normal.proofs.Round.{Normal, item-parted}
+use Rattle.normal.specs.Promise.{Normal}
+use Rattle.normal.proofs.Round.{item-parted}
 use Rattle.forms.specs.declared.Verdict.{Verdict}
 use Rattle.forms.specs.declared.Verdict.the-variants.{Taken, Again}
 use Rattle.forms.specs.Judged.{ofData, judgedData, judged}

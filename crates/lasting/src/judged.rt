@@ -88,7 +88,7 @@ fn choose(file: &[u8]) -> Verdict
 pub fn judge(file: &[u8]) -> Verdict
     ensures { λ r. ⌜ r ≡ judged (now (file .entry)) ⌝ }
 {
-    if !alike::same(part(file, 0, 16), b"Skeinferry store") {
+    if !normal::same(part(file, 0, 16), b"Skeinferry store") {
         return Verdict::Foreign;
     }
     if two_at(file, 16) != 1 {

@@ -71,6 +71,7 @@ use Rattle.grammar.specs.declared.Head.the-variants.{Row, Unknown}
 use Rattle.read.proofs.Rows.{Split, fields-split}
 use Rattle.normal.specs.Written.{decimal, writtenField, writtenFrom, writtenOf, headWritten, normal, isItem as isItemCommand}
 use Rattle.normal.specs.Contents.{unplaced, heldBy, contentsOf, headContents, contents}
+use Rattle.normal.specs.Promise.{Normal}
 use Rattle.normal.proofs.Back.{allIn, T-true, number-fits, digits-class, digits-count}
 use Rattle.normal.proofs.Fields.{Letter, letter-of, a-number, a-wide, a-step, a-prompt, a-text, a-name, a-star, a-mode, a-side, a-type, some-data, itself, After, Moved, field-moved, Plain, plain-written}
 
@@ -472,14 +473,6 @@ unplaced-same row vs ps qs = go (eqb row 2) (eqb row 8) (eqb row 9) (eqb row 10)
     go false false false false false true g = refl
     go false false false false false false true = refl
     go false false false false false false false = refl
-
--- THE NORMAL FORM: the same command, the same contents, and itself when it is written again
-pub record Normal (rows : ℕ) (s : List ℕ) (i : Item) : Type 0 where
-  pub back : Item
-  pub read : readOf rows (normal s) ≡ Taken (item back)
-  pub same : unplaced back ≡ unplaced i
-  pub content : contents (normal s) ≡ contents s
-  pub again : normal (normal s) ≡ normal s
 
 normal-row : (rows : ℕ) (s : List ℕ) (i : Item) (row : ℕ) (vs ps : List ℕ) → headOf s ≡ Row row
     → fieldsFrom (rowOf row .fields) s 0 ≡ good vs ps → limitsFrom (rowOf row .fields) (boundsOf row rows) s 0 vs ps ≡ Within

@@ -276,8 +276,8 @@ fn differs(x: u8, y: u8) -> u8
     if x == y { 0 } else { 1 }
 }
 
-// No early exit, so that many bytes go at once.
-fn same(a: &[u8], b: &[u8]) -> bool
+// Whether two slices hold the same bytes. No early exit, so that many bytes go at once.
+pub fn same(a: &[u8], b: &[u8]) -> bool
     ensures { λ r. ⌜ r ≡ equal (now (a .entry)) (now (b .entry)) ⌝ }
 {
     if a.len() != b.len() {

@@ -2,8 +2,8 @@
 ghost use mathlib.Core.Path.{_≡_};
 ghost use lib.ListN.{getD};
 ghost use Rattle.options.specs.Options.{wordOf, rowsOf};
-use alike::same;
 use fields::Field;
+use normal::same;
 
 pub enum Word {
     Rows,

@@ -235,7 +235,7 @@ pub(crate) fn save(
 ) -> Run {
     let n = lasting::place(next, background, store, links, directory);
     let body = lasting::BODY;
-    let same = alike::same(back(front(next, n), body), back(front(file, n), body));
+    let same = normal::same(back(front(next, n), body), back(front(file, n), body));
     if both(same, run.order < 4294967295) {
         return save_state(run, path, values, file);
     }

@@ -11,7 +11,7 @@ use Rattle.options.proofs.word_of.Statement.{statement}
 use Rattle.options.proofs.word_of.Tie as tie
 use Rattle.options.proofs.word_of.Reads as reads
 use Rattle.options.proofs.word_of.Lts as lts
-use Rattle.alike.proofs.same.Reads as same-reads
+use Rattle.normal.proofs.same.Reads as same-reads
 use Rattle.fields.proofs.byte.Reads as byte-reads
 
 -- src/lib.rt:22:19

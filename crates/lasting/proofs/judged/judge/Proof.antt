@@ -15,7 +15,7 @@ use Rattle.lasting.proofs.judged.judge.Statement.{statement}
 use Rattle.lasting.proofs.judged.judge.Tie as tie
 use Rattle.lasting.proofs.judged.judge.Reads as reads
 use Rattle.lasting.proofs.judged.judge.Lts as lts
-use Rattle.alike.proofs.same.Reads as same-reads
+use Rattle.normal.proofs.same.Reads as same-reads
 use Rattle.lasting.proofs.judged.choose.Reads as choose-reads
 use Rattle.lasting.proofs.judged.file_sum.Reads as file-sum-reads
 use Rattle.lasting.proofs.judged.rows.Reads as rows-reads
