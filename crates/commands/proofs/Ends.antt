@@ -21,8 +21,9 @@ use Rattle.session.specs.declared.answers.Answer.{Answer}
 use Rattle.session.specs.declared.answers.Answer.the-variants.{Taken, Lengths, Long, Misplaced}
 use Rattle.session.specs.Answers.{answerOf, isTaken, numberOf}
 use Rattle.session.specs.Lent.{World, world, rowsOf, wrongLent}
+use Rattle.session.proofs.Rows.{answer-skip}
 use Rattle.results.specs.Result.{done, Ran, ran, ranBy}
-use Rattle.results.proofs.Answers.{cond-map, answer-skip}
+use Rattle.results.proofs.Answers.{cond-map}
 use Rattle.results.proofs.Parts.{onMemory}
 use Rattle.commands.specs.Rows.{recordRows, faultAnswer, lineRows}
 use Rattle.commands.specs.Does.{recordedLine, doesLine, listsLine}

@@ -21,6 +21,7 @@ use results::names::is_missing;
 use results::names::place_of;
 use results::taken;
 use session::Answer;
+use session::NO_FORM;
 use session::Session;
 
 fn start_form(
@@ -74,13 +75,13 @@ fn erase_form(
     }
     if all {
         moves::erase_all(store, links, directory, false);
-        return activate(session, 65535, values);
+        return activate(session, NO_FORM, values);
     }
     let i = place_of(found);
     let active = session.active;
     erase_found(store, links, directory, found);
     if active == i {
-        return activate(session, 65535, values);
+        return activate(session, NO_FORM, values);
     }
     taken(session)
 }

@@ -14,8 +14,9 @@ use Rattle.session.specs.declared.answers.Answer.{Answer}
 use Rattle.session.specs.declared.answers.Answer.the-variants.{Taken, Missing, Again, Undeclared, Past, Unfit, Full}
 use Rattle.session.specs.Answers.{Row, row, answerOf, isTaken, numberOf}
 use Rattle.session.specs.Lent.{world}
+use Rattle.session.proofs.Rows.{answer-skip, answer-stop}
 use Rattle.results.specs.Result.{done, ran, ranBy}
-use Rattle.results.proofs.Answers.{cond-map, cond-true, cond-false, answer-skip, answer-stop}
+use Rattle.results.proofs.Answers.{cond-map, cond-true, cond-false}
 use Rattle.results.proofs.Parts.{onBackground}
 use Rattle.item_commands.specs.Items.{declaredBefore, notDeclared, reachesPast, unfitData, shownBy, itemRows, basedBy, itemRuns, itemBy}
 

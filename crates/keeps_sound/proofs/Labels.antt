@@ -22,7 +22,7 @@ use Rattle.session.specs.declared.answers.Answer.the-variants.{Taken, Lengths}
 use Rattle.session.specs.Answers.{numberOf, isTaken, answerOf}
 use Rattle.session.specs.Session.{withLabels, counting}
 use Rattle.session.specs.Lent.{World, wrongLent}
-use Rattle.results.specs.World.{activeOf, activeDeclared}
+use Rattle.session.specs.Active.{activeOf, activeDeclared}
 use Rattle.results.proofs.Answers.{or-none}
 use Rattle.station.specs.Outcomes.{Drawn, drawnBy, labelled}
 use Rattle.station.specs.Table.{labelTable}

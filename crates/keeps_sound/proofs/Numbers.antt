@@ -24,7 +24,8 @@ use Rattle.sound.specs.Sound.{numbersOk, backgroundOk, activitySound}
 use Rattle.session.specs.declared.Session.{Session}
 use Rattle.session.specs.Session.{sized, turning, based}
 use Rattle.session.specs.Lent.{World, rowsOf}
-use Rattle.results.specs.World.{withBackground, activeOf}
+use Rattle.session.specs.Active.{activeOf}
+use Rattle.results.specs.World.{withBackground}
 use Rattle.results.specs.Result.{sixteenBits}
 use Rattle.item_commands.specs.Items.{drawnOn, basedBy}
 use Rattle.commands.specs.Does.{runs}

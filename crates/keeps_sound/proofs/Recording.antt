@@ -40,7 +40,8 @@ use Rattle.session.specs.declared.Session.{Session}
 use Rattle.session.specs.declared.answers.Answer.the-variants.{Taken, Misplaced, Missing, Again, Undeclared, Past, Unfit, Full}
 use Rattle.session.specs.Answers.{Row, isTaken, numberOf, answerOf}
 use Rattle.session.specs.Lent.{World, rowsOf}
-use Rattle.results.specs.World.{memoryOf, contentAt, activeOf, activeDeclared}
+use Rattle.session.specs.Active.{activeOf, activeDeclared}
+use Rattle.results.specs.World.{memoryOf, contentAt}
 use Rattle.item_commands.specs.Items.{fitRows}
 use Rattle.item_commands.proofs.First.{first-verdict}
 use Rattle.commands.specs.Rows.{recordRows}

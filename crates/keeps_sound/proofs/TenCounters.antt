@@ -32,7 +32,8 @@ use Rattle.session.specs.declared.Session.{Session}
 use Rattle.session.specs.Answers.{isTaken, answerOf}
 use Rattle.session.specs.Session.{activated}
 use Rattle.session.specs.Lent.{World, rowsOf}
-use Rattle.results.specs.World.{State, activeDeclared}
+use Rattle.session.specs.Active.{activeDeclared}
+use Rattle.results.specs.World.{State}
 use Rattle.results.specs.Named.{placeOf, named}
 use Rattle.item_commands.specs.Items.{basedBy}
 use Rattle.commands.specs.Does.{records, runs, placed, doesLine}

@@ -44,7 +44,8 @@ use Rattle.session.specs.declared.answers.Answer.the-variants.{Taken, Misplaced
 use Rattle.session.specs.Answers.{numberOf, isTaken, answerOf}
 use Rattle.session.specs.Session.{blank, activated, counting, owing}
 use Rattle.session.specs.Lent.{World, rowsOf}
-use Rattle.results.specs.World.{memoryOf, withValues, activeOf, activeDeclared}
+use Rattle.session.specs.Active.{activeOf, activeDeclared}
+use Rattle.results.specs.World.{memoryOf, withValues}
 use Rattle.results.specs.Result.{sixteenBits}
 use Rattle.results.specs.Named.{placeOf, named}
 use Rattle.results.proofs.Lengths.{directory-long}

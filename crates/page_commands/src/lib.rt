@@ -17,6 +17,7 @@ use results::Done;
 use results::activate;
 use results::sixteen_bits;
 use results::taken;
+use session::NO_FORM;
 use session::Session;
 
 fn set_length(session: Session, l: Length, background: &mut [u8]) -> Done
@@ -55,7 +56,7 @@ fn whiten(session: Session, background: &mut [u8], values: &mut [u8]) -> Done
     ensures { λ r. ⌜ ran r (world (now (background .exit)) [] [] [] (now (values .exit))) [] ≡ pageBy (world (now (background .entry)) [] [] [] (now (values .entry))) session White ⌝ }
 {
     dots::whiten(background);
-    activate(session, 65535, values)
+    activate(session, NO_FORM, values)
 }
 
 // A command of the page.

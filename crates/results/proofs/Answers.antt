@@ -1,22 +1,7 @@
--- The first row of a table that applies, and choices.
+-- Choices.
 -- Assumes nothing.
 use mathlib.Core.Path.{_≡_, refl}
 use mathlib.Core.Bool.{Bool, true, false, cond, _||_, true≢false}
-use mathlib.Core.List.{List, _∷_}
-use Rattle.session.specs.declared.answers.Answer.{Answer}
-use Rattle.session.specs.Answers.{Row, row, answerOf}
-
--- ---- rows
-
-pub answer-skip : (a : Answer) (b : Bool) (rs : List Row) → b ≡ false → answerOf (row a b ∷ rs) ≡ answerOf rs
-unfolding answerOf
-answer-skip a b rs e = rw e
-
-pub answer-stop : (a : Answer) (b : Bool) (rs : List Row) → b ≡ true → answerOf (row a b ∷ rs) ≡ a
-unfolding answerOf
-answer-stop a b rs e = rw e
-
--- ---- choices
 
 pub cond-map : {A B : Type 0} (f : A → B) (b : Bool) (x y : A) → f (cond b x y) ≡ cond b (f x) (f y)
 cond-map f true x y = refl

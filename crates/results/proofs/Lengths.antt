@@ -1,4 +1,4 @@
--- What is known of lengths that are right: a page has at most 304,000 bytes, a directory at most 8,192.
+-- What is known of lengths that are right: a directory has at most 8,192 bytes.
 -- Assumes nothing.
 use mathlib.Core.Path.{_≡_}
 use mathlib.Core.Bool.{false, not, _||_}
@@ -8,12 +8,6 @@ use lib.Dec.{eqb, ltb}
 use borrow.Author.Tests.{ltb-false}
 use Rattle.session.specs.Lent.{World, wrongLent, pageWrong, storeWrong, directoryWrong, valuesWrong, lengthsWrong}
 use Rattle.results.proofs.Answers.{or-none}
-
-pub page-bound : (b s l d v : ℕ) → lengthsWrong b s l d v ≡ false → b ≤ 304000
-unfolding lengthsWrong pageWrong
-page-bound b s l d v e =
-    let p = or-none (pageWrong b) (storeWrong s l || (directoryWrong d || valuesWrong v)) e .0 in
-    ltb-false _ _ (or-none (ltb b 76) (ltb 304000 b) (or-none (not (eqb (b % 76) 0)) (ltb b 76 || ltb 304000 b) p .1) .1)
 
 pub directory-bound : (b s l d v : ℕ) → lengthsWrong b s l d v ≡ false → d ≤ 8192
 unfolding lengthsWrong directoryWrong

@@ -10,14 +10,15 @@ use Rattle.moves.specs.Erase.{erasedAt, erasedAll}
 use Rattle.read.specs.declared.Named.{Named}
 use Rattle.parts.specs.Names.{packedOf}
 use Rattle.forms.specs.Form.{isAt}
+use Rattle.session.specs.Session.{noForm}
 use Rattle.session.specs.Lent.{World}
 use Rattle.results.specs.World.{memoryOf, withMemory}
 use Rattle.results.specs.Result.{sixteenBits}
 
--- where an entry was found, as a session keeps it; 65535 where there is none
+-- where an entry was found, as a session keeps it
 abbrev pub placeOf : Found → ℕ
 placeOf (At i) = sixteenBits i
-placeOf Nothing = 65535
+placeOf Nothing = noForm
 
 -- the entry of a form (false) or picture (true) by the name that a command gives
 abbrev pub lookup : World → Bool → List ℕ → ℕ → ℕ → Found

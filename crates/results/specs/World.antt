@@ -1,16 +1,12 @@
 -- What a command is lent, and the views of it that commands speak of.
 -- Assumes nothing.
 use Prim.Native.Nat.{ℕ}
-use mathlib.Core.Bool.{Bool, true, false}
 use mathlib.Core.List.{List}
-use Rattle.values.specs.declared.declarations.Declared.{Declared}
 use Rattle.values.specs.Stored.{unset}
 use Rattle.store.specs.Content.{content}
 use Rattle.moves.specs.Memory.{Memory, memory}
-use Rattle.forms.specs.Form.{declaredOf}
-use Rattle.sound.specs.Sound.{activeBytes}
 use Rattle.session.specs.declared.Session.{Session}
-use Rattle.session.specs.Session.{activated}
+use Rattle.session.specs.Session.{noForm, activated}
 use Rattle.session.specs.Lent.{World, world}
 
 -- the session and the lent lists together
@@ -39,18 +35,10 @@ withValues w v = world (w .background) (w .store) (w .links) (w .directory) v
 abbrev pub contentAt : World → ℕ → List ℕ
 contentAt w i = content (w .store) (w .links) (w .directory) i
 
--- the bytes of the active form, and what it declares
-abbrev pub activeOf : World → Session → List ℕ
-activeOf w s = activeBytes (w .store) (w .links) (w .directory) (s .active)
-
-abbrev pub activeDeclared : World → Session → Declared
-activeDeclared w s = declaredOf (activeOf w s)
-
--- one of two outcomes
 -- "FR unsets all values; so does the end of activity, by N or FK": the variables; the counters go with `activated`
 abbrev pub unsetIn : World → World
 unsetIn w = withValues w (unset (w .values))
 
 -- no form is active any more
 abbrev pub inactive : Session → World → State
-inactive s w = state (activated s 65535) (unsetIn w)
+inactive s w = state (activated s noForm) (unsetIn w)

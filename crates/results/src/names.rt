@@ -10,6 +10,7 @@ ghost use Rattle.results.specs.Named.{placeOf, erasedNamed};
 use crate::sixteen_bits;
 use parts::packed;
 use read::Named;
+use session::NO_FORM;
 use store::Found;
 
 pub fn is_at(found: Found) -> bool
@@ -39,13 +40,13 @@ pub fn is_missing(n: Named, found: Found) -> bool
     if all { false } else { !is_at(found) }
 }
 
-// An entry's number as a session keeps it, 65535 for none.
+// An entry's number as a session keeps it, `NO_FORM` for none.
 pub fn place_of(found: Found) -> u16
     ensures { λ r. ⌜ r ≡ placeOf found ⌝ }
 {
     match found {
         Found::At(i) => sixteen_bits(i),
-        Found::Nothing => 65535,
+        Found::Nothing => NO_FORM,
     }
 }
 

@@ -19,7 +19,8 @@ use Rattle.session.specs.declared.answers.Answer.the-variants.{Taken, Missing, 
 use Rattle.session.specs.Answers.{Row, row, answerOf}
 use Rattle.session.specs.Session.{counting, owing}
 use Rattle.session.specs.Lent.{World}
-use Rattle.results.specs.World.{State, state, withValues, unsetIn, activeOf, activeDeclared}
+use Rattle.session.specs.Active.{activeOf, activeDeclared}
+use Rattle.results.specs.World.{State, state, withValues, unsetIn}
 use Rattle.results.specs.Result.{sixteenBits, Ran, ranBy}
 
 -- the table's answers of what entering a value answers
