@@ -5,10 +5,6 @@ use mathlib.Core.Path.{refl}
 use borrow.Author.Needs.{needs}
 use Rattle.intake.proofs.shift.Statement.{statement}
 use Rattle.intake.proofs.shift.Tie as tie
-use Rattle.intake.proofs.shift.Reads as reads
-use Rattle.intake.proofs.shift.Lts as lts
-use Rattle.values.proofs.bytes.less.Reads as less-reads
-use Rattle.values.proofs.bytes.least.Reads as least-reads
 
 abbrev Inv-loop : tie.InvT-loop
 Inv-loop window₀ start end n i₀ window i = Shifting window₀ (part window₀ start end) window i

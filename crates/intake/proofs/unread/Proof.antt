@@ -1,10 +1,6 @@
 use borrow.Author.Needs.{needs}
 use Rattle.intake.proofs.unread.Statement.{statement}
 use Rattle.intake.proofs.unread.Tie as tie
-use Rattle.intake.proofs.unread.Reads as reads
-use Rattle.intake.proofs.unread.Lts as lts
-use Rattle.values.proofs.bytes.back.Reads as back-reads
-use Rattle.values.proofs.bytes.front.Reads as front-reads
 
 -- src/lib.rt:20:10
 front-requires : tie.Need-front-requires

@@ -3,9 +3,6 @@ use Rattle.options.specs.Options.{rowsOf}
 use borrow.Author.Needs.{needs}
 use Rattle.options.proofs.rows.Statement.{statement}
 use Rattle.options.proofs.rows.Tie as tie
-use Rattle.options.proofs.rows.Reads as reads
-use Rattle.options.proofs.rows.Lts as lts
-use Rattle.fields.proofs.number.Reads as number-reads
 
 -- src/lib.rt:47:29
 number-requires : tie.Need-number-requires

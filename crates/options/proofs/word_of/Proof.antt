@@ -9,10 +9,6 @@ use Rattle.options.specs.Options.{wordOf}
 use borrow.Author.Needs.{needs}
 use Rattle.options.proofs.word_of.Statement.{statement}
 use Rattle.options.proofs.word_of.Tie as tie
-use Rattle.options.proofs.word_of.Reads as reads
-use Rattle.options.proofs.word_of.Lts as lts
-use Rattle.normal.proofs.same.Reads as same-reads
-use Rattle.fields.proofs.byte.Reads as byte-reads
 
 -- src/lib.rt:22:19
 slice-aggregate-same : tie.Need-slice-aggregate-same

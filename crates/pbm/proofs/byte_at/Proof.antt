@@ -1,11 +1,6 @@
 use borrow.Author.Needs.{needs}
 use Rattle.pbm.proofs.byte_at.Statement.{statement}
 use Rattle.pbm.proofs.byte_at.Tie as tie
-use Rattle.pbm.proofs.byte_at.Reads as reads
-use Rattle.pbm.proofs.byte_at.Lts as lts
-use Rattle.pbm.proofs.cut.Reads as cut-reads
-use Rattle.values.proofs.bytes.byte.Reads as byte-reads
-use Rattle.values.proofs.bytes.less.Reads as less-reads
 
 -- src/lib.rt:46:30
 mul-less : tie.Need-mul-less

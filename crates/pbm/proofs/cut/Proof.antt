@@ -4,8 +4,6 @@ use Rattle.pbm.proofs.Rows.{cut-whole}
 use borrow.Author.Needs.{needs}
 use Rattle.pbm.proofs.cut.Statement.{statement}
 use Rattle.pbm.proofs.cut.Tie as tie
-use Rattle.pbm.proofs.cut.Reads as reads
-use Rattle.pbm.proofs.cut.Lts as lts
 
 -- src/lib.rt:30:14
 mul-result : tie.Need-mul-result

@@ -2,10 +2,6 @@ use Rattle.normal.proofs.Writes.{wrote-then}
 use borrow.Author.Needs.{needs}
 use Rattle.pbm.proofs.picture.Statement.{statement}
 use Rattle.pbm.proofs.picture.Tie as tie
-use Rattle.pbm.proofs.picture.Reads as reads
-use Rattle.pbm.proofs.picture.Lts as lts
-use Rattle.pbm.proofs.put_head.Reads as put-head-reads
-use Rattle.pbm.proofs.put_rows.Reads as put-rows-reads
 
 -- src/lib.rt:107:9
 put-head-requires : tie.Need-put-head-requires

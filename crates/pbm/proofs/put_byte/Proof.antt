@@ -5,10 +5,6 @@ use Rattle.normal.proofs.Writes.{wrote-same}
 use borrow.Author.Needs.{needs}
 use Rattle.pbm.proofs.put_byte.Statement.{statement}
 use Rattle.pbm.proofs.put_byte.Tie as tie
-use Rattle.pbm.proofs.put_byte.Reads as reads
-use Rattle.pbm.proofs.put_byte.Lts as lts
-use Rattle.pbm.proofs.byte_at.Reads as byte-at-reads
-use Rattle.words.proofs.put.Reads as put-reads
 
 -- src/lib.rt:60:14
 byte-at-requires : tie.Need-byte-at-requires

@@ -3,10 +3,6 @@ use Rattle.normal.proofs.Writes.{wrote-then}
 use borrow.Author.Needs.{needs}
 use Rattle.pbm.proofs.put_head.Statement.{statement}
 use Rattle.pbm.proofs.put_head.Tie as tie
-use Rattle.pbm.proofs.put_head.Reads as reads
-use Rattle.pbm.proofs.put_head.Lts as lts
-use Rattle.normal.proofs.put_decimal.Reads as put-decimal-reads
-use Rattle.words.proofs.put.Reads as put-reads
 
 -- src/lib.rt:96:27
 slice-aggregate-put : tie.Need-slice-aggregate-put

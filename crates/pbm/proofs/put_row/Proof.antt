@@ -9,10 +9,6 @@ use Rattle.pbm.proofs.Rows.{row-next, row-last}
 use borrow.Author.Needs.{needs}
 use Rattle.pbm.proofs.put_row.Statement.{statement}
 use Rattle.pbm.proofs.put_row.Tie as tie
-use Rattle.pbm.proofs.put_row.Reads as reads
-use Rattle.pbm.proofs.put_row.Lts as lts
-use Rattle.pbm.proofs.put_byte.Reads as put-byte-reads
-use Rattle.pbm.proofs.row_bytes.Reads as row-bytes-reads
 
 abbrev Inv-loop : tie.InvT-loop
 Inv-loop page width from out₀ at n place₀ j₀ out place j = Rest out₀ at (rowFrom page width from 0 n) out place (rowFrom page width from j (n - j)) × (length out ≡ length out₀)

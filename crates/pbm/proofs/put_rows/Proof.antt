@@ -8,9 +8,6 @@ use Rattle.pbm.proofs.Rows.{none-yet, rows-next, rows-last}
 use borrow.Author.Needs.{needs}
 use Rattle.pbm.proofs.put_rows.Statement.{statement}
 use Rattle.pbm.proofs.put_rows.Tie as tie
-use Rattle.pbm.proofs.put_rows.Reads as reads
-use Rattle.pbm.proofs.put_rows.Lts as lts
-use Rattle.pbm.proofs.put_row.Reads as put-row-reads
 
 abbrev Inv-loop : tie.InvT-loop
 Inv-loop page width rows out₀ at n place₀ y₀ out place y = Rest out₀ at (rowsFrom page width 0 n) out place (rowsFrom page width y (n - y)) × (length out ≡ length out₀)

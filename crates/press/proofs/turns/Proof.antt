@@ -4,9 +4,6 @@ use lib.ListN.{length}
 use borrow.Author.Needs.{needs}
 use Rattle.press.proofs.turns.Statement.{statement}
 use Rattle.press.proofs.turns.Tie as tie
-use Rattle.press.proofs.turns.Reads as reads
-use Rattle.press.proofs.turns.Lts as lts
-use Rattle.press.proofs.turn.Reads as turn-reads
 
 abbrev Inv-loop : tie.InvT-loop
 Inv-loop s prefix path font blank page₀ background₀ store₀ links₀ directory₀ values₀ output₀ window₀ file₀ next₀ run₀ left₀ page background store links directory values output window file next run left =

@@ -7,9 +7,6 @@ use Rattle.words.proofs.Slashes.{slash-next, slash-end}
 use borrow.Author.Needs.{needs}
 use Rattle.words.proofs.folder_length.Statement.{statement}
 use Rattle.words.proofs.folder_length.Tie as tie
-use Rattle.words.proofs.folder_length.Reads as reads
-use Rattle.words.proofs.folder_length.Lts as lts
-use Rattle.words.proofs.slash.Reads as slash-reads
 
 abbrev Inv-loop : tie.InvT-loop
 Inv-loop path best₀ i₀ best i = lastSlash i best (drop i path) ≡ lastSlash 0 0 path

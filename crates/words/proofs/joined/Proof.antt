@@ -2,9 +2,6 @@ use Rattle.normal.proofs.Writes.{wrote-then}
 use borrow.Author.Needs.{needs}
 use Rattle.words.proofs.joined.Statement.{statement}
 use Rattle.words.proofs.joined.Tie as tie
-use Rattle.words.proofs.joined.Reads as reads
-use Rattle.words.proofs.joined.Lts as lts
-use Rattle.words.proofs.put.Reads as put-reads
 
 -- src/lib.rt:103:9
 put-requires : tie.Need-put-requires

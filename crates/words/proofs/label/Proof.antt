@@ -2,10 +2,6 @@ use Rattle.normal.proofs.Writes.{wrote-then}
 use borrow.Author.Needs.{needs}
 use Rattle.words.proofs.label.Statement.{statement}
 use Rattle.words.proofs.label.Tie as tie
-use Rattle.words.proofs.label.Reads as reads
-use Rattle.words.proofs.label.Lts as lts
-use Rattle.words.proofs.put_size.Reads as put-size-reads
-use Rattle.words.proofs.put_which.Reads as put-which-reads
 
 -- src/lib.rt:144:9
 put-which-requires : tie.Need-put-which-requires

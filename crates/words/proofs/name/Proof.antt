@@ -3,11 +3,6 @@ use Rattle.normal.proofs.Writes.{wrote-then}
 use borrow.Author.Needs.{needs}
 use Rattle.words.proofs.name.Statement.{statement}
 use Rattle.words.proofs.name.Tie as tie
-use Rattle.words.proofs.name.Reads as reads
-use Rattle.words.proofs.name.Lts as lts
-use Rattle.normal.proofs.put_decimal.Reads as put-decimal-reads
-use Rattle.words.proofs.put.Reads as put-reads
-use Rattle.words.proofs.put_zeros.Reads as put-zeros-reads
 
 -- src/lib.rt:92:9
 put-requires : tie.Need-put-requires

@@ -3,10 +3,6 @@ use Rattle.normal.proofs.Writes.{wrote-past}
 use borrow.Author.Needs.{needs}
 use Rattle.words.proofs.put.Statement.{statement}
 use Rattle.words.proofs.put.Tie as tie
-use Rattle.words.proofs.put.Reads as reads
-use Rattle.words.proofs.put.Lts as lts
-use Rattle.values.proofs.bytes.least.Reads as least-reads
-use Rattle.values.proofs.bytes.put.Reads as put-reads
 
 -- src/lib.rt:20:9
 returns : tie.Need-returns

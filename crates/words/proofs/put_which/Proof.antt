@@ -3,10 +3,6 @@ use Rattle.normal.proofs.Writes.{wrote-then}
 use borrow.Author.Needs.{needs}
 use Rattle.words.proofs.put_which.Statement.{statement}
 use Rattle.words.proofs.put_which.Tie as tie
-use Rattle.words.proofs.put_which.Reads as reads
-use Rattle.words.proofs.put_which.Lts as lts
-use Rattle.normal.proofs.put_decimal.Reads as put-decimal-reads
-use Rattle.words.proofs.put.Reads as put-reads
 
 -- src/lib.rt:111:29
 slice-aggregate-put : tie.Need-slice-aggregate-put

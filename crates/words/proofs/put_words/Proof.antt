@@ -2,9 +2,6 @@ use Rattle.words.specs.Words.{wordsOf}
 use borrow.Author.Needs.{needs}
 use Rattle.words.proofs.put_words.Statement.{statement}
 use Rattle.words.proofs.put_words.Tie as tie
-use Rattle.words.proofs.put_words.Reads as reads
-use Rattle.words.proofs.put_words.Lts as lts
-use Rattle.words.proofs.put.Reads as put-reads
 
 -- src/lib.rt:32:30
 enum-told : tie.Need-enum-told

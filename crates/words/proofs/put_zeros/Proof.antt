@@ -3,9 +3,6 @@ use borrow.Author.Tests.{lt-ltb, le-ltb}
 use borrow.Author.Needs.{needs}
 use Rattle.words.proofs.put_zeros.Statement.{statement}
 use Rattle.words.proofs.put_zeros.Tie as tie
-use Rattle.words.proofs.put_zeros.Reads as reads
-use Rattle.words.proofs.put_zeros.Lts as lts
-use Rattle.words.proofs.put.Reads as put-reads
 
 -- src/lib.rt:77:29
 slice-aggregate-put : tie.Need-slice-aggregate-put

@@ -5,12 +5,6 @@ use Rattle.normal.proofs.Writes.{wrote-then, wrote-same, wrote-length}
 use borrow.Author.Needs.{needs}
 use Rattle.words.proofs.said.Statement.{statement}
 use Rattle.words.proofs.said.Tie as tie
-use Rattle.words.proofs.said.Reads as reads
-use Rattle.words.proofs.said.Lts as lts
-use Rattle.normal.proofs.put_decimal.Reads as put-decimal-reads
-use Rattle.session.proofs.answers.number.Reads as number-reads
-use Rattle.words.proofs.put.Reads as put-reads
-use Rattle.words.proofs.put_words.Reads as put-words-reads
 
 -- src/lib.rt:61:29
 slice-aggregate-put : tie.Need-slice-aggregate-put

@@ -2,8 +2,6 @@ use borrow.Author.Tests.{eq-eqb, ne-eqb}
 use borrow.Author.Needs.{needs}
 use Rattle.words.proofs.slash.Statement.{statement}
 use Rattle.words.proofs.slash.Tie as tie
-use Rattle.words.proofs.slash.Reads as reads
-use Rattle.words.proofs.slash.Lts as lts
 
 -- src/lib.rt:133:1
 returns : tie.Need-returns

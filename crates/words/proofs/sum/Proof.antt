@@ -3,10 +3,6 @@ use Rattle.normal.proofs.Writes.{wrote-then}
 use borrow.Author.Needs.{needs}
 use Rattle.words.proofs.sum.Statement.{statement}
 use Rattle.words.proofs.sum.Tie as tie
-use Rattle.words.proofs.sum.Reads as reads
-use Rattle.words.proofs.sum.Lts as lts
-use Rattle.normal.proofs.put_decimal.Reads as put-decimal-reads
-use Rattle.words.proofs.put.Reads as put-reads
 
 -- src/lib.rt:124:9
 put-decimal-requires : tie.Need-put-decimal-requires

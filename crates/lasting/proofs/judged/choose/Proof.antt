@@ -2,12 +2,6 @@ use Rattle.lasting.proofs.Verdicts.{chosen-second, chosen-first, chosen
 use borrow.Author.Needs.{needs}
 use Rattle.lasting.proofs.judged.choose.Statement.{statement}
 use Rattle.lasting.proofs.judged.choose.Tie as tie
-use Rattle.lasting.proofs.judged.choose.Reads as reads
-use Rattle.lasting.proofs.judged.choose.Lts as lts
-use Rattle.lasting.proofs.judged.is_whole.Reads as is-whole-reads
-use Rattle.lasting.proofs.parts.four_at.Reads as four-at-reads
-use Rattle.values.proofs.bytes.both.Reads as both-reads
-use Rattle.values.proofs.bytes.either.Reads as either-reads
 
 -- src/judged.rt:75:9
 is-whole-requires : tie.Need-is-whole-requires

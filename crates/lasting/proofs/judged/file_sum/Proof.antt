@@ -2,11 +2,6 @@ use Rattle.lasting.specs.File.{fileSum}
 use borrow.Author.Needs.{needs}
 use Rattle.lasting.proofs.judged.file_sum.Statement.{statement}
 use Rattle.lasting.proofs.judged.file_sum.Tie as tie
-use Rattle.lasting.proofs.judged.file_sum.Reads as reads
-use Rattle.lasting.proofs.judged.file_sum.Lts as lts
-use Rattle.lasting.proofs.judged.rows.Reads as rows-reads
-use Rattle.lasting.proofs.parts.part.Reads as part-reads
-use Rattle.lasting.proofs.parts.sum.Reads as sum-reads
 
 -- src/judged.rt:47:23
 part-requires : tie.Need-part-requires

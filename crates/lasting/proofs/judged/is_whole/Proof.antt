@@ -1,11 +1,6 @@
 use borrow.Author.Needs.{needs}
 use Rattle.lasting.proofs.judged.is_whole.Statement.{statement}
 use Rattle.lasting.proofs.judged.is_whole.Tie as tie
-use Rattle.lasting.proofs.judged.is_whole.Reads as reads
-use Rattle.lasting.proofs.judged.is_whole.Lts as lts
-use Rattle.lasting.proofs.parts.four_at.Reads as four-at-reads
-use Rattle.lasting.proofs.parts.part.Reads as part-reads
-use Rattle.lasting.proofs.parts.sum.Reads as sum-reads
 
 -- src/judged.rt:57:30
 add-four-at : tie.Need-add-four-at

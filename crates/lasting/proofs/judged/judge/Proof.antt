@@ -13,16 +13,6 @@ use Rattle.lasting.proofs.Verdicts.{judged-by}
 use borrow.Author.Needs.{needs}
 use Rattle.lasting.proofs.judged.judge.Statement.{statement}
 use Rattle.lasting.proofs.judged.judge.Tie as tie
-use Rattle.lasting.proofs.judged.judge.Reads as reads
-use Rattle.lasting.proofs.judged.judge.Lts as lts
-use Rattle.normal.proofs.same.Reads as same-reads
-use Rattle.lasting.proofs.judged.choose.Reads as choose-reads
-use Rattle.lasting.proofs.judged.file_sum.Reads as file-sum-reads
-use Rattle.lasting.proofs.judged.rows.Reads as rows-reads
-use Rattle.lasting.proofs.judged.sizes_wrong.Reads as sizes-wrong-reads
-use Rattle.lasting.proofs.parts.four_at.Reads as four-at-reads
-use Rattle.lasting.proofs.parts.part.Reads as part-reads
-use Rattle.lasting.proofs.parts.two_at.Reads as two-at-reads
 
 -- src/judged.rt:91:21
 part-requires : tie.Need-part-requires

@@ -1,10 +1,6 @@
 use borrow.Author.Needs.{needs}
 use Rattle.lasting.proofs.judged.sizes_wrong.Statement.{statement}
 use Rattle.lasting.proofs.judged.sizes_wrong.Tie as tie
-use Rattle.lasting.proofs.judged.sizes_wrong.Reads as reads
-use Rattle.lasting.proofs.judged.sizes_wrong.Lts as lts
-use Rattle.lasting.proofs.parts.two_at.Reads as two-at-reads
-use Rattle.values.proofs.bytes.either.Reads as either-reads
 
 -- src/judged.rt:34:9
 two-at-requires : tie.Need-two-at-requires

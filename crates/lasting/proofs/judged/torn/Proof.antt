@@ -1,11 +1,6 @@
 use borrow.Author.Needs.{needs}
 use Rattle.lasting.proofs.judged.torn.Statement.{statement}
 use Rattle.lasting.proofs.judged.torn.Tie as tie
-use Rattle.lasting.proofs.judged.torn.Reads as reads
-use Rattle.lasting.proofs.judged.torn.Lts as lts
-use Rattle.lasting.proofs.judged.is_whole.Reads as is-whole-reads
-use Rattle.lasting.proofs.parts.four_at.Reads as four-at-reads
-use Rattle.values.proofs.bytes.both.Reads as both-reads
 
 -- src/judged.rt:66:21
 mul-at : tie.Need-mul-at

@@ -2,10 +2,6 @@ use Rattle.face.proofs.Numbers.{long-number}
 use borrow.Author.Needs.{needs}
 use Rattle.lasting.proofs.parts.four_at.Statement.{statement}
 use Rattle.lasting.proofs.parts.four_at.Tie as tie
-use Rattle.lasting.proofs.parts.four_at.Reads as reads
-use Rattle.lasting.proofs.parts.four_at.Lts as lts
-use Rattle.lasting.proofs.parts.joined.Reads as joined-reads
-use Rattle.lasting.proofs.parts.two_at.Reads as two-at-reads
 
 -- src/parts.rt:44:9
 two-at-requires : tie.Need-two-at-requires

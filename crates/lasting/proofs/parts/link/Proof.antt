@@ -5,8 +5,6 @@ use lib.ListN.{List·getD-eq-default}
 use borrow.Author.Needs.{needs}
 use Rattle.lasting.proofs.parts.link.Statement.{statement}
 use Rattle.lasting.proofs.parts.link.Tie as tie
-use Rattle.lasting.proofs.parts.link.Reads as reads
-use Rattle.lasting.proofs.parts.link.Lts as lts
 
 -- src/parts.rt:92:26
 mul-result : tie.Need-mul-result

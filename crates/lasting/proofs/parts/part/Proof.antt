@@ -1,10 +1,6 @@
 use borrow.Author.Needs.{needs}
 use Rattle.lasting.proofs.parts.part.Statement.{statement}
 use Rattle.lasting.proofs.parts.part.Tie as tie
-use Rattle.lasting.proofs.parts.part.Reads as reads
-use Rattle.lasting.proofs.parts.part.Lts as lts
-use Rattle.values.proofs.bytes.back.Reads as back-reads
-use Rattle.values.proofs.bytes.front.Reads as front-reads
 
 -- src/parts.rt:16:11
 back-requires : tie.Need-back-requires

@@ -2,9 +2,6 @@ use Rattle.face.specs.Image.{bytesOf}
 use borrow.Author.Needs.{needs}
 use Rattle.lasting.proofs.parts.put_four.Statement.{statement}
 use Rattle.lasting.proofs.parts.put_four.Tie as tie
-use Rattle.lasting.proofs.parts.put_four.Reads as reads
-use Rattle.lasting.proofs.parts.put_four.Lts as lts
-use Rattle.values.proofs.bytes.put.Reads as put-reads
 
 -- src/parts.rt:60:9
 cast-t6 : tie.Need-cast-t6

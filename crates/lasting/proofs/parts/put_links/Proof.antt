@@ -7,10 +7,6 @@ use Rattle.lasting.proofs.Lists.{putting, put-next, put-end, start-putt
 use borrow.Author.Needs.{needs}
 use Rattle.lasting.proofs.parts.put_links.Statement.{statement}
 use Rattle.lasting.proofs.parts.put_links.Tie as tie
-use Rattle.lasting.proofs.parts.put_links.Reads as reads
-use Rattle.lasting.proofs.parts.put_links.Lts as lts
-use Rattle.lasting.proofs.parts.link.Reads as link-reads
-use Rattle.lasting.proofs.parts.put_two.Reads as put-two-reads
 
 abbrev Inv-loop : tie.InvT-loop
 Inv-loop file₀ at links i₀ file i = (putting links at i file ≡ putting links at 0 file₀) × (length file ≡ length file₀)

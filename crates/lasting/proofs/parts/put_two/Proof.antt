@@ -2,9 +2,6 @@ use Rattle.face.specs.Image.{bytesOf}
 use borrow.Author.Needs.{needs}
 use Rattle.lasting.proofs.parts.put_two.Statement.{statement}
 use Rattle.lasting.proofs.parts.put_two.Tie as tie
-use Rattle.lasting.proofs.parts.put_two.Reads as reads
-use Rattle.lasting.proofs.parts.put_two.Lts as lts
-use Rattle.values.proofs.bytes.put.Reads as put-reads
 
 -- src/parts.rt:52:18
 cast-t6 : tie.Need-cast-t6

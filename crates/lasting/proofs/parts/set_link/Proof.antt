@@ -3,8 +3,6 @@ use lib.Seq.{set-out}
 use borrow.Author.Needs.{needs}
 use Rattle.lasting.proofs.parts.set_link.Statement.{statement}
 use Rattle.lasting.proofs.parts.set_link.Tie as tie
-use Rattle.lasting.proofs.parts.set_link.Reads as reads
-use Rattle.lasting.proofs.parts.set_link.Lts as lts
 
 -- src/parts.rt:111:9
 mul-links : tie.Need-mul-links

@@ -7,9 +7,6 @@ use Rattle.lasting.proofs.Lists.{sum-next, sum-end}
 use borrow.Author.Needs.{needs}
 use Rattle.lasting.proofs.parts.sum.Statement.{statement}
 use Rattle.lasting.proofs.parts.sum.Tie as tie
-use Rattle.lasting.proofs.parts.sum.Reads as reads
-use Rattle.lasting.proofs.parts.sum.Lts as lts
-use Rattle.lasting.proofs.parts.step.Reads as step-reads
 
 abbrev Inv-loop : tie.InvT-loop
 Inv-loop start bytes s₀ i₀ s i = (summed s (drop i bytes) ≡ sumOn start bytes) × (s < prime)

@@ -6,10 +6,6 @@ use Rattle.lasting.proofs.Lists.{taking, take-next, take-end, start-tak
 use borrow.Author.Needs.{needs}
 use Rattle.lasting.proofs.parts.take_links.Statement.{statement}
 use Rattle.lasting.proofs.parts.take_links.Tie as tie
-use Rattle.lasting.proofs.parts.take_links.Reads as reads
-use Rattle.lasting.proofs.parts.take_links.Lts as lts
-use Rattle.lasting.proofs.parts.set_link.Reads as set-link-reads
-use Rattle.lasting.proofs.parts.two_at.Reads as two-at-reads
 
 abbrev Inv-loop : tie.InvT-loop
 Inv-loop file at links₀ i₀ links i = (taking file at i links ≡ taking file at 0 links₀) × (length links ≡ length links₀)

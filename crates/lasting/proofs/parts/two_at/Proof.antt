@@ -2,10 +2,6 @@ use Rattle.face.proofs.Numbers.{word-number}
 use borrow.Author.Needs.{needs}
 use Rattle.lasting.proofs.parts.two_at.Statement.{statement}
 use Rattle.lasting.proofs.parts.two_at.Tie as tie
-use Rattle.lasting.proofs.parts.two_at.Reads as reads
-use Rattle.lasting.proofs.parts.two_at.Lts as lts
-use Rattle.lasting.proofs.parts.pair.Reads as pair-reads
-use Rattle.values.proofs.bytes.byte.Reads as byte-reads
 
 -- src/parts.rt:36:10
 byte-requires : tie.Need-byte-requires

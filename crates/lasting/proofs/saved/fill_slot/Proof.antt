@@ -1,13 +1,6 @@
 use borrow.Author.Needs.{needs}
 use Rattle.lasting.proofs.saved.fill_slot.Statement.{statement}
 use Rattle.lasting.proofs.saved.fill_slot.Tie as tie
-use Rattle.lasting.proofs.saved.fill_slot.Reads as reads
-use Rattle.lasting.proofs.saved.fill_slot.Lts as lts
-use Rattle.lasting.proofs.parts.put_four.Reads as put-four-reads
-use Rattle.lasting.proofs.saved.put_session.Reads as put-session-reads
-use Rattle.lasting.proofs.saved.slot_at.Reads as slot-at-reads
-use Rattle.values.proofs.bytes.front.Reads as front-reads
-use Rattle.values.proofs.bytes.put.Reads as put-reads
 
 -- src/saved.rt:43:9
 slot-at-requires : tie.Need-slot-at-requires

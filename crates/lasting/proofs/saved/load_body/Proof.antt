@@ -1,11 +1,6 @@
 use borrow.Author.Needs.{needs}
 use Rattle.lasting.proofs.saved.load_body.Statement.{statement}
 use Rattle.lasting.proofs.saved.load_body.Tie as tie
-use Rattle.lasting.proofs.saved.load_body.Reads as reads
-use Rattle.lasting.proofs.saved.load_body.Lts as lts
-use Rattle.lasting.proofs.parts.part.Reads as part-reads
-use Rattle.lasting.proofs.parts.take_links.Reads as take-links-reads
-use Rattle.values.proofs.bytes.put.Reads as put-reads
 
 -- src/saved.rt:139:23
 part-requires : tie.Need-part-requires

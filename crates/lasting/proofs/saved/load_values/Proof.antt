@@ -1,10 +1,6 @@
 use borrow.Author.Needs.{needs}
 use Rattle.lasting.proofs.saved.load_values.Statement.{statement}
 use Rattle.lasting.proofs.saved.load_values.Tie as tie
-use Rattle.lasting.proofs.saved.load_values.Reads as reads
-use Rattle.lasting.proofs.saved.load_values.Lts as lts
-use Rattle.lasting.proofs.parts.part.Reads as part-reads
-use Rattle.values.proofs.bytes.put.Reads as put-reads
 
 -- src/saved.rt:127:38
 mul-part : tie.Need-mul-part

@@ -3,11 +3,6 @@ use Rattle.lasting.specs.File.{placed}
 use borrow.Author.Needs.{needs}
 use Rattle.lasting.proofs.saved.place.Statement.{statement}
 use Rattle.lasting.proofs.saved.place.Tie as tie
-use Rattle.lasting.proofs.saved.place.Reads as reads
-use Rattle.lasting.proofs.saved.place.Lts as lts
-use Rattle.lasting.proofs.parts.put_links.Reads as put-links-reads
-use Rattle.lasting.proofs.saved.put_head.Reads as put-head-reads
-use Rattle.values.proofs.bytes.put.Reads as put-reads
 
 -- src/saved.rt:87:16
 cast-rows : tie.Need-cast-rows

@@ -1,10 +1,6 @@
 use borrow.Author.Needs.{needs}
 use Rattle.lasting.proofs.saved.put_head.Statement.{statement}
 use Rattle.lasting.proofs.saved.put_head.Tie as tie
-use Rattle.lasting.proofs.saved.put_head.Reads as reads
-use Rattle.lasting.proofs.saved.put_head.Lts as lts
-use Rattle.lasting.proofs.parts.put_two.Reads as put-two-reads
-use Rattle.values.proofs.bytes.put.Reads as put-reads
 
 -- src/saved.rt:70:18
 slice-aggregate-put : tie.Need-slice-aggregate-put

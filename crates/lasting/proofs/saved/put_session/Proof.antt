@@ -4,10 +4,6 @@ use Rattle.lasting.proofs.Lists.{image-whole}
 use borrow.Author.Needs.{needs}
 use Rattle.lasting.proofs.saved.put_session.Statement.{statement}
 use Rattle.lasting.proofs.saved.put_session.Tie as tie
-use Rattle.lasting.proofs.saved.put_session.Reads as reads
-use Rattle.lasting.proofs.saved.put_session.Lts as lts
-use Rattle.face.proofs.encode.Reads as encode-reads
-use Rattle.values.proofs.bytes.put.Reads as put-reads
 
 -- src/saved.rt:30:27
 slice-aggregate-encode : tie.Need-slice-aggregate-encode

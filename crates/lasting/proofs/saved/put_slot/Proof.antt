@@ -2,14 +2,6 @@ use Rattle.lasting.specs.File.{slotted}
 use borrow.Author.Needs.{needs}
 use Rattle.lasting.proofs.saved.put_slot.Statement.{statement}
 use Rattle.lasting.proofs.saved.put_slot.Tie as tie
-use Rattle.lasting.proofs.saved.put_slot.Reads as reads
-use Rattle.lasting.proofs.saved.put_slot.Lts as lts
-use Rattle.lasting.proofs.parts.four_at.Reads as four-at-reads
-use Rattle.lasting.proofs.parts.part.Reads as part-reads
-use Rattle.lasting.proofs.parts.put_four.Reads as put-four-reads
-use Rattle.lasting.proofs.parts.sum.Reads as sum-reads
-use Rattle.lasting.proofs.saved.fill_slot.Reads as fill-slot-reads
-use Rattle.lasting.proofs.saved.slot_at.Reads as slot-at-reads
 
 -- src/saved.rt:60:5
 fill-slot-requires : tie.Need-fill-slot-requires

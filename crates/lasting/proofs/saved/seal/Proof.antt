@@ -1,10 +1,6 @@
 use borrow.Author.Needs.{needs}
 use Rattle.lasting.proofs.saved.seal.Statement.{statement}
 use Rattle.lasting.proofs.saved.seal.Tie as tie
-use Rattle.lasting.proofs.saved.seal.Reads as reads
-use Rattle.lasting.proofs.saved.seal.Lts as lts
-use Rattle.lasting.proofs.judged.file_sum.Reads as file-sum-reads
-use Rattle.lasting.proofs.parts.put_four.Reads as put-four-reads
 
 -- src/saved.rt:100:9
 file-sum-requires : tie.Need-file-sum-requires

@@ -1,10 +1,6 @@
 use borrow.Author.Needs.{needs}
 use Rattle.lasting.proofs.saved.session_of.Statement.{statement}
 use Rattle.lasting.proofs.saved.session_of.Tie as tie
-use Rattle.lasting.proofs.saved.session_of.Reads as reads
-use Rattle.lasting.proofs.saved.session_of.Lts as lts
-use Rattle.face.proofs.decode.Reads as decode-reads
-use Rattle.lasting.proofs.parts.part.Reads as part-reads
 
 -- src/saved.rt:121:36
 mul-part : tie.Need-mul-part

@@ -2,10 +2,6 @@ use native.Mathlib.Omega.{arith}
 use borrow.Author.Needs.{needs}
 use Rattle.press.proofs.setup.command_line.Statement.{statement}
 use Rattle.press.proofs.setup.command_line.Tie as tie
-use Rattle.press.proofs.setup.command_line.Reads as reads
-use Rattle.press.proofs.setup.command_line.Lts as lts
-use Rattle.os.proofs.arg_count.Reads as arg-count-reads
-use Rattle.press.proofs.setup.option.Reads as option-reads
 
 abbrev Inv-loop : tie.InvT-loop
 Inv-loop s₀ left₀ s left = Unit {0}

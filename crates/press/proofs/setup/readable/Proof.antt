@@ -3,9 +3,6 @@ use Prim.Native.Nat.{_-_}
 use borrow.Author.Needs.{needs}
 use Rattle.press.proofs.setup.readable.Statement.{statement}
 use Rattle.press.proofs.setup.readable.Tie as tie
-use Rattle.press.proofs.setup.readable.Reads as reads
-use Rattle.press.proofs.setup.readable.Lts as lts
-use Rattle.press.proofs.setup.readable_file.Reads as readable-file-reads
 
 abbrev Inv-loop : tie.InvT-loop
 Inv-loop s i₀ i = Unit {0}
