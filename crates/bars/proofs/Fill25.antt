@@ -8,10 +8,11 @@ use native.Mathlib.Omega.{arith}
 use lib.Dec.{T}
 use lib.ListN.{length, getD, drop, length-append, length-drop}
 use lib.Seq.{sets, length-sets, drop-cons}
+use Rattle.ground.proofs.Stores.{sets-append}
 use Rattle.bars.specs.Tables.{rows25}
 use Rattle.bars.specs.Elements.{digits, five, woven, pairs, elements25}
 use Rattle.bars.specs.Laid.{Put, spread}
-use Rattle.bars.proofs.Lists.{sets-append, put-digits, put-all, put-more}
+use Rattle.bars.proofs.Lists.{put-digits, put-all, put-more}
 use Rattle.bars.proofs.Tables.{same, same-eq, below, below-at, past-rows}
 
 -- ---- two digits woven: one test over the digits and what stands past them

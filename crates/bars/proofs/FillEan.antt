@@ -9,10 +9,11 @@ use borrow.Author.Tests.{eq-eqb, ne-eqb}
 use lib.Dec.{eqb}
 use lib.ListN.{length, getD, drop, length-append, length-drop, drop-of-length-le, List·getD-append}
 use lib.Seq.{sets, length-sets, drop-cons, getD-append-add}
+use Rattle.ground.proofs.Stores.{sets-append}
 use Rattle.bars.specs.Tables.{rowsA, rowsB, rowsSet}
 use Rattle.bars.specs.Elements.{digits, checkDigit, checked, patternRow, pattern, patterns, setsOf, elementsEan}
 use Rattle.bars.specs.Laid.{Put}
-use Rattle.bars.proofs.Lists.{length-digits, sets-append, put-digits, put-all, put-more}
+use Rattle.bars.proofs.Lists.{length-digits, put-digits, put-all, put-more}
 use Rattle.bars.proofs.Tables.{past-rows}
 
 -- ---- rows

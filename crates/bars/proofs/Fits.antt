@@ -12,7 +12,7 @@ use Rattle.kinds.specs.declared.Kind.{Kind}
 use Rattle.kinds.specs.declared.Kind.the-variants.{Shown, Code39, Interleaved, Ean13, Code128}
 use Rattle.kinds.specs.Bytes.{between, allIn}
 use Rattle.kinds.specs.Fit.{inClass, fitLength, fit}
-use Rattle.dots.proofs.Bits.{and-true}
+use Rattle.ground.proofs.Tests.{and-true}
 use Rattle.bars.specs.Drawing.{inLimits}
 
 fit-length : (kind : Kind) (s : List ℕ) → fit kind s ≡ true → fitLength kind (length s) ≡ true

@@ -12,7 +12,7 @@ use lib.ListN.{length, getD}
 use Rattle.kinds.specs.declared.Kind.the-variants.{Code128}
 use Rattle.kinds.specs.Bytes.{between, allIn}
 use Rattle.kinds.specs.Fit.{inClass, fitLength, fit}
-use Rattle.dots.proofs.Bits.{and-true}
+use Rattle.ground.proofs.Tests.{and-true}
 use Rattle.bars.specs.Tables.{rows128}
 use Rattle.bars.specs.Elements
 use Rattle.bars.specs.Elements.{digits, each, six, check128, elements128, elementsIn}

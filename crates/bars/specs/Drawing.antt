@@ -13,7 +13,7 @@ use Rattle.dots.specs.Dots.{within, drawn, cut}
 use Rattle.figures.specs.Figures.{placed}
 use Rattle.bars.specs.Elements.{elements}
 
--- "narrow e 1..6; wide f 2..10 and above e; height g 24..1000"
+-- "narrow e 1..6; wide f 2..10 and above e, else 7; height g 24..1000"
 unfoldable pub inLimits : ℕ → ℕ → ℕ → Bool
 inLimits e f g = (between 1 6 e && between 2 10 f) && (ltb e f && between 24 1000 g)
 

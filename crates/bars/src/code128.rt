@@ -5,7 +5,8 @@ ghost use lib.ListN.{length, getD};
 ghost use lib.Seq.{sets};
 ghost use Rattle.bars.specs.Tables.{rows128};
 ghost use Rattle.bars.specs.Elements.{each, six, check128, elements128};
-ghost use Rattle.bars.specs.Laid.{Put};
+ghost use Rattle.bars.specs.Laid.{mostElements, Put};
+ghost use Rattle.kinds.specs.Fit.{mostData};
 use crate::row::above;
 use crate::row::put;
 
@@ -40,7 +41,7 @@ fn last_bar() -> usize
 }
 
 fn check(s: &[u8]) -> usize
-    requires { ⌜ length (now s) ≤ 128 ⌝ }
+    requires { ⌜ length (now s) ≤ mostData ⌝ }
     ensures { λ r. ⌜ r ≡ check128 (now (s .entry)) ⌝ }
 {
     let mut sum: usize = 104;
@@ -53,7 +54,7 @@ fn check(s: &[u8]) -> usize
 }
 
 fn body(s: &[u8], out: &mut [u8])
-    requires { ⌜ length (now s) ≤ 128 ⌝ }
+    requires { ⌜ length (now s) ≤ mostData ⌝ }
     ensures { λ _. ⌜ now (out .exit) ≡ sets (now (out .entry)) 6 (each (λ b. six (b - 32)) (now (s .entry))) ⌝ }
 {
     let mut i = 0;
@@ -65,8 +66,8 @@ fn body(s: &[u8], out: &mut [u8])
 
 // Asked for by `fill` of the crate alone, whose data is fit: at most 128 bytes.
 pub(crate) fn fill(s: &[u8], out: &mut [u8]) -> usize
-    requires { ⌜ length (now s) ≤ 128 ⌝ }
-    ensures { λ r. ⌜ (Put (elements128 (now (s .entry))) 0 (now (out .entry)) (now (out .exit)) r) × (r ≤ 1299) ⌝ }
+    requires { ⌜ length (now s) ≤ mostData ⌝ }
+    ensures { λ r. ⌜ (Put (elements128 (now (s .entry))) 0 (now (out .entry)) (now (out .exit)) r) × (r ≤ mostElements) ⌝ }
 {
     let start = put(out, 0, row(104), 6);
     body(s, out);

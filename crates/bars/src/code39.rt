@@ -5,7 +5,8 @@ ghost use lib.ListN.{length, getD};
 ghost use lib.Seq.{sets};
 ghost use Rattle.bars.specs.Tables.{rows39};
 ghost use Rattle.bars.specs.Elements.{each, spaced, elements39};
-ghost use Rattle.bars.specs.Laid.{Put};
+ghost use Rattle.bars.specs.Laid.{mostElements, Put};
+ghost use Rattle.kinds.specs.Fit.{mostData};
 use crate::row::above;
 use crate::row::put;
 use crate::row::wide;
@@ -84,7 +85,7 @@ fn row(b: u8) -> u32
 }
 
 fn body(s: &[u8], out: &mut [u8])
-    requires { ⌜ length (now s) ≤ 128 ⌝ }
+    requires { ⌜ length (now s) ≤ mostData ⌝ }
     ensures { λ _. ⌜ now (out .exit) ≡ sets (now (out .entry)) 10 (each spaced (now (s .entry))) ⌝ }
 {
     let mut i = 0;
@@ -96,8 +97,8 @@ fn body(s: &[u8], out: &mut [u8])
 
 // Asked for by `fill` of the crate alone, whose data is fit: at most 128 bytes.
 pub(crate) fn fill(s: &[u8], out: &mut [u8]) -> usize
-    requires { ⌜ length (now s) ≤ 128 ⌝ }
-    ensures { λ r. ⌜ (Put (elements39 (now (s .entry))) 0 (now (out .entry)) (now (out .exit)) r) × (r ≤ 1299) ⌝ }
+    requires { ⌜ length (now s) ≤ mostData ⌝ }
+    ensures { λ r. ⌜ (Put (elements39 (now (s .entry))) 0 (now (out .entry)) (now (out .exit)) r) × (r ≤ mostElements) ⌝ }
 {
     let start = put(out, 0, wide(row(b'*')) * 10 + 1, 10);
     body(s, out);

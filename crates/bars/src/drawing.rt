@@ -11,6 +11,7 @@ ghost use Rattle.figures.specs.Figures.{placed};
 ghost use Rattle.bars.specs.Drawing.{inLimits, dotsOf, sum, bars};
 use crate::row::widened;
 use dots::Ink;
+use ground::both;
 use kinds::Kind;
 
 fn is_between(lo: usize, hi: usize, n: usize) -> bool
@@ -20,12 +21,6 @@ fn is_between(lo: usize, hi: usize, n: usize) -> bool
         return false;
     }
     n <= hi
-}
-
-fn both(a: bool, b: bool) -> bool
-    ensures { λ r. ⌜ r ≡ (a && b) ⌝ }
-{
-    if a { b } else { false }
 }
 
 pub fn in_limits(e: usize, f: usize, g: usize) -> bool

@@ -5,7 +5,8 @@ ghost use lib.ListN.{length, getD, drop};
 ghost use lib.Seq.{sets};
 ghost use Rattle.bars.specs.Tables.{rowsSet};
 ghost use Rattle.bars.specs.Elements.{checkDigit, checked, patternRow, patterns, elementsEan};
-ghost use Rattle.bars.specs.Laid.{Put};
+ghost use Rattle.bars.specs.Laid.{mostElements, Put};
+ghost use Rattle.kinds.specs.Fit.{mostData};
 use crate::row::above;
 use crate::row::put;
 use crate::row::wide;
@@ -53,7 +54,7 @@ fn row_of_sets(b: u8) -> u32
 }
 
 fn check_digit(s: &[u8]) -> u8
-    requires { ⌜ length (now s) ≤ 128 ⌝ }
+    requires { ⌜ length (now s) ≤ mostData ⌝ }
     ensures { λ r. ⌜ r ≡ checkDigit (now (s .entry)) ⌝ }
 {
     let mut sum: usize = 0;
@@ -91,7 +92,7 @@ fn half(s: &[u8], c: u8, which: &[u8], q: usize, out: &mut [u8], at: usize)
 // Asked for by `fill` of the crate alone, whose data is fit: twelve digits.
 pub(crate) fn fill(s: &[u8], out: &mut [u8]) -> usize
     requires { ⌜ length (now s) ≡ 12 ⌝ }
-    ensures { λ r. ⌜ (Put (elementsEan (now (s .entry))) 0 (now (out .entry)) (now (out .exit)) r) × (r ≤ 1299) ⌝ }
+    ensures { λ r. ⌜ (Put (elementsEan (now (s .entry))) 0 (now (out .entry)) (now (out .exit)) r) × (r ≤ mostElements) ⌝ }
 {
     let c = check_digit(s);
     let mut which = [0u8; 6];

@@ -4,7 +4,8 @@ ghost use Prim.Native.Nat.{_-_, _%_, _≤_};
 ghost use lib.ListN.{length, getD};
 ghost use lib.Seq.{sets};
 ghost use Rattle.bars.specs.Elements.{pairs, elements25};
-ghost use Rattle.bars.specs.Laid.{Put, spread};
+ghost use Rattle.bars.specs.Laid.{mostElements, Put, spread};
+ghost use Rattle.kinds.specs.Fit.{mostData};
 use crate::row::above;
 use crate::row::put;
 use crate::row::wide;
@@ -34,7 +35,7 @@ fn row(b: u8) -> u32
 }
 
 fn body(s: &[u8], out: &mut [u8])
-    requires { ⌜ length (now s) ≤ 128 ⌝ }
+    requires { ⌜ length (now s) ≤ mostData ⌝ }
     ensures { λ _. ⌜ now (out .exit) ≡ sets (now (out .entry)) 4 (pairs (now (s .entry))) ⌝ }
 {
     let mut i = 0;
@@ -51,8 +52,8 @@ fn body(s: &[u8], out: &mut [u8])
 
 // Asked for by `fill` of the crate alone, whose data is fit: an even number of digits, at most 128.
 pub(crate) fn fill(s: &[u8], out: &mut [u8]) -> usize
-    requires { ⌜ (length (now s) ≤ 128) × (length (now s) % 2 ≡ 0) ⌝ }
-    ensures { λ r. ⌜ (Put (elements25 (now (s .entry))) 0 (now (out .entry)) (now (out .exit)) r) × (r ≤ 1299) ⌝ }
+    requires { ⌜ (length (now s) ≤ mostData) × (length (now s) % 2 ≡ 0) ⌝ }
+    ensures { λ r. ⌜ (Put (elements25 (now (s .entry))) 0 (now (out .entry)) (now (out .exit)) r) × (r ≤ mostElements) ⌝ }
 {
     let start = put(out, 0, 1111, 4);
     body(s, out);

@@ -2,9 +2,9 @@
 // the end of the list that is lent is left out.
 ghost use mathlib.Core.Path.{_≡_};
 ghost use Prim.Native.Nat.{_+_, _-_, _%_, _≤_};
-ghost use lib.ListN.{set};
 ghost use lib.Seq.{sets};
 ghost use Rattle.bars.specs.Elements.{digits};
+use ground::put_byte;
 
 // How far a byte is above k.
 pub fn above(b: u8, k: u8) -> usize
@@ -25,14 +25,6 @@ pub fn wide(row: u32) -> usize
     row as usize
 }
 
-fn store(out: &mut [u8], i: usize, x: u8)
-    ensures { λ _. ⌜ now (out .exit) ≡ set (now (out .entry)) i x ⌝ }
-{
-    if i < out.len() {
-        out[i] = x;
-    }
-}
-
 fn last_digit(row: usize) -> u8
     ensures { λ r. ⌜ r ≡ row % 10 ⌝ }
 {
@@ -48,7 +40,7 @@ pub(crate) fn put(out: &mut [u8], at: usize, row: usize, n: usize) -> usize
     let mut rest = row;
     while 0 < left {
         left -= 1;
-        store(out, at + left, last_digit(rest));
+        put_byte(out, at + left, last_digit(rest));
         rest /= 10;
     }
     at + n

@@ -10,11 +10,10 @@ use lib.Seq.{drop-append-add}
 use lib.Dec.{eqb, leb, ltb}
 use Rattle.cells.specs.Cell.{cell}
 use Rattle.cells.specs.Count.{allZero}
-use Rattle.cells.proofs.Counts.{and-left, and-right, and-both, all-of}
+use Rattle.cells.proofs.Counts.{all-of}
 use Rattle.dots.specs.declared.Ink.the-variants.{Black}
 use Rattle.dots.specs.Dots.{within, rows, byteDrawn, redrawnFrom, redrawn, drawn, cut, box}
 use Rattle.dots.specs.Whole.{white, blackIn, blackDots}
-use Rattle.dots.proofs.Bits.{not-below}
 use Rattle.dots.proofs.WholePages.{white-outside-white}
 use Rattle.font.specs.Rules.{legal}
 use Rattle.store.specs.Chain.{isFree, portion}
@@ -28,18 +27,8 @@ use Rattle.session.specs.Answers.{numberOf, isTaken, answerOf}
 use Rattle.session.specs.Lent.{World, rowsOf, wrongLent}
 use Rattle.station.specs.Outcomes.{After, Drawn, drawnBy, labelled}
 use Rattle.station.specs.Table.{commandTable, labelTable}
-use Rattle.station.specs.Station.{
-  readBy,
-  doesFront,
-  listsFront,
-  accepted,
-  refused,
-  settled,
-  commanded,
-  labelPage,
-  labelSession,
-  labelledBy,
-}
+use Rattle.station.specs.Station.{readBy, doesFront, listsFront, accepted, refused, commanded, labelPage, labelSession, labelledBy}
+use Rattle.ground.proofs.Tests.{and-left, and-right, and-both, not-below}
 use Rattle.cases.specs.Calls.{Stand, stand, start, font, output, calls, afterCall, labels, afterLabel}
 
 -- ---- soundness, clause by clause
@@ -155,16 +144,16 @@ past-three s w room input a b c = rw (a, b, c)
 pub answered : (s : Session) (w : World) (input : List ℕ) (a : Answer) → wrongLent w ≡ false → legal font ≡ true → sound s w ≡ true
     → answerOf (drop 3 (commandTable s font w (length output) input)) ≡ a
     → commanded s font w output input
-    ≡ settled (isTaken a) (accepted (readBy a input) (doesFront font w s input (frontOf input)) (listsFront w input (frontOf input)) output) (refused a (readBy a input) s w output)
+    ≡ cond (isTaken a) (accepted (readBy a input) (doesFront font w s input (frontOf input)) (listsFront w input (frontOf input)) output) (refused a (readBy a input) s w output)
 unfolding commanded
 answered s w input a l f g e =
-    ap (λ (b : Answer). settled (isTaken b) (accepted (readBy b input) (doesFront font w s input (frontOf input)) (listsFront w input (frontOf input)) output) (refused b (readBy b input) s w output))
+    ap (λ (b : Answer). cond (isTaken b) (accepted (readBy b input) (doesFront font w s input (frontOf input)) (listsFront w input (frontOf input)) output) (refused b (readBy b input) s w output))
     (past-three s w (length output) input l f g ∙ e)
 
 -- a label call on an owed label
 pub labels-taken : (s : Session) (w : World) (page : List ℕ) → (wrongLent w || not (eqb (length page) (length (w .background)))) ≡ false → legal font ≡ true → sound s w ≡ true
     → eqb (s .owed) 0 ≡ false
-    → labelledBy s font w page ≡ drawnBy (labelled Taken (labelSession s w)) (labelPage font s w page)
+    → labelledBy s font w page ≡ drawnBy (labelled Taken (labelSession s w)) (labelPage font s w)
 unfolding labelledBy labelTable answerOf isTaken numberOf
 labels-taken s w page l f g o = rw (l, f, g, o)
 

@@ -10,7 +10,7 @@ use Rattle.fields.specs.Data as Elements
 use Rattle.read.specs.Grammar as Grammar
 use Rattle.read.specs.Commands as Commands
 use Rattle.read.specs.Front as Front
-use Rattle.read.specs.Names as Names
+use Rattle.parts.specs.Names as Names
 use Rattle.normal.specs.Written as Written
 use Rattle.listing.specs.Listing as Listing
 use Rattle.cells.specs.Cell as Cell
@@ -30,6 +30,7 @@ use Rattle.values.specs.Data as Data
 use Rattle.forms.specs.Form as Form
 use Rattle.forms.specs.Judged as Judged
 use Rattle.forms.specs.Draw as Draw
+use Rattle.item_commands.specs.Items as Items
 use Rattle.picture.specs.Rules as Pictures
 use Rattle.picture.specs.Cases as Picture
 use Rattle.font.specs.Rules as Fonts
@@ -45,7 +46,7 @@ use Rattle.cases.specs.Calls as Calls
 
 -- reading a line, and writing it in normal form
 unfoldable pub lines : Bool
-unfolding FitBytes.between FieldBytes.run FieldBytes.valueFrom Field.numberAt Field.textAt Field.signedAt Field.byteAt Grammar.find Grammar.headOf Grammar.fieldAt Grammar.fieldsFrom Grammar.spread Grammar.beyond Grammar.fieldLimits Grammar.limitsFrom Commands.itemOf Commands.orderOf Commands.judged Commands.headed Commands.readOf Front.sizeOf Front.askedBy Front.lineFront Front.frontOf Names.capital Names.nameByte Written.digits Written.signed Written.cased Written.writtenField Written.writtenFrom Written.writtenOf Written.headWritten Written.equal Written.isNormal
+unfolding FitBytes.between FieldBytes.run FieldBytes.valueFrom Field.numberAt Field.textAt Field.signedAt Field.byteAt Grammar.find Grammar.headBy Grammar.headOf Grammar.fieldAt Grammar.fieldsFrom Grammar.spread Grammar.meets Grammar.fieldLimits Grammar.limitsFrom Commands.itemOf Commands.pageOf Commands.formOf Commands.pictureOf Commands.valueOf Commands.listingOf Commands.orderOf Commands.judged Commands.headed Commands.readOf Front.sizeOf Front.askedBy Front.lineFront Front.frontOf Names.capital Names.nameByte Written.digits Written.signed Written.cased Written.writtenField Written.writtenFrom Written.writtenOf Written.headWritten Written.equal Written.isNormal
 lines = true
 
 -- the store, and what moves in it
@@ -60,7 +61,7 @@ values = true
 
 -- forms, pictures and fonts
 unfoldable pub forms : Bool
-unfolding Form.itemIn Form.takes Form.declaring Form.takesAll Form.declaredBy Form.formOk Form.declaredOf Form.hasPicture Form.hasAll Form.picturesStored Judged.judged Judged.declares Draw.far Draw.drawsItem Draw.drawsLine Draw.drawsLines Draw.formDrawn Pictures.headed Pictures.times Pictures.next Pictures.given Pictures.emptyRun Pictures.noEmptyRun Pictures.waiting Pictures.filled Pictures.legal Picture.header Fonts.headed Fonts.fieldsFrom Fonts.legal Whole.copied
+unfolding Form.itemIn Form.takes Form.declaring Form.takesAll Form.declaredBy Form.formOk Form.declaredOf Form.hasPicture Form.hasAll Form.picturesStored Judged.judged Judged.declares Items.declaredBefore Items.notDeclared Items.reachesPast Items.unfitData Draw.far Draw.drawsItem Draw.drawsLine Draw.drawsLines Draw.formDrawn Pictures.headed Pictures.times Pictures.next Pictures.given Pictures.emptyRun Pictures.noEmptyRun Pictures.waiting Pictures.filled Pictures.legal Picture.header Fonts.headed Fonts.fieldsFrom Fonts.legal Whole.copied
 forms = true
 
 -- the clauses of sound

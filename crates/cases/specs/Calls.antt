@@ -1,4 +1,4 @@
--- A station from opening on: calls that read commands, and label calls.
+-- Paper 01, "Sample session": the station that it runs on, from opening on; calls that read commands, and label calls.
 -- Assumes nothing.
 use Prim.Native.Nat.{ℕ, zero, suc, _*_}
 use mathlib.Core.List.{List, [], _∷_, _++_}

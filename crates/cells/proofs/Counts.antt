@@ -1,21 +1,18 @@
 -- Laws of counting: `times`, `sumTo`, `allTo`, `setAll`.
 use mathlib.Core.Path.{_≡_, refl, sym, ap, _∙_}
 use mathlib.Core.List.{List, [], _∷_, _++_}
-use mathlib.Core.Bool.{Bool, true, false, _&&_}
-use mathlib.Core.Logic.{_⊎_, inl, inr, ⊎-elim}
+use mathlib.Core.Bool.{Bool, true, false}
+use mathlib.Core.Logic.{_⊎_, ⊎-elim}
 use Prim.Native.Nat.{ℕ, zero, suc, _+_, _≤_, _<_}
 use native.Mathlib.Omega.{arith}
-use native.Mathlib.Decide.{ℕ-discrete}
 use native.Mathlib.Numerals.{add-one}
 use lib.ListN.{length, getD, drop, set, length-set, drop-of-length-le}
 use lib.Seq.{drop-cons, getD-set-same, getD-set-other}
 use lib.Dec.{eqb}
 use borrow.Author.Tests.{eq-eqb, ne-eqb}
-use Rattle.cells.specs.Count.{one, times, sumTo, allTo, setAll}
-
--- two numbers are equal or not, as a sum to take apart
-pub same? : (a b : ℕ) → (a ≡ b) ⊎ (a ≡ b → ⊥)
-same? a b = elim (ℕ-discrete a b) [ yes p ↦ inl p | no n ↦ inr n ]
+use Rattle.ground.proofs.Tests.{same?, and-left, and-right, and-both}
+use Rattle.ground.specs.Numbers.{one}
+use Rattle.cells.specs.Count.{times, sumTo, allTo, setAll}
 
 pub one-yes : (a b : ℕ) → a ≡ b → one (eqb a b) ≡ 1
 one-yes a b e = rw (eq-eqb a b e)
@@ -76,18 +73,60 @@ sum-has-two f i j (suc n) b d ne = ⊎-elim
     (same? j n))
     (same? i n)
 
+pub sum-none : (f : ℕ → ℕ) (n : ℕ) → ((i : ℕ) → i < n → f i ≡ 0) → sumTo f n ≡ 0
+sum-none f zero h = refl
+sum-none f (suc n) h = omega (arith, sum-none f n (λ i b. h i (omega arith)), h n (omega arith))
+
+sum-zero : (n : ℕ) → sumTo (λ (q : ℕ). 0) n ≡ 0
+sum-zero n = sum-none (λ (q : ℕ). 0) n (λ i b. refl)
+
+pub sum-add : (f g : ℕ → ℕ) (n : ℕ) → sumTo (λ (i : ℕ). f i + g i) n ≡ sumTo f n + sumTo g n
+sum-add f g zero = refl
+sum-add f g (suc n) = omega (arith, sum-add f g n)
+
+pub sum-ones : (f : ℕ → ℕ) (n : ℕ) → ((i : ℕ) → i < n → f i ≡ 1) → sumTo f n ≡ n
+sum-ones f zero h = refl
+sum-ones f (suc n) h = omega (arith, sum-ones f n (λ i b. h i (omega arith)), h n (omega arith))
+
+pub sum-most : (f : ℕ → ℕ) (n : ℕ) → ((i : ℕ) → f i ≤ 1) → sumTo f n ≤ n
+sum-most f zero h = omega arith
+sum-most f (suc n) h = omega (arith, sum-most f n h, h n)
+
+pub sum-swap : (f : ℕ → ℕ → ℕ) (m n : ℕ) → sumTo (λ (q : ℕ). sumTo (λ (j : ℕ). f q j) n) m ≡ sumTo (λ (j : ℕ). sumTo (λ (q : ℕ). f q j) m) n
+sum-swap f zero n = sym (sum-zero n)
+sum-swap f (suc m) n = omega (arith, sum-swap f m n, sum-add (λ (j : ℕ). sumTo (λ (q : ℕ). f q j) m) (λ (j : ℕ). f m j) n)
+
+sum-first : (f : ℕ → ℕ) (n : ℕ) → sumTo f (suc n) ≡ f 0 + sumTo (λ (i : ℕ). f (suc i)) n
+sum-first f zero = omega arith
+sum-first f (suc n) = omega (arith, sum-first f n)
+
+-- how often a number stands in a list, counted by places and by portions
+pub times-places : (x : ℕ) (l : List ℕ) → times x l ≡ sumTo (λ (q : ℕ). one (eqb (getD l q 0) x)) (length l)
+times-places x [] = refl
+times-places x (p ∷ ps) = omega (arith, times-places x ps, sum-first (λ (q : ℕ). one (eqb (getD (p ∷ ps) q 0) x)) (length ps))
+
+one-none : (p n : ℕ) → n ≤ p → sumTo (λ (q : ℕ). one (eqb p q)) n ≡ 0
+one-none p zero h = refl
+one-none p (suc n) h = omega (arith, one-none p n (omega arith), one-no p n (λ e. omega arith))
+
+one-some : (p n : ℕ) → p < n → sumTo (λ (q : ℕ). one (eqb p q)) n ≡ 1
+one-some p zero h = absurd (omega arith)
+one-some p (suc n) h = ⊎-elim
+    (λ (e : p ≡ n). omega (arith, one-none p n (omega arith), one-yes p n e))
+    (λ (ne : p ≡ n → ⊥). omega (arith, one-some p n (omega arith), one-no p n ne))
+    (same? p n)
+
+pub times-portions : (ps : List ℕ) (n : ℕ) → ((q : ℕ) → 0 < times q ps → q < n) → sumTo (λ (q : ℕ). times q ps) n ≡ length ps
+times-portions [] n h = sum-zero n
+times-portions (p ∷ ps) n h =
+    omega (
+      arith,
+      sum-add (λ (q : ℕ). one (eqb p q)) (λ (q : ℕ). times q ps) n,
+      one-some p n (h p (omega (arith, one-yes p p refl))),
+      times-portions ps n (λ q i. h q (omega arith)),
+    )
+
 -- ---- `allTo`
-
-pub and-left : (a b : Bool) → (a && b) ≡ true → a ≡ true
-and-left true b e = refl
-and-left false b e = e
-
-pub and-right : (a b : Bool) → (a && b) ≡ true → b ≡ true
-and-right true b e = e
-and-right false b e = absurd (mathlib.Core.Bool.false≢true e)
-
-pub and-both : (a b : Bool) → a ≡ true → b ≡ true → (a && b) ≡ true
-and-both a b p q = rw (p, q)
 
 pub all-at : (f : ℕ → Bool) (n : ℕ) → allTo f n ≡ true → (i : ℕ) → i < n → f i ≡ true
 all-at f zero h i b = absurd (omega arith)

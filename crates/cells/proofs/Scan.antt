@@ -1,15 +1,12 @@
 -- Laws of the lowest number that passes a test.
 use mathlib.Core.Path.{_≡_, refl, sym, ap, _∙_}
 use mathlib.Core.Bool.{Bool, true, false}
-use mathlib.Core.Logic.{_⊎_, inl, inr, ⊎-elim}
+use mathlib.Core.Logic.{_⊎_, ⊎-elim}
 use Prim.Native.Nat.{ℕ, zero, suc, _+_, _-_, _≤_, _<_}
 use native.Mathlib.Omega.{arith}
 use native.Mathlib.Numerals.{add-one}
+use Rattle.ground.proofs.Tests.{either, same?}
 use Rattle.cells.specs.Scan.{lowestFrom, lowest}
-
-pub either : (b : Bool) → (b ≡ true) ⊎ (b ≡ false)
-either true = inl refl
-either false = inr refl
 
 module _ (test : ℕ → Bool) where
   pub from-here : (k left : ℕ) → 0 < left → test k ≡ true → lowestFrom test k left ≡ k
@@ -56,7 +53,7 @@ module _ (test : ℕ → Bool) where
       (λ (y : test k ≡ false). rw y (from-first (suc k) n i (⊎-elim
       (λ (s : i ≡ k). absurd (mathlib.Core.Bool.false≢true (sym y ∙ ap test (sym s) ∙ e)))
       (λ (s : i ≡ k → ⊥). omega arith)
-      (Rattle.cells.proofs.Counts.same? i k)) (omega arith) e))
+      (same? i k)) (omega arith) e))
       (either (test k))
 
   pub lowest-passes : (n : ℕ) → lowest test n < n → test (lowest test n) ≡ true

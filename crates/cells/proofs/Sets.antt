@@ -5,17 +5,13 @@ use Prim.Native.Nat.{ℕ, zero, suc, _+_, _≤_, _<_}
 use native.Mathlib.Omega.{arith}
 use native.Mathlib.Nat.{add-zero}
 use lib.ListN.{length, getD, set, take, drop, length-set}
-use lib.Seq.{sets, sets-eq, set-out, take-at, take-nil, getD-set-same, getD-set-other}
+use lib.Seq.{sets, sets-eq, take-at, take-nil, getD-set-same, getD-set-other}
+use Rattle.ground.proofs.Stores.{sets-out}
 
 -- one more element is one more store
 pub sets-snoc : (l : List ℕ) (i : ℕ) (vs : List ℕ) (a : ℕ) → sets l i (vs ++ (a ∷ [])) ≡ set (sets l i vs) (i + length vs) a
 sets-snoc l i [] a = rw (add-zero i)
 sets-snoc l i (v ∷ vs) a = sets-snoc (set l i v) (suc i) vs a ∙ ap (λ (k : ℕ). set (sets (set l i v) (suc i) vs) k a) (let e : suc i + length vs ≡ i + suc (length vs) = omega arith in e)
-
--- past the end nothing is stored
-pub sets-out : (l : List ℕ) (i : ℕ) (vs : List ℕ) → length l ≤ i → sets l i vs ≡ l
-sets-out l i [] h = refl
-sets-out l i (v ∷ vs) h = rw (set-out l i v h) (sets-out l (suc i) vs (omega arith))
 
 -- what was stored at the front is read there
 pub sets-front : (l vs : List ℕ) → length vs ≤ length l → take (length vs) (sets l 0 vs) ≡ vs

@@ -2,3 +2,4 @@
 pub mod Cell
 pub mod Count
 pub mod Scan
+pub mod Samples

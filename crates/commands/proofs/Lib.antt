@@ -1,4 +1,3 @@
-pub mod Answers
 pub mod Arms
-pub mod Bounds
 pub mod Ends
+pub mod Kept

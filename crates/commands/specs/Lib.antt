@@ -1,4 +1,4 @@
-pub mod World
+pub mod Places
 pub mod Rows
 pub mod Does
 pub mod Running

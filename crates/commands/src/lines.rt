@@ -2,21 +2,23 @@
 ghost use mathlib.Core.Path.{_≡_};
 ghost use Rattle.session.specs.Lent.{world};
 ghost use Rattle.read.specs.declared.Read.the-variants.{Taken as Reads};
-ghost use Rattle.commands.specs.Running.{ran, ranRead, lineBy, faulted, Fits};
-use crate::Done;
-use crate::records::answered;
+ghost use Rattle.results.specs.Result.{ran};
+ghost use Rattle.commands.specs.Rows.{faultAnswer};
+ghost use Rattle.commands.specs.Running.{ranRead, lineBy, short};
 use crate::records::record;
 use crate::runs::run;
 use read::Command;
 use read::Fault;
 use read::Read;
+use results::Done;
+use results::answered;
 use session::Answer;
 use session::Session;
 use store::Found;
 
 // [6] or [7].
 fn fault_answer(fault: Fault) -> Answer
-    ensures { λ r. ⌜ r ≡ faulted fault ⌝ }
+    ensures { λ r. ⌜ r ≡ faultAnswer fault ⌝ }
 {
     match fault {
         Fault::Form(_) => Answer::Unwritten,
@@ -38,7 +40,7 @@ fn on_command(
     values: &mut [u8],
     output: &mut [u8],
 ) -> Done
-    requires { ⌜ Fits command (now line) (now directory) ⌝ }
+    requires { ⌜ short command (now line) ⌝ }
     ensures { λ r. ⌜ ran r (world (now (background .exit)) (now (store .exit)) (now (links .exit)) (now (directory .exit)) (now (values .exit))) (now (output .exit)) ≡ ranRead (now (font .entry)) (world (now (background .entry)) (now (store .entry)) (now (links .entry)) (now (directory .entry)) (now (values .entry))) session (now (line .entry)) (now (more .entry)) (now (output .entry)) (Reads command) ⌝ }
 {
     let owed = session.owed;

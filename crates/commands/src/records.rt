@@ -13,62 +13,19 @@ ghost use Rattle.moves.specs.Grow.{canGrow};
 ghost use Rattle.session.specs.declared.answers.Answer.the-variants.{Full};
 ghost use Rattle.session.specs.Answers.{row, answerOf};
 ghost use Rattle.session.specs.Lent.{world};
-ghost use Rattle.session.specs.declared.answers.Answer.the-variants.{Taken};
-ghost use Rattle.commands.specs.Rows.{verdictRows, itemRows};
-ghost use Rattle.commands.specs.Running.{done, ran, recordBy, short};
-use crate::Done;
-use forms::Verdict;
+ghost use Rattle.results.specs.Result.{ran};
+ghost use Rattle.item_commands.specs.Items.{itemRows};
+ghost use Rattle.commands.specs.Running.{recordBy, short};
+use item_commands::item_answer;
+use parts::first;
 use read::Command;
 use read::Item;
-use read::input::first;
+use results::Done;
+use results::answered;
+use results::taken;
 use session::Answer;
 use session::Session;
 use session::answers::is_taken;
-use values::Declared;
-
-// An answer, with the session after it.
-pub fn answered(answer: Answer, session: Session) -> Done
-    ensures { λ r. ⌜ r ≡ done answer session 0 ⌝ }
-{
-    Done {
-        answer: answer,
-        session: session,
-        written: 0,
-    }
-}
-
-pub fn taken(session: Session) -> Done
-    ensures { λ r. ⌜ r ≡ done Taken session 0 ⌝ }
-{
-    Done {
-        answer: Answer::Taken,
-        session: session,
-        written: 0,
-    }
-}
-
-// What a verdict answers: [12] to [15], or taken.
-fn answer_of(v: Verdict) -> Answer
-    ensures { λ r. ⌜ r ≡ answerOf (verdictRows v []) ⌝ }
-{
-    match v {
-        Verdict::Taken => Answer::Taken,
-        Verdict::Again => Answer::Again,
-        Verdict::Undeclared => Answer::Undeclared,
-        Verdict::Past => Answer::Past,
-        Verdict::Unfit => Answer::Unfit,
-    }
-}
-
-// [11] to [15] for an item, after the declarations d.
-pub fn item_answer(directory: &[u8], line: &[u8], item: Item, d: Declared) -> Answer
-    ensures { λ r. ⌜ r ≡ answerOf (itemRows d (now (directory .entry)) (now (line .entry)) item []) ⌝ }
-{
-    if forms::has_picture(directory, line, item) {
-        return answer_of(forms::judge(line, item, d));
-    }
-    Answer::Missing
-}
 
 // [11] to [15], then [19], for an item recorded in entry i as n bytes and LF.
 fn record_answer(

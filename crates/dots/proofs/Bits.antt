@@ -6,22 +6,16 @@ use Prim.Native.Nat.{ℕ, zero, suc, _+_, _-_, _*_, _/_, _%_, _^_, _≤_, _<_}
 use native.Mathlib.Nat.{mod-lt, le-of-suc-le-suc, not-suc-le-zero}
 use native.Mathlib.Omega.{arith}
 use native.Mathlib.Decide.{ℕ-discrete}
-use lib.Dec.{leb, ltb, eqb, lit<}
+use lib.Dec.{leb, eqb, lit<}
 use lib.Count.{ones, onesIn}
 use lib.Bits.{bitAnd, bitOr, bitXor, and-shr, and-mod, or-shr, or-mod, xor-shr, xor-mod, or-lt, xor-lt}
-use borrow.Author.Tests.{leb-true, ltb-true, eqb-true, le-leb}
+use borrow.Author.Tests.{leb-true, eqb-true, le-leb}
+use Rattle.ground.proofs.Tests.{and-true}
+use Rattle.ground.specs.Numbers.{one}
 use Rattle.dots.specs.declared.Ink.{Ink}
 use Rattle.dots.specs.declared.Ink.the-variants.{Black, White, Inverted}
-use Rattle.dots.specs.Dots.{one, bitOf, byteOf, within, inked}
+use Rattle.dots.specs.Dots.{bitOf, byteOf, within, inked}
 use Rattle.dots.specs.Whole.{blackIn}
-
--- a test is false where that it is true is absurd
-pub is-false : (b : Bool) → (b ≡ true → ⊥) → b ≡ false
-is-false true h = absurd (h refl)
-is-false false h = refl
-
-pub not-below : (a b : ℕ) → b ≤ a → ltb a b ≡ false
-not-below a b h = is-false (ltb a b) (λ e. omega (arith, ltb-true a b e))
 
 pub one-le : (b : Bool) → one b ≤ 1
 one-le true = omega arith
@@ -170,10 +164,6 @@ inverted-byte b m hb hm = byte-by-bits (bitXor b m) _ (xor-lt 8 b m hb hm) (λ k
 abbrev pub allBelow : ℕ → (ℕ → Bool) → Bool
 allBelow zero f = true
 allBelow (suc n) f = f n && allBelow n f
-
-pub and-true : (a b : Bool) → (a && b) ≡ true → (a ≡ true) × (b ≡ true)
-and-true true b e = (refl, e)
-and-true false b e = (e, let z : _≡_ {A = Bool} false true = e in cc)
 
 at-or-below : (n : ℕ) (f : ℕ → Bool) (k : ℕ) → k < suc n → f n ≡ true → (k < n → f k ≡ true) → Dec (k ≡ n) → f k ≡ true
 at-or-below n f k h e ih (yes q) = ap f q ∙ e

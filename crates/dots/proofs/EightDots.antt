@@ -9,9 +9,10 @@ use native.Mathlib.Decide.{decLt}
 use native.Mathlib.Omega.{arith}
 use lib.Dec.{leb, ltb}
 use borrow.Author.Tests.{leb-true, ltb-true, le-leb, lt-ltb}
+use Rattle.ground.proofs.Tests.{and-true, is-false}
 use Rattle.dots.specs.declared.Ink.{Ink}
 use Rattle.dots.specs.Dots.{drawn, box, bitOf, eights, rows}
-use Rattle.dots.proofs.Bits.{allBelow, all-below, and-true, is-false}
+use Rattle.dots.proofs.Bits.{allBelow, all-below}
 use Rattle.dots.proofs.Pages.{Bytes, drawn-join, drawn-ext, drawn-off}
 use Rattle.dots.proofs.Shapes.{In, in-box, box-in, same-test, join-test}
 

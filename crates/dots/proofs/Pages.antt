@@ -11,10 +11,11 @@ use lib.Dec.{ltb, lit<}
 use lib.ListN.{List·getD-eq-default, length, getD, set, length-set}
 use lib.Seq.{ext-getD, getD-set-same, getD-set-other}
 use borrow.Author.Tests.{lt-ltb}
+use Rattle.ground.proofs.Tests.{not-below}
 use Rattle.dots.specs.declared.Ink.{Ink}
 use Rattle.dots.specs.declared.Ink.the-variants.{Black}
 use Rattle.dots.specs.Dots.{bitOf, byteDrawn, redrawnFrom, redrawn, inked, drawn, rows, dotAt}
-use Rattle.dots.proofs.Bits.{byte-lt, byte-cong, bit-of-byte, byte-is, byte-by-bits, inkedByte, not-below}
+use Rattle.dots.proofs.Bits.{byte-lt, byte-cong, bit-of-byte, byte-is, byte-by-bits, inkedByte}
 
 -- each element is a byte
 abbrev pub Bytes : List ℕ → Type 0

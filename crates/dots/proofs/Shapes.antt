@@ -7,10 +7,10 @@ use native.Mathlib.Omega.{arith}
 use native.Mathlib.Decide.{decLt}
 use mathlib.Core.Logic.{_⊎_, inl, inr, ⊎-elim}
 use mathlib.Core.List.{List}
+use Rattle.ground.proofs.Tests.{is-false, and-true}
 use Rattle.dots.specs.declared.Ink.{Ink}
 use Rattle.dots.specs.declared.Ink.the-variants.{Black}
 use Rattle.dots.proofs.Pages.{Bytes, drawn-join, drawn-off, drawn-ext, drawn-black}
-use Rattle.dots.proofs.Bits.{is-false, and-true}
 use lib.Dec.{leb, ltb}
 use borrow.Author.Tests.{leb-true, ltb-true, le-leb, lt-ltb, not-true}
 use Rattle.dots.specs.Dots.{within, box, cut, hollow, drawn, rows}

@@ -12,10 +12,11 @@ use lib.Bits.{bitAnd, bitOr, or-lt}
 use lib.ListN.{length, getD, set, length-set}
 use lib.Seq.{getD-set-same, getD-set-other}
 use borrow.Author.Tests.{eqb-true, lt-ltb}
+use Rattle.ground.proofs.Tests.{not-below}
 use Rattle.dots.specs.declared.Ink.the-variants.{White}
 use Rattle.dots.specs.Dots.{bitOf, byteOf, dotAt, rows, redrawn, drawn, cut, box}
 use Rattle.dots.specs.Whole.{turnedIn}
-use Rattle.dots.proofs.Bits.{allBelow, all-below, byte-cong, byte-is, byte-lt, byte-by-bits, bit-of-byte, or-bit, not-below}
+use Rattle.dots.proofs.Bits.{allBelow, all-below, byte-cong, byte-is, byte-lt, byte-by-bits, bit-of-byte, or-bit}
 use Rattle.dots.proofs.Pages.{Bytes, redrawn-by-bytes, redrawn-by-dots, redrawn-redrawn, redrawn-ext, dot-redrawn}
 use Rattle.dots.proofs.Shapes.{cut-box, box-in, not-in-box}
 

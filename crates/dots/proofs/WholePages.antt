@@ -13,10 +13,11 @@ use lib.Bits.{bitAnd, and-lt}
 use lib.ListN.{length-append, length-drop, length, getD, take, drop, set, length-take, length-replicate, drop-of-length-le}
 use lib.Seq.{ext-getD, getD-set-same, getD-set-other, drop-cons, getD-take, take-all, paste, paste-suc}
 use borrow.Author.Tests.{leb-true, ltb-true, le-leb, lt-ltb, eqb-true, eq-eqb, not-true}
+use Rattle.ground.proofs.Tests.{is-false, and-true, not-below}
 use Rattle.dots.specs.declared.Ink.{Ink}
 use Rattle.dots.specs.Dots.{bitOf, byteOf, within, rows, dotAt, inked, drawn, cut}
 use Rattle.dots.specs.Whole.{white, copied, turnedIn, turned, blackIn, blackDots, outside, whiteByte, whiteFrom, whiteOutside}
-use Rattle.dots.proofs.Bits.{is-false, and-true, one-le, byte-lt, not-below, byte-cong, byte-by-bits, bit-of-byte, and-bit}
+use Rattle.dots.proofs.Bits.{one-le, byte-lt, byte-cong, byte-by-bits, bit-of-byte, and-bit}
 use Rattle.dots.proofs.Pages.{Bytes, bytes-redrawn, dot-redrawn, length-redrawn, dot-drawn, length-drawn}
 
 -- ---- white

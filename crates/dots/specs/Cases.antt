@@ -5,8 +5,9 @@ use mathlib.Core.Path.{_≡_, refl}
 use mathlib.Core.List.{[], _∷_, _++_}
 use mathlib.Core.Bool.{Bool, true, false}
 use lib.ListN.{replicate}
+use Rattle.ground.specs.Numbers.{one}
 use Rattle.dots.specs.declared.Ink.the-variants.{Black, Inverted}
-use Rattle.dots.specs.Dots.{one, redrawn, drawn, dotAt, box, cut, frame}
+use Rattle.dots.specs.Dots.{redrawn, drawn, dotAt, box, cut, frame}
 use Rattle.dots.specs.Whole.{white, turnedIn, turned, blackDots, whiteFrom, whiteOutside}
 
 -- how many numbers below n pass a test

@@ -1,6 +1,6 @@
 -- A page of dots, and what it is to draw on one.
 --
--- Paper 01, "What is lent": "Page and background: equal lengths, 76 bytes a row, N rows. Dot x is in byte x/8, highest bit first; 1 is black."
+-- Paper 01, "What is lent": "Page and background: equal lengths, 76 bytes a row, N rows, 1 to 4,000. Dot x is in byte x/8, highest bit first; 1 is black."
 -- So a row has 608 dots, and dot x of row y is in byte y * 76 + x / 8. A page may be of any length here: bytes after the last whole row are no dots
 -- of the page, and no drawing touches them.
 -- Assumes nothing.
@@ -9,23 +9,16 @@ use mathlib.Core.Bool.{Bool, true, false, not, cond, _&&_}
 use mathlib.Core.List.{List, [], _∷_}
 use lib.ListN.{length, getD}
 use lib.Dec.{leb, ltb, eqb}
+use Rattle.ground.specs.Numbers.{one}
 use Rattle.dots.specs.declared.Ink.{Ink}
 use Rattle.dots.specs.declared.Ink.the-variants.{Black, White, Inverted}
 
 -- ---- numbers
--- a number as a usize holds it: no more than the greatest there is
-abbrev pub capped : ℕ → ℕ
-capped n = min 18446744073709551615 n
-
 -- from ≤ n < to
 abbrev pub within : ℕ → ℕ → ℕ → Bool
 within from to n = leb from n && ltb n to
 
 -- ---- the dots of a byte
-abbrev pub one : Bool → ℕ
-one true = 1
-one false = 0
-
 -- whether dot k of the byte b is black: "highest bit first; 1 is black"
 abbrev pub bitOf : ℕ → ℕ → Bool
 bitOf b k = eqb (b / 2 ^ (7 - k) % 2) 1
@@ -37,17 +30,24 @@ byteOf f =
     + one (f 7)
 
 -- ---- the dots of a page
+-- "76 bytes a row", and the dots in them
+abbrev pub bytesARow : ℕ
+bytesARow = 76
+
+abbrev pub dotsARow : ℕ
+dotsARow = 608
+
 -- how many whole rows a page has
 abbrev pub rows : List ℕ → ℕ
-rows page = length page / 76
+rows page = length page / bytesARow
 
 -- whether dot x of row y is black: "dot x is in byte x/8"
 unfoldable pub dotAt : List ℕ → ℕ → ℕ → Bool
-dotAt page x y = bitOf (getD page (y * 76 + x / 8) 0) (x % 8)
+dotAt page x y = bitOf (getD page (y * bytesARow + x / 8) 0) (x % 8)
 
 -- what becomes of byte i of a page, which is b, where dot x of row y, which is o, becomes f x y o
 abbrev pub byteDrawn : (ℕ → ℕ → Bool → Bool) → ℕ → ℕ → ℕ
-byteDrawn f i b = byteOf (λ k. f (i % 76 * 8 + k) (i / 76) (bitOf b k))
+byteDrawn f i b = byteOf (λ k. f (i % bytesARow * 8 + k) (i / bytesARow) (bitOf b k))
 
 -- the bytes of a page from byte i on, of which those below n become so
 abbrev pub redrawnFrom : (ℕ → ℕ → Bool → Bool) → ℕ → ℕ → List ℕ → List ℕ
@@ -56,10 +56,10 @@ redrawnFrom f n i (b ∷ bs) = cond (ltb i n) (byteDrawn f i b) b ∷ redrawnFro
 
 -- the page on which each dot x of each whole row y, which was o, is f x y o
 unfoldable pub redrawn : (ℕ → ℕ → Bool → Bool) → List ℕ → List ℕ
-redrawn f page = redrawnFrom f (rows page * 76) 0 page
+redrawn f page = redrawnFrom f (rows page * bytesARow) 0 page
 
 -- ---- drawing
--- what a dot that was o becomes where it is drawn: "LO black, LW white, LE inverts"
+-- what a dot that was o becomes where it is drawn: "`LOa,b,c,d` black, `LW` white, `LE` inverts"
 abbrev pub inked : Ink → Bool → Bool
 inked Black o = true
 inked White o = false

@@ -5,9 +5,10 @@ use mathlib.Core.Bool.{Bool, true, not, _&&_}
 use mathlib.Core.List.{List, [], _∷_, _++_}
 use lib.ListN.{length, take, drop, replicate}
 use lib.Dec.{ltb, eqb}
-use Rattle.dots.specs.Dots.{one, bitOf, byteOf, rows, dotAt, redrawn}
+use Rattle.ground.specs.Numbers.{one}
+use Rattle.dots.specs.Dots.{bytesARow, dotsARow, bitOf, byteOf, rows, dotAt, redrawn}
 
--- n bytes of white dots. "Both whiten the background, as does N."
+-- n bytes of white dots. "Both whiten the background, as does `N`, which also ends the active form."
 unfoldable pub white : ℕ → List ℕ
 white n = replicate n 0
 
@@ -21,7 +22,7 @@ turnedIn width length page = redrawn (λ x y o. (ltb x width && ltb y length) &&
 
 -- "with ZB the finished page is turned by 180 degrees". No label is wider or longer than its page: a greater width or length is the page's
 abbrev pub turned : ℕ → ℕ → List ℕ → List ℕ
-turned width length page = turnedIn (min width 608) (min length (rows page)) page
+turned width length page = turnedIn (min width dotsARow) (min length (rows page)) page
 
 -- how many dots of a byte are black, and how many of a page, each of its bytes counted
 abbrev pub blackIn : ℕ → ℕ
@@ -38,7 +39,7 @@ abbrev pub outside : ℕ → ℕ → ℕ → ℕ → Bool
 outside width length x y = not (ltb x width && ltb y length)
 
 abbrev pub whiteByte : ℕ → ℕ → ℕ → ℕ → Bool
-whiteByte width length i b = eqb (byteOf (λ k. bitOf b k && outside width length (i % 76 * 8 + k) (i / 76))) 0
+whiteByte width length i b = eqb (byteOf (λ k. bitOf b k && outside width length (i % bytesARow * 8 + k) (i / bytesARow))) 0
 
 unfoldable pub whiteFrom : ℕ → ℕ → ℕ → List ℕ → Bool
 whiteFrom width length i [] = true
@@ -46,4 +47,4 @@ whiteFrom width length i (b ∷ bs) = whiteByte width length i b && whiteFrom wi
 
 unfoldable pub whiteOutside : ℕ → ℕ → List ℕ → Bool
 unfolding whiteFrom
-whiteOutside width length page = whiteFrom width length 0 (take (rows page * 76) page)
+whiteOutside width length page = whiteFrom width length 0 (take (rows page * bytesARow) page)

@@ -1,12 +1,14 @@
 // Boxes: a box is drawn row by row, and of each row a part of the first byte, whole bytes, and a part of the last.
 ghost use mathlib.Core.Path.{_≡_};
-ghost use Prim.Native.Nat.{ℕ, _+_, _-_, _*_, _/_, _%_, _^_, _≤_, _<_, min, max};
+ghost use Prim.Native.Nat.{_+_, _-_, _*_, _/_, _%_, _^_, _≤_, _<_, min, max};
 ghost use mathlib.Core.Bool.{cond};
-ghost use lib.ListN.{length, getD};
-ghost use Rattle.dots.specs.Dots.{within, bitOf, byteOf, inked, drawn, box, cut, hollow, frame};
+ghost use lib.ListN.{length};
+ghost use Rattle.dots.specs.Dots.{bytesARow, dotsARow, within, bitOf, byteOf, inked, drawn, box, cut, hollow, frame};
+use crate::BYTES_A_ROW;
+use crate::DOTS_A_ROW;
 use crate::Ink;
-use crate::numbers::greatest;
-use crate::numbers::least;
+use ground::greatest;
+use ground::least;
 
 // The byte whose dots from lo up to hi, hi not among them, are black.
 pub(crate) fn span_mask(lo: usize, hi: usize) -> u8
@@ -29,17 +31,17 @@ pub(crate) fn ink_dots(ink: Ink, b: u8, m: u8) -> u8
 
 // Draws the dots lo up to hi of byte i of row y.
 fn ink_byte(page: &mut [u8], ink: Ink, y: usize, i: usize, lo: usize, hi: usize)
-    requires { ⌜ (i < 76) × (y * 76 + 76 ≤ length (now page)) × (lo ≤ hi) × (hi ≤ 8) ⌝ }
+    requires { ⌜ (i < bytesARow) × (y * bytesARow + bytesARow ≤ length (now page)) × (lo ≤ hi) × (hi ≤ 8) ⌝ }
     ensures { λ _. ⌜ now (page .exit) ≡ drawn ink (box (i * 8 + lo) y (i * 8 + hi) (y + 1)) (now (page .entry)) ⌝ }
 {
-    let at = y * 76 + i;
+    let at = y * BYTES_A_ROW + i;
     let m = span_mask(lo, hi);
     page[at] = ink_dots(ink, page[at], m);
 }
 
 // Draws the bytes i up to j of row y whole.
 fn ink_bytes(page: &mut [u8], ink: Ink, y: usize, i: usize, j: usize)
-    requires { ⌜ (i ≤ j) × (j ≤ 76) × (y * 76 + 76 ≤ length (now page)) ⌝ }
+    requires { ⌜ (i ≤ j) × (j ≤ bytesARow) × (y * bytesARow + bytesARow ≤ length (now page)) ⌝ }
     ensures { λ _. ⌜ now (page .exit) ≡ drawn ink (box (i * 8) y (j * 8) (y + 1)) (now (page .entry)) ⌝ }
 {
     let mut n = i;
@@ -51,7 +53,7 @@ fn ink_bytes(page: &mut [u8], ink: Ink, y: usize, i: usize, j: usize)
 
 // Draws the dots x0 up to x1 of row y: a part of the first byte, whole bytes, and a part of the last.
 fn ink_span(page: &mut [u8], ink: Ink, y: usize, x0: usize, x1: usize)
-    requires { ⌜ (x0 < x1) × (x1 ≤ 608) × (y * 76 + 76 ≤ length (now page)) ⌝ }
+    requires { ⌜ (x0 < x1) × (x1 ≤ dotsARow) × (y * bytesARow + bytesARow ≤ length (now page)) ⌝ }
     ensures { λ _. ⌜ now (page .exit) ≡ drawn ink (box x0 y x1 (y + 1)) (now (page .entry)) ⌝ }
 {
     let i = x0 / 8;
@@ -80,8 +82,8 @@ pub fn ink_box(
 )
     ensures { λ _. ⌜ now (page .exit) ≡ drawn ink (cut width length (box x0 y0 x1 y1)) (now (page .entry)) ⌝ }
 {
-    let right = least(least(x1, width), 608);
-    let bottom = least(least(y1, length), page.len() / 76);
+    let right = least(least(x1, width), DOTS_A_ROW);
+    let bottom = least(least(y1, length), page.len() / BYTES_A_ROW);
     if right <= x0 {
         return;
     }

@@ -2,26 +2,27 @@
 ghost use mathlib.Core.Path.{_≡_};
 ghost use Prim.Native.Nat.{_+_, _*_, _≤_};
 ghost use lib.ListN.{length};
-ghost use Rattle.dots.specs.Dots.{drawn, eights};
+ghost use Rattle.dots.specs.Dots.{bytesARow, drawn, eights};
+use crate::BYTES_A_ROW;
 use crate::Ink;
 use crate::boxes::ink_dots;
-use crate::numbers::least;
+use ground::least;
 
 // Draws the dots of the mask m in byte i of row y, where a row has it.
 fn ink_mask(page: &mut [u8], ink: Ink, i: usize, y: usize, m: u8)
-    requires { ⌜ y * 76 + 76 ≤ length (now page) ⌝ }
+    requires { ⌜ y * bytesARow + bytesARow ≤ length (now page) ⌝ }
     ensures { λ _. ⌜ now (page .exit) ≡ drawn ink (eights (i * 8) y (y + 1) m) (now (page .entry)) ⌝ }
 {
-    if 76 <= i {
+    if BYTES_A_ROW <= i {
         return;
     }
-    let at = y * 76 + i;
+    let at = y * BYTES_A_ROW + i;
     page[at] = ink_dots(ink, page[at], m);
 }
 
 // Draws the dots of the byte m from x on in row y: they stand in one byte of the page or two.
 fn ink_pair(page: &mut [u8], ink: Ink, x: usize, y: usize, m: u8)
-    requires { ⌜ y * 76 + 76 ≤ length (now page) ⌝ }
+    requires { ⌜ y * bytesARow + bytesARow ≤ length (now page) ⌝ }
     ensures { λ _. ⌜ now (page .exit) ≡ drawn ink (eights x y (y + 1) m) (now (page .entry)) ⌝ }
 {
     let i = x / 8;
@@ -34,7 +35,7 @@ fn ink_pair(page: &mut [u8], ink: Ink, x: usize, y: usize, m: u8)
 pub fn ink_eights(page: &mut [u8], ink: Ink, x: usize, y0: usize, y1: usize, m: u8)
     ensures { λ _. ⌜ now (page .exit) ≡ drawn ink (eights x y0 y1 m) (now (page .entry)) ⌝ }
 {
-    let bottom = least(y1, page.len() / 76);
+    let bottom = least(y1, page.len() / BYTES_A_ROW);
     let mut y = y0;
     while y < bottom {
         ink_pair(page, ink, x, y, m);

@@ -2,14 +2,16 @@
 // byte too. What then stands too far to the right by 608 less the width is shifted to the left, and what lies below the length is whitened.
 ghost use mathlib.Core.Path.{_≡_};
 ghost use mathlib.Core.Bool.{cond, _&&_};
-ghost use Prim.Native.Nat.{ℕ, _+_, _-_, _*_, _/_, _%_, _≤_, _<_};
+ghost use Prim.Native.Nat.{_+_, _-_, _*_, _/_, _%_, _≤_, _<_};
 ghost use lib.Dec.{ltb};
 ghost use lib.ListN.{length, getD, set};
-ghost use Rattle.dots.specs.Dots.{bitOf, byteOf, dotAt, redrawn};
+ghost use Rattle.dots.specs.Dots.{bytesARow, dotsARow, bitOf, byteOf, dotAt, redrawn};
 ghost use Rattle.dots.specs.Whole.{turned};
+use crate::BYTES_A_ROW;
+use crate::DOTS_A_ROW;
 use crate::Ink;
 use crate::boxes::ink_box;
-use crate::numbers::least;
+use ground::least;
 
 // A byte with its dots in the other order.
 fn mirror(b: u8) -> u8
@@ -22,11 +24,11 @@ fn mirror(b: u8) -> u8
 
 // Turns the first n rows by half a turn.
 fn turn_rows(page: &mut [u8], n: usize)
-    requires { ⌜ n * 76 ≤ length (now page) ⌝ }
+    requires { ⌜ n * bytesARow ≤ length (now page) ⌝ }
     ensures { λ _. ⌜ now (page .exit) ≡ redrawn (λ x y o. cond (ltb y n) (dotAt (now (page .entry)) (607 - x) (n - 1 - y)) o) (now (page .entry)) ⌝ }
 {
     let mut i = 0;
-    let mut j = n * 76;
+    let mut j = n * BYTES_A_ROW;
     while i < j {
         let a = mirror(page[i]);
         let b = mirror(page[j - 1]);
@@ -49,19 +51,19 @@ fn between(a: u8, b: u8, t: usize) -> u8
 
 // Byte i of a row that starts at byte `at`, white beyond the row's end.
 fn byte_of_row(page: &[u8], at: usize, i: usize) -> u8
-    requires { ⌜ at + 76 ≤ length (now page) ⌝ }
-    ensures { λ r. ⌜ r ≡ cond (ltb i 76) (getD (now (page .entry)) (at + i) 0) 0 ⌝ }
+    requires { ⌜ at + bytesARow ≤ length (now page) ⌝ }
+    ensures { λ r. ⌜ r ≡ cond (ltb i bytesARow) (getD (now (page .entry)) (at + i) 0) 0 ⌝ }
 {
-    if i < 76 { page[at + i] } else { 0 }
+    if i < BYTES_A_ROW { page[at + i] } else { 0 }
 }
 
 // Shifts byte i of a page: its dots become those that stand s to the right in its row.
 fn shift_byte(page: &mut [u8], i: usize, s: usize)
-    requires { ⌜ (i < length (now page) / 76 * 76) × (s ≤ 608) ⌝ }
-    ensures { λ _. ⌜ now (page .exit) ≡ set (now (page .entry)) i (byteOf (λ k. ltb (i % 76 * 8 + k + s) 608 && dotAt (now (page .entry)) (i % 76 * 8 + k + s) (i / 76))) ⌝ }
+    requires { ⌜ (i < length (now page) / bytesARow * bytesARow) × (s ≤ dotsARow) ⌝ }
+    ensures { λ _. ⌜ now (page .exit) ≡ set (now (page .entry)) i (byteOf (λ k. ltb (i % bytesARow * 8 + k + s) dotsARow && dotAt (now (page .entry)) (i % bytesARow * 8 + k + s) (i / bytesARow))) ⌝ }
 {
-    let at = i / 76 * 76;
-    let from = i % 76 + s / 8;
+    let at = i / BYTES_A_ROW * BYTES_A_ROW;
+    let from = i % BYTES_A_ROW + s / 8;
     let a = byte_of_row(page, at, from);
     let b = byte_of_row(page, at, from + 1);
     page[i] = between(a, b, s % 8);
@@ -69,13 +71,13 @@ fn shift_byte(page: &mut [u8], i: usize, s: usize)
 
 // Shifts each row to the left by s dots. Most labels are as wide as their page, and then no byte is touched.
 fn shift_rows(page: &mut [u8], s: usize)
-    requires { ⌜ s ≤ 608 ⌝ }
-    ensures { λ _. ⌜ now (page .exit) ≡ redrawn (λ x y o. ltb (x + s) 608 && dotAt (now (page .entry)) (x + s) y) (now (page .entry)) ⌝ }
+    requires { ⌜ s ≤ dotsARow ⌝ }
+    ensures { λ _. ⌜ now (page .exit) ≡ redrawn (λ x y o. ltb (x + s) dotsARow && dotAt (now (page .entry)) (x + s) y) (now (page .entry)) ⌝ }
 {
     if s == 0 {
         return;
     }
-    let end = page.len() / 76 * 76;
+    let end = page.len() / BYTES_A_ROW * BYTES_A_ROW;
     let mut i = 0;
     while i < end {
         shift_byte(page, i, s);
@@ -87,10 +89,10 @@ fn shift_rows(page: &mut [u8], s: usize)
 pub fn turn(page: &mut [u8], width: usize, length: usize)
     ensures { λ _. ⌜ now (page .exit) ≡ turned width length (now (page .entry)) ⌝ }
 {
-    let rows = page.len() / 76;
-    let w = least(width, 608);
+    let rows = page.len() / BYTES_A_ROW;
+    let w = least(width, DOTS_A_ROW);
     let l = least(length, rows);
     turn_rows(page, l);
-    shift_rows(page, 608 - w);
-    ink_box(page, Ink::White, 608, rows, 0, l, 608, rows);
+    shift_rows(page, DOTS_A_ROW - w);
+    ink_box(page, Ink::White, DOTS_A_ROW, rows, 0, l, DOTS_A_ROW, rows);
 }

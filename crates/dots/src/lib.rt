@@ -6,20 +6,21 @@
 mod boxes; // boxes in three inks, and the frame
 mod eights; // the dots of a byte, anywhere
 mod half; // the half turn
-mod numbers; // small sums
 mod whole; // whole pages: whitened, copied, counted
 
 pub use boxes::ink_box;
 pub use boxes::ink_frame;
 pub use eights::ink_eights;
 pub use half::turn;
-pub use numbers::capped_sum;
-pub use numbers::greatest;
-pub use numbers::least;
 pub use whole::black_dots;
 pub use whole::copy;
 pub use whole::white_outside;
 pub use whole::whiten;
+
+// "76 bytes a row": so a row has 608 dots.
+pub const BYTES_A_ROW: usize = 76;
+
+pub const DOTS_A_ROW: usize = 608;
 
 // What drawing does to a dot: makes it black, makes it white, or turns it over.
 pub enum Ink {

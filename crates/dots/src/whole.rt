@@ -1,14 +1,16 @@
 // Whole pages: whitened, copied, counted, and looked over for black dots outside the label.
 ghost use mathlib.Core.Path.{_≡_};
-ghost use mathlib.Core.Bool.{not, cond, _&&_};
-ghost use Prim.Native.Nat.{ℕ, _+_, _*_, _/_, _%_, _^_, _≤_, _<_, min};
+ghost use mathlib.Core.Bool.{cond};
+ghost use Prim.Native.Nat.{_+_, _*_, _/_, _%_, _^_, _≤_, _<_, min};
 ghost use lib.Dec.{ltb};
 ghost use lib.ListN.{length, take, drop};
-ghost use Rattle.dots.specs.Dots.{byteOf, capped};
+ghost use Rattle.ground.specs.Numbers.{capped};
+ghost use Rattle.dots.specs.Dots.{bytesARow, byteOf};
 ghost use Rattle.dots.specs.Whole.{white, copied, blackIn, blackDots, outside, whiteByte, whiteFrom, whiteOutside};
+use crate::BYTES_A_ROW;
 use crate::boxes::span_mask;
-use crate::numbers::capped_sum;
-use crate::numbers::least;
+use ground::capped_sum;
+use ground::least;
 
 // Makes every dot white.
 pub fn whiten(page: &mut [u8])
@@ -55,10 +57,10 @@ pub fn black_dots(page: &[u8]) -> usize
 
 // The byte whose dots are those that lie outside width by length, of the dots of byte i of a page.
 fn outside_mask(i: usize, width: usize, length: usize) -> u8
-    ensures { λ r. ⌜ r ≡ byteOf (λ k. outside width length (i % 76 * 8 + k) (i / 76)) ⌝ }
+    ensures { λ r. ⌜ r ≡ byteOf (λ k. outside width length (i % bytesARow * 8 + k) (i / bytesARow)) ⌝ }
 {
-    let x = i % 76 * 8;
-    if length <= i / 76 {
+    let x = i % BYTES_A_ROW * 8;
+    if length <= i / BYTES_A_ROW {
         return 255;
     }
     if width <= x {
@@ -95,18 +97,22 @@ fn white_bytes(bytes: &[u8], at: usize, width: usize, length: usize) -> bool
 
 // The first byte of row y that may have dots outside width by length: no other has to be looked at.
 fn first_outside(y: usize, width: usize, length: usize) -> usize
-    ensures { λ r. ⌜ (r ≡ cond (ltb y length) (min (width / 8) 76) 0) × (r ≤ 76) ⌝ }
+    ensures { λ r. ⌜ (r ≡ cond (ltb y length) (min (width / 8) bytesARow) 0) × (r ≤ bytesARow) ⌝ }
 {
-    if y < length { least(width / 8, 76) } else { 0 }
+    if y < length {
+        least(width / 8, BYTES_A_ROW)
+    } else {
+        0
+    }
 }
 
 // Whether row y has no black dot outside width by length.
 fn white_row(page: &[u8], y: usize, width: usize, length: usize) -> bool
-    requires { do ⌜ y * 76 + 76 ≤ (← ⟦page.len()⟧) ⌝ }
-    ensures { λ r. ⌜ r ≡ whiteFrom width length (y * 76) (take 76 (drop (y * 76) (now (page .entry)))) ⌝ }
+    requires { do ⌜ y * bytesARow + bytesARow ≤ (← ⟦page.len()⟧) ⌝ }
+    ensures { λ r. ⌜ r ≡ whiteFrom width length (y * bytesARow) (take bytesARow (drop (y * bytesARow) (now (page .entry)))) ⌝ }
 {
-    let at = y * 76 + first_outside(y, width, length);
-    let end = y * 76 + 76;
+    let at = y * BYTES_A_ROW + first_outside(y, width, length);
+    let end = y * BYTES_A_ROW + BYTES_A_ROW;
     white_bytes(&page[at..end], at, width, length)
 }
 
@@ -114,7 +120,7 @@ fn white_row(page: &[u8], y: usize, width: usize, length: usize) -> bool
 pub fn white_outside(page: &[u8], width: usize, length: usize) -> bool
     ensures { λ r. ⌜ r ≡ whiteOutside width length (now (page .entry)) ⌝ }
 {
-    let rows = page.len() / 76;
+    let rows = page.len() / BYTES_A_ROW;
     let mut y = 0;
     while y < rows {
         if !white_row(page, y, width, length) {

@@ -8,62 +8,62 @@ use lib.ListN.{length, set}
 use lib.Dec.{eqb}
 use lib.Seq.{sets}
 use borrow.Author.Tests.{eq-eqb, ne-eqb, eqb-true, not-false}
-use Rattle.values.proofs.Writing.{sets-all}
 use Rattle.session.specs.declared.Session.{Session}
 use Rattle.session.specs.declared.answers.Answer.the-variants.{Lengths}
 use Rattle.session.specs.Answers.{numberOf}
 use Rattle.session.specs.Lent.{World}
 use Rattle.station.specs.declared.Outcome.{Outcome}
-use Rattle.station.specs.declared.Labelled.{Labelled}
+use Rattle.session.specs.declared.answers.Labelled.{Labelled}
 use Rattle.station.specs.Outcomes.{after, drawnBy, openedBy}
 use Rattle.station.specs.Station.{opened, commanded, labelledBy}
-use Rattle.face.specs.Image.{bytesOf, counterBytes, sessionOf, imageOf}
-use Rattle.face.specs.Face.{countsStored, imageWrong, countsWrong, opening, commanding, labelling, openedFace, commandedFace, labelledFace}
+use Rattle.ground.proofs.Stores.{sets-all}
+use Rattle.face.specs.Image.{imageSize, bytesOf, counterBytes, sessionOf, imageOf}
+use Rattle.face.specs.Face.{countsSize, countsStored, imageWrong, countsWrong, opening, commanding, labelling, openedFace, commandedFace, labelledFace}
 
 -- ---- counts
 
-pub counts-two : (l : List ℕ) (r w : ℕ) → length l ≡ 2 → set (set l 0 r) 1 w ≡ countsStored l r w
+pub counts-two : (l : List ℕ) (r w : ℕ) → length l ≡ countsSize → set (set l 0 r) 1 w ≡ countsStored l r w
 unfolding countsStored
 counts-two [] r w h = absurd (omega arith)
 counts-two (x ∷ []) r w h = absurd (omega arith)
 counts-two (x ∷ y ∷ []) r w h = refl
 counts-two (x ∷ y ∷ z ∷ l) r w h = absurd (omega arith)
 
-pub counts-other : (l : List ℕ) (r w : ℕ) → (length l ≡ 2 → ⊥) → l ≡ countsStored l r w
+pub counts-other : (l : List ℕ) (r w : ℕ) → (length l ≡ countsSize → ⊥) → l ≡ countsStored l r w
 unfolding countsStored
-counts-other l r w h = rw (ne-eqb (length l) 2 h)
+counts-other l r w h = rw (ne-eqb (length l) countsSize h)
 
 -- ---- the image
 
-length-image : (s : Session) → length (imageOf s) ≡ 65
+pub length-image : (s : Session) → length (imageOf s) ≡ imageSize
 unfolding imageOf bytesOf counterBytes
 length-image s = refl
 
 -- an image stored over 65 bytes is all there is
-whole : (i : List ℕ) (s : Session) → length i ≡ 65 → sets i 0 (imageOf s) ≡ imageOf s
+whole : (i : List ℕ) (s : Session) → length i ≡ imageSize → sets i 0 (imageOf s) ≡ imageOf s
 whole i s h = sets-all i (imageOf s) (length-image s ∙ sym h)
 
 -- ---- the calls
 
 module _ (i p : List ℕ) (w : World) where
-  pub open-wrong : (r : ℕ) → (length i ≡ 65 → ⊥) → r ≡ numberOf Lengths → opening r i p w ≡ openedFace i p w
+  pub open-wrong : (r : ℕ) → (length i ≡ imageSize → ⊥) → r ≡ numberOf Lengths → opening r i p w ≡ openedFace i p w
   unfolding openedFace
-  open-wrong r h e = rw (ne-eqb (length i) 65 h, e)
+  open-wrong r h e = rw (ne-eqb (length i) imageSize h, e)
 
-  pub open-done : (o : Labelled) (i' p' : List ℕ) (w' : World) (r : ℕ) → length i ≡ 65 → openedBy o p' w' ≡ opened p w
+  pub open-done : (o : Labelled) (i' p' : List ℕ) (w' : World) (r : ℕ) → length i ≡ imageSize → openedBy o p' w' ≡ opened p w
       → i' ≡ sets i 0 (imageOf (o .session)) → r ≡ numberOf (o .answer) → opening r i' p' w' ≡ openedFace i p w
   unfolding openedFace
-  open-done o i' p' w' r h e q n = rw (eq-eqb (length i) 65 h, ← e, n, q, whole i (o .session) h)
+  open-done o i' p' w' r h e q n = rw (eq-eqb (length i) imageSize h, ← e, n, q, whole i (o .session) h)
 
 module _ (i f : List ℕ) (w : World) (p : List ℕ) where
-  pub label-wrong : (r : ℕ) → (length i ≡ 65 → ⊥) → r ≡ numberOf Lengths → labelling r i p ≡ labelledFace i f w p
+  pub label-wrong : (r : ℕ) → (length i ≡ imageSize → ⊥) → r ≡ numberOf Lengths → labelling r i p ≡ labelledFace i f w p
   unfolding labelledFace
-  label-wrong r h e = rw (ne-eqb (length i) 65 h, e)
+  label-wrong r h e = rw (ne-eqb (length i) imageSize h, e)
 
-  pub label-done : (s : Session) (o : Labelled) (i' p' : List ℕ) (r : ℕ) → length i ≡ 65 → s ≡ sessionOf i → drawnBy o p' ≡ labelledBy s f w p
+  pub label-done : (s : Session) (o : Labelled) (i' p' : List ℕ) (r : ℕ) → length i ≡ imageSize → s ≡ sessionOf i → drawnBy o p' ≡ labelledBy s f w p
       → i' ≡ sets i 0 (imageOf (o .session)) → r ≡ numberOf (o .answer) → labelling r i' p' ≡ labelledFace i f w p
   unfolding labelledFace
-  label-done s o i' p' r h d e q n = rw (eq-eqb (length i) 65 h, ← d, ← e, n, q, whole i (o .session) h)
+  label-done s o i' p' r h d e q n = rw (eq-eqb (length i) imageSize h, ← d, ← e, n, q, whole i (o .session) h)
 
 pub neither : (a b : Bool) → (a || b) ≡ false → a ≡ false
 neither true b e = e
@@ -80,5 +80,5 @@ module _ (i cs f : List ℕ) (w : World) (out input : List ℕ) (wrong : Bool) (
       → commanding r i' cs' w' out' ≡ commandedFace i cs f w out input
   unfolding commandedFace
   command-done s o i' cs' w' out' r h d e q k n =
-      let t : length i ≡ 65 = eqb-true (length i) 65 (not-false (eqb (length i) 65) (neither (imageWrong i) (countsWrong cs) (sym is ∙ h))) in
+      let t : length i ≡ imageSize = eqb-true (length i) imageSize (not-false (eqb (length i) imageSize) (neither (imageWrong i) (countsWrong cs) (sym is ∙ h))) in
       rw (← is, h, ← d, ← e, n, q, k, whole i (o .session) t)

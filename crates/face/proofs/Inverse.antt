@@ -9,7 +9,7 @@ use lib.Seq.{drop-cons, getD-drop}
 use Rattle.values.specs.declared.counters.Counters.{Counters}
 use Rattle.values.specs.Counters.{counters}
 use Rattle.session.specs.declared.Session.{Session}
-use Rattle.face.specs.Image.{numberAt, bytesOf, everyFive, counterBytes, sessionOf, imageOf, Fits}
+use Rattle.face.specs.Image.{imageSize, numberAt, bytesOf, everyFive, counterBytes, sessionOf, imageOf, Fits}
 use Rattle.face.proofs.Numbers.{byte-number, session-read}
 
 -- ---- one number
@@ -57,7 +57,7 @@ module _ (b : List ℕ) (small : (k : ℕ) → getD b k 0 < 256) where
   five-at w (suc n) at zero h = ap (numberAt w b) (let e : at ≡ at + 5 * 0 = omega arith in e)
   five-at w (suc n) at (suc k) h = five-at w n (5 + at) k (omega arith) ∙ ap (numberAt w b) (let e : 5 + at + 5 * k ≡ at + 5 * suc k = omega arith in e)
 
-  counters-again : (n k : ℕ) → n + k ≡ 10 → length b ≡ 65
+  counters-again : (n k : ℕ) → n + k ≡ 10 → length b ≡ imageSize
       → counterBytes n k (counters (everyFive 1 10 b 15) (everyFive 4 10 b 16)) ≡ drop (15 + 5 * k) b
   unfolding counterBytes
   counters-again zero k h e = sym (drop-of-length-le b (let d : length b ≤ 15 + 5 * k = omega arith in d))
@@ -70,7 +70,7 @@ module _ (b : List ℕ) (small : (k : ℕ) → getD b k 0 < 256) where
       rw (s, v) (ap (λ (l : List ℕ). getD b (15 + 5 * k) 0 ∷ l) (field 4 (16 + 5 * k) _ (omega arith) i) ∙ sym (rw d at (drop-cons b (15 + 5 * k) 0 (omega arith))))
 
   -- the image of an image's session is that image
-  pub image-session : length b ≡ 65 → imageOf (sessionOf b) ≡ b
+  pub image-session : length b ≡ imageSize → imageOf (sessionOf b) ≡ b
   unfolding imageOf sessionOf bytesOf
   image-session e =
       field 2 0 _ (omega arith)

@@ -16,7 +16,7 @@ use Rattle.session.specs.Lent.{World}
 use Rattle.station.specs.Outcomes.{After, after, outcome, Drawn, drawnBy, labelled}
 use Rattle.station.specs.Station.{readBy, commanded, labelledBy}
 use Rattle.station.proofs.Promises.{open-refusal-keeps, command-refusal-keeps, label-refusal-keeps}
-use Rattle.face.specs.Image.{bytesOf, counterBytes, sessionOf, imageOf}
+use Rattle.face.specs.Image.{imageSize, bytesOf, counterBytes, sessionOf, imageOf}
 use Rattle.face.specs.Face.{
   imageWrong,
   countsWrong,
@@ -35,14 +35,14 @@ use Rattle.face.proofs.Inverse.{image-session}
 
 -- ---- opening
 
-pub zeros-image : imageOf none ≡ replicate 65 0
+pub zeros-image : imageOf none ≡ replicate imageSize 0
 unfolding imageOf bytesOf counterBytes
 zeros-image = refl
 
-pub open-refusal : (i p : List ℕ) (w : World) → length i ≡ 65 → eqb (openedFace i p w .answer) 0 ≡ false → openedFace i p w ≡ opening (numberOf Lengths) (replicate 65 0) p w
+pub open-refusal : (i p : List ℕ) (w : World) → length i ≡ imageSize → eqb (openedFace i p w .answer) 0 ≡ false → openedFace i p w ≡ opening (numberOf Lengths) (replicate imageSize 0) p w
 unfolding openedFace isTaken
 open-refusal i p w h n =
-    let q = eq-eqb (length i) 65 h in
+    let q = eq-eqb (length i) imageSize h in
     rw (q, open-refusal-keeps p w (rw q at n), zeros-image)
 
 -- ---- a command
@@ -64,7 +64,7 @@ command-either false i cs o w c k n = k refl n
 
 -- an image that is not wrong is its session's
 same : (i : List ℕ) → ((k : ℕ) → getD i k 0 < 256) → imageWrong i ≡ false → imageOf (sessionOf i) ≡ i
-same i small e = image-session i small (eqb-true (length i) 65 (not-false (eqb (length i) 65) e))
+same i small e = image-session i small (eqb-true (length i) imageSize (not-false (eqb (length i) imageSize) e))
 
 module _ (i : List ℕ) (small : (k : ℕ) → getD i k 0 < 256) (f : List ℕ) (w : World) where
   pub command-refusal : (cs o input : List ℕ) → eqb (commandedFace i cs f w o input .answer) 0 ≡ false

@@ -6,7 +6,7 @@ use native.Mathlib.Omega.{arith}
 use lib.ListN.{getD, set}
 use lib.Seq.{sets}
 use Rattle.values.specs.declared.counters.Counters.{Counters}
-use Rattle.values.proofs.Writing.{sets-append}
+use Rattle.ground.proofs.Stores.{sets-append}
 use Rattle.face.specs.Image.{numberAt, bytesOf, counterBytes}
 
 -- ---- reading: n numbers from counter k on, into a list

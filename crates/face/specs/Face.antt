@@ -16,8 +16,12 @@ use Rattle.face.specs.Image.{imageSize, sessionOf, imageOf}
 abbrev pub imageWrong : List ℕ → Bool
 imageWrong image = not (eqb (length image) imageSize)
 
+-- bytes read, bytes written
+abbrev pub countsSize : ℕ
+countsSize = 2
+
 abbrev pub countsWrong : List ℕ → Bool
-countsWrong counts = not (eqb (length counts) 2)
+countsWrong counts = not (eqb (length counts) countsSize)
 
 -- ---- opening
 

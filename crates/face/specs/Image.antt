@@ -7,7 +7,7 @@ use lib.ListN.{getD, length as length'}
 use Rattle.values.specs.declared.counters.Counters.{Counters}
 use Rattle.values.specs.Counters.{counters}
 use Rattle.session.specs.declared.Session.{Session}
-use Rattle.session.specs.Session.{session}
+use Rattle.session.specs.Session.{none, sized, turning, based, withActive, withLabels, counting}
 
 -- ---- numbers, low byte first
 
@@ -38,9 +38,16 @@ counterBytes (suc n) k c = getD (c .set) k 0 ∷ (bytesOf 4 (getD (c .value) k 0
 abbrev pub imageSize : ℕ
 imageSize = 65
 
+abbrev pub wordAt : List ℕ → ℕ → ℕ
+wordAt b at = numberAt 2 b at
+
 unfoldable pub sessionOf : List ℕ → Session
 sessionOf b =
-    session (numberAt 2 b 0) (numberAt 2 b 2) (getD b 4 0) (numberAt 2 b 5) (numberAt 2 b 7) (numberAt 2 b 9) (numberAt 2 b 11) (numberAt 2 b 13)
+    counting
+    (withLabels
+    (withActive (based (turning (sized none (wordAt b 0) (wordAt b 2)) (getD b 4 0)) (wordAt b 5) (wordAt b 7)) (wordAt b 9))
+    (wordAt b 11)
+    (wordAt b 13))
     (counters (everyFive 1 10 b 15) (everyFive 4 10 b 16))
 
 -- the fifteen bytes before the counters

@@ -5,15 +5,18 @@ ghost use Rattle.face.specs.Face.{countsStored, opening, commanding, lab
 use crate::image::IMAGE;
 use crate::image::decode;
 use crate::image::encode;
+use ground::either;
 use session::Answer;
 use session::answers::number;
-use values::bytes::either;
+
+// Bytes read, bytes written.
+pub const COUNTS: usize = 2;
 
 // Bytes read and bytes written, at every answer; counts of another length are left as they are.
 fn store_counts(counts: &mut [u64], read: usize, written: usize)
     ensures { λ _. ⌜ now (counts .exit) ≡ countsStored (now (counts .entry)) read written ⌝ }
 {
-    if counts.len() == 2 {
+    if counts.len() == COUNTS {
         counts[0] = read as u64;
         counts[1] = written as u64;
     }
@@ -56,7 +59,7 @@ pub extern "C" fn station_command(
 ) -> u8
     ensures { λ r. ⌜ commanding r (now (session .exit)) (now (counts .exit)) (world (now (background .exit)) (now (store .exit)) (now (links .exit)) (now (directory .exit)) (now (values .exit))) (now (output .exit)) ≡ commandedFace (now (session .entry)) (now (counts .entry)) (now (font .entry)) (world (now (background .entry)) (now (store .entry)) (now (links .entry)) (now (directory .entry)) (now (values .entry))) (now (output .entry)) (now (input .entry)) ⌝ }
 {
-    if either(session.len() != IMAGE, counts.len() != 2) {
+    if either(session.len() != IMAGE, counts.len() != COUNTS) {
         store_counts(counts, 0, 0);
         return number(Answer::Lengths);
     }

@@ -4,11 +4,11 @@ ghost use mathlib.Core.List.{_∷_};
 ghost use Prim.Native.Nat.{_+_, _*_, _/_, _%_, _<_};
 ghost use lib.Seq.{sets};
 ghost use Rattle.values.specs.Counters.{counters};
-ghost use Rattle.face.specs.Image.{numberAt, bytesOf, everyFive, counterBytes, headOf, sessionOf, imageOf};
+ghost use Rattle.face.specs.Image.{imageSize, numberAt, bytesOf, everyFive, counterBytes, headOf, sessionOf, imageOf};
+use ground::byte;
+use ground::put;
 use session::Session;
 use values::Counters;
-use values::bytes::byte;
-use values::bytes::put;
 
 // The bytes of an image.
 pub const IMAGE: usize = 65;
@@ -26,14 +26,14 @@ fn joined(low: u16, high: u16) -> u32
 }
 
 fn word_at(image: &[u8], at: usize) -> u16
-    requires { ⌜ at < 67 ⌝ }
+    requires { ⌜ at < imageSize + 2 ⌝ }
     ensures { λ r. ⌜ r ≡ numberAt 2 (now (image .entry)) at ⌝ }
 {
     pair(byte(image, at), byte(image, at + 1))
 }
 
 fn value_at(image: &[u8], at: usize) -> u32
-    requires { ⌜ at < 65 ⌝ }
+    requires { ⌜ at < imageSize ⌝ }
     ensures { λ r. ⌜ r ≡ numberAt 4 (now (image .entry)) at ⌝ }
 {
     let low = word_at(image, at);

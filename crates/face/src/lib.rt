@@ -7,6 +7,10 @@
 mod calls; // the three calls
 mod image; // a session as its bytes
 
+pub use calls::COUNTS;
 pub use calls::station_command;
 pub use calls::station_label;
 pub use calls::station_open;
+pub use image::IMAGE;
+pub use image::decode;
+pub use image::encode;

@@ -1,6 +1,7 @@
 -- Classes of bytes, and how far a run of one class goes.
 -- Assumes nothing.
 use Prim.Native.Nat.{ℕ, suc, _+_, _-_, _*_}
+use Prim.Native.Char.{code}
 use mathlib.Core.Bool.{Bool, cond, _||_, not}
 use mathlib.Core.List.{List, [], _∷_}
 use lib.Dec.{eqb}
@@ -11,12 +12,12 @@ use Rattle.fields.specs.declared.Class.the-variants.{Digit, Quoted, Insi
 -- Digit: 0 to 9. Quoted: "Other bytes are 32 to 126", "Quoted text holds no quote" (34). Inside: what is no LF (10).
 -- Named: "codes 32 to 126 without `*` and quote". Mode: "m N or R". Side: "j L, R, C, N or Z"
 abbrev pub inClass : Class → ℕ → Bool
-inClass Digit b = between 48 57 b
+inClass Digit b = between (code "0") (code "9") b
 inClass Quoted b = between 32 33 b || between 35 126 b
 inClass Inside b = not (eqb b 10)
 inClass Named b = between 32 33 b || (between 35 41 b || between 43 126 b)
-inClass Mode b = eqb b 78 || eqb b 82
-inClass Side b = eqb b 76 || (eqb b 82 || (eqb b 67 || (eqb b 78 || eqb b 90)))
+inClass Mode b = eqb b (code "N") || eqb b (code "R")
+inClass Side b = eqb b (code "L") || (eqb b (code "R") || (eqb b (code "C") || (eqb b (code "N") || eqb b (code "Z"))))
 
 -- how many bytes of the class stand at the front
 unfoldable pub run : Class → List ℕ → ℕ
@@ -25,7 +26,7 @@ run k (b ∷ bs) = cond (inClass k b) (suc (run k bs)) 0
 
 -- a digit's number, and 0 of another byte
 abbrev pub digitOf : ℕ → ℕ
-digitOf b = cond (between 48 57 b) (b - 48) 0
+digitOf b = cond (between (code "0") (code "9") b) (b - code "0") 0
 
 -- the number that digits write, after v
 unfoldable pub valueFrom : ℕ → List ℕ → ℕ

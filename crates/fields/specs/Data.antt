@@ -1,6 +1,7 @@
 -- Paper 01, "Data": "One or more elements side by side: quoted text, or `V`/`C` and a digit, then at most one of `Ln`, `Rn`, `Mp.n`".
 -- Assumes nothing.
 use Prim.Native.Nat.{ℕ, zero, suc, _+_, _-_}
+use Prim.Native.Char.{code}
 use mathlib.Core.Bool.{Bool, true, false, cond, _&&_}
 use mathlib.Core.List.{List, [], _∷_}
 use lib.ListN.{length, getD}
@@ -42,15 +43,15 @@ middle-dot p s at (Is d e) = middle-n p e (numberAt s e)
 middle-dot p s at (Not q) = Wrong at
 
 abbrev pub middle : List ℕ → ℕ → Field → Modifier
-middle s at (Is p e) = middle-dot p s e (byteAt 46 s e)
+middle s at (Is p e) = middle-dot p s e (byteAt (code ".") s e)
 middle s at (Not q) = Wrong at
 
 -- a modifier at a place, or none
 unfoldable pub modifierAt : List ℕ → ℕ → Modifier
 modifierAt s at =
-    cond (eqb (getD s at 0) 76) (first (at + 1) (numberAt s (at + 1)))
-    (cond (eqb (getD s at 0) 82) (last (at + 1) (numberAt s (at + 1)))
-    (cond (eqb (getD s at 0) 77) (middle s (at + 1) (numberAt s (at + 1)))
+    cond (eqb (getD s at 0) (code "L")) (first (at + 1) (numberAt s (at + 1)))
+    (cond (eqb (getD s at 0) (code "R")) (last (at + 1) (numberAt s (at + 1)))
+    (cond (eqb (getD s at 0) (code "M")) (middle s (at + 1) (numberAt s (at + 1)))
     (Takes Whole at)))
 
 -- an element that goes wrong at q is at fault from its first byte on, or at the LF where the line ends too soon
@@ -73,16 +74,16 @@ modified counter digit s at (Wrong q) = Stop (pointed s at q)
 -- after `V` or `C`
 unfoldable pub heldAt : Bool → List ℕ → ℕ → Step
 heldAt counter s at =
-    cond (between 48 57 (getD s (at + 1) 0))
+    cond (between (code "0") (code "9") (getD s (at + 1) 0))
     (modified counter (getD s (at + 1) 0) s at (modifierAt s (at + 2)))
     (Stop (pointed s at (at + 1)))
 
 -- the element at a place, or none
 unfoldable pub elementAt : List ℕ → ℕ → Step
 elementAt s at =
-    cond (eqb (getD s at 0) 34) (quotedFrom at (textAt s at))
-    (cond (eqb (getD s at 0) 86) (heldAt false s at)
-    (cond (eqb (getD s at 0) 67) (heldAt true s at)
+    cond (eqb (getD s at 0) (code "\"")) (quotedFrom at (textAt s at))
+    (cond (eqb (getD s at 0) (code "V")) (heldAt false s at)
+    (cond (eqb (getD s at 0) (code "C")) (heldAt true s at)
     (Stop at)))
 
 -- the place after an element

@@ -2,6 +2,7 @@
 -- Past the end of a line stands 0, which is no byte of any field.
 -- Assumes nothing.
 use Prim.Native.Nat.{ℕ, _+_, _-_, _<_}
+use Prim.Native.Char.{code}
 use mathlib.Core.Bool.{cond, _&&_}
 use mathlib.Core.List.{List}
 use lib.ListN.{length, getD, take, drop}
@@ -13,6 +14,11 @@ use Rattle.fields.specs.declared.Class.the-variants.{Digit, Quoted}
 use Rattle.fields.specs.declared.Field.{Field}
 use Rattle.fields.specs.declared.Field.the-variants.{Is, Not}
 use Rattle.fields.specs.Bytes.{run, valueFrom, inClass}
+
+-- where the reading of a field stopped: behind the field, or at the fault
+abbrev pub stopOf : Field → ℕ
+stopOf (Is v e) = e
+stopOf (Not p) = p
 
 -- the n bytes from a place
 abbrev pub part : List ℕ → ℕ → ℕ → List ℕ
@@ -31,12 +37,12 @@ numberAt s at =
 
 -- where a text that is none goes wrong: at its first byte, or at the LF where the line ends within it
 abbrev pub textFault : List ℕ → ℕ → ℕ
-textFault s at = cond (eqb (getD s at 0) 34 && leb (length s) (at + 1 + runAt Quoted s (at + 1))) (length s) at
+textFault s at = cond (eqb (getD s at 0) (code "\"") && leb (length s) (at + 1 + runAt Quoted s (at + 1))) (length s) at
 
 -- quoted text; its value is its length
 unfoldable pub textAt : List ℕ → ℕ → Field
 textAt s at =
-    cond (eqb (getD s at 0) 34 && eqb (getD s (at + 1 + runAt Quoted s (at + 1)) 0) 34)
+    cond (eqb (getD s at 0) (code "\"") && eqb (getD s (at + 1 + runAt Quoted s (at + 1)) 0) (code "\""))
     (Is (runAt Quoted s (at + 1)) (at + 1 + runAt Quoted s (at + 1) + 1))
     (Not (textFault s at))
 
@@ -59,8 +65,8 @@ Small (Not p) = Unit {0}
 
 unfoldable pub signedAt : List ℕ → ℕ → Field
 signedAt s at =
-    cond (eqb (getD s at 0) 43) (plus (numberAt s (at + 1)))
-    (cond (eqb (getD s at 0) 45) (minus (numberAt s (at + 1)))
+    cond (eqb (getD s at 0) (code "+")) (plus (numberAt s (at + 1)))
+    (cond (eqb (getD s at 0) (code "-")) (minus (numberAt s (at + 1)))
     (plus (numberAt s at)))
 
 -- the byte b itself; its value is the byte
@@ -74,10 +80,10 @@ letterAt k s at = cond (ltb at (length s) && inClass k (getD s at 0)) (Is (getD 
 -- a bar type, one of the words `1`, `2`, `3`, `E30`; its value is 1, 2, 3 or 30
 unfoldable pub typeAt : List ℕ → ℕ → Field
 typeAt s at =
-    cond (eqb (getD s at 0) 49) (Is 1 (at + 1))
-    (cond (eqb (getD s at 0) 50) (Is 2 (at + 1))
-    (cond (eqb (getD s at 0) 51) (Is 3 (at + 1))
-    (cond (eqb (getD s at 0) 69 && (eqb (getD s (at + 1) 0) 51 && eqb (getD s (at + 2) 0) 48)) (Is 30 (at + 3))
+    cond (eqb (getD s at 0) (code "1")) (Is 1 (at + 1))
+    (cond (eqb (getD s at 0) (code "2")) (Is 2 (at + 1))
+    (cond (eqb (getD s at 0) (code "3")) (Is 3 (at + 1))
+    (cond (eqb (getD s at 0) (code "E") && (eqb (getD s (at + 1) 0) (code "3") && eqb (getD s (at + 2) 0) (code "0"))) (Is 30 (at + 3))
     (Not at))))
 
 -- what a bar type's data is for

@@ -9,7 +9,7 @@ ghost use Prim.Native.Nat.{_+_, _-_, _≤_, _<_};
 ghost use lib.ListN.{length, getD, drop};
 ghost use Rattle.kinds.specs.Bytes.{between};
 ghost use Rattle.fields.specs.Bytes.{inClass, run, digitOf, valueFrom};
-ghost use Rattle.fields.specs.Field.{part, numberAt, textAt, signedAt, letterAt, byteAt, typeAt, kindFrom, plus, minus, Small};
+ghost use Rattle.fields.specs.Field.{part, numberAt, textAt, signedAt, letterAt, byteAt, typeAt, kindFrom, stopOf, plus, minus, Small};
 ghost use Rattle.fields.specs.Data.{modifierAt, middle, quotedFrom, heldFrom, heldAt, pointed, elementAt, elements, dataAt, limits, partGood, whatGood};
 use kinds::Kind;
 
@@ -26,6 +26,16 @@ pub enum Class {
 pub enum Field {
     Is(usize, usize),
     Not(usize),
+}
+
+// Where the reading of a field stopped: behind the field, or at the fault.
+pub fn stop(found: Field) -> usize
+    ensures { λ r. ⌜ r ≡ stopOf found ⌝ }
+{
+    match found {
+        Field::Is(_, end) => end,
+        Field::Not(fault) => fault,
+    }
 }
 
 // What a modifier takes of a value: all; the first n; the last n; n from place p, counted from 1.

@@ -9,11 +9,11 @@ use native.Mathlib.Nat.{add-mul, one-mul, mul-zero, mul-le-mul, mul-le-mul-right
 use native.Mathlib.Decide.{decLt, ℕ-discrete}
 use native.Mathlib.Omega.{arith}
 use lib.Dec.{leb}
-use lib.ListN.{length, List·getD-eq-default}
+use lib.ListN.{length, getD, List·getD-eq-default}
 use borrow.Author.Tests.{leb-true, le-leb}
 use Rattle.dots.specs.Dots.{box}
-use Rattle.dots.proofs.Bits.{and-true}
 use Rattle.dots.proofs.Shapes.{In, same-box, in-box, box-in, not-in-box, join-test}
+use Rattle.ground.proofs.Tests.{and-true}
 use Rattle.figures.specs.Figures.{bitRow, bitmap, rowOf, scaled, shifted, Run}
 use Rattle.figures.proofs.Placed.{Joins, guard}
 
@@ -33,6 +33,14 @@ small-product g m h k = omega (arith, mul-le-mul {n₁ = g} {m₁ = m} {n₂ = 4
 -- ---- a dot past the end of the bytes
 pub no-dot : (bytes : List ℕ) (at g : ℕ) → length bytes ≤ at + g / 8 → bitRow bytes at g ≡ false
 no-dot bytes at g h = rw (List·getD-eq-default bytes 0 h, zero-div (2 ^ (7 - g % 8)))
+
+-- a byte whose place is capped is the byte whose place is not
+pub capped-byte : (bytes : List ℕ) (s at most : ℕ) → length bytes ≤ most → s ≡ min most at → getD bytes s 0 ≡ getD bytes at 0
+capped-byte bytes s at most h e = by (decLt at most)
+  where
+    by : Dec (at < most) → getD bytes s 0 ≡ getD bytes at 0
+    by (yes t) = ap (λ (n : ℕ). getD bytes n 0) (omega arith)
+    by (no t) = List·getD-eq-default bytes 0 (omega arith) ∙ sym (List·getD-eq-default bytes 0 (omega arith))
 
 -- a row whose start is capped reads as the row whose start is not
 pub capped-row : (bytes : List ℕ) (s at most : ℕ) → length bytes ≤ most → s ≡ min most at → (g : ℕ) → bitRow bytes s g ≡ bitRow bytes at g
@@ -119,7 +127,7 @@ row-next row on d g e w m v0 v1 s0 s1 most u v R o h e0 e1 =
     (guard (leb d u) _ _ _ (λ i. row-joins row g e w m v0 v1 (u - d) v R))
 
 -- ---- bitmaps
-next-times : (g m : ℕ) → (g + 1) * m ≡ g * m + m
+pub next-times : (g m : ℕ) → (g + 1) * m ≡ g * m + m
 next-times g m = add-mul g 1 m ∙ ap (λ (n : ℕ). g * m + n) (one-mul m)
 
 -- the rows of a bitmap above g, and row g

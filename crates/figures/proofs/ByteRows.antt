@@ -14,10 +14,11 @@ use lib.ListN.{length, getD}
 use borrow.Author.Tests.{leb-true, ltb-true, le-leb, lt-ltb}
 use Rattle.dots.specs.declared.Ink.{Ink}
 use Rattle.dots.specs.Dots.{drawn, box, cut, bitOf, eights}
-use Rattle.dots.proofs.Bits.{allBelow, all-below, and-true, and-bit}
+use Rattle.dots.proofs.Bits.{allBelow, all-below, and-bit}
 use Rattle.dots.proofs.EightDots.{sameb, sameb-true, eights-says, says-eights}
 use Rattle.dots.proofs.Pages.{drawn-ext}
 use Rattle.dots.proofs.Shapes.{In, in-box, box-in, not-in-box, same-test, join-test}
+use Rattle.ground.proofs.Tests.{and-true}
 use Rattle.figures.specs.Figures.{bitRow, rowOf, shifted, placed}
 use Rattle.figures.proofs.Placed.{Joins, guard}
 

@@ -11,8 +11,9 @@ use lib.Dec.{leb, ltb}
 use lib.ListN.{getD}
 use borrow.Author.Tests.{leb-true, ltb-true, le-leb, lt-ltb}
 use Rattle.dots.specs.Dots.{bitOf, within}
-use Rattle.dots.proofs.Bits.{allBelow, all-below, and-true}
+use Rattle.dots.proofs.Bits.{allBelow, all-below}
 use Rattle.dots.proofs.EightDots.{sameb, sameb-true}
+use Rattle.ground.proofs.Tests.{and-true}
 use Rattle.figures.specs.Figures.{bitRow, Run}
 
 -- where the run ends that starts at dot k of the byte b, as the code has it

@@ -11,9 +11,9 @@ use lib.ListN.{length}
 use borrow.Author.Tests.{leb-true, ltb-true, le-leb, lt-ltb}
 use Rattle.dots.specs.declared.Ink.{Ink}
 use Rattle.dots.specs.Dots.{drawn, box, cut}
-use Rattle.dots.proofs.Bits.{and-true}
 use Rattle.dots.proofs.Pages.{Bytes, drawn-join}
 use Rattle.dots.proofs.Shapes.{same-box, in-box, box-in, cut-ext, cut-off}
+use Rattle.ground.proofs.Tests.{and-true}
 use Rattle.figures.specs.Figures.{quarter, turnedBy, placed}
 
 -- ---- where a dot of the page lies in a figure

@@ -8,8 +8,8 @@ use native.Mathlib.Nat.{le-add-right}
 use native.Mathlib.Omega.{arith}
 use lib.Dec.{leb, ltb}
 use borrow.Author.Tests.{ltb-true, le-leb, lt-ltb}
+use Rattle.ground.proofs.Tests.{and-true}
 use Rattle.figures.specs.Figures.{quarter, turnedBy, placed}
-use Rattle.dots.proofs.Bits.{and-true}
 use Rattle.figures.proofs.Placed.{guarded}
 
 add-sub : (x p : ℕ) → x + p - x ≡ p

@@ -40,7 +40,7 @@ bitmap bytes stride u v = bitRow bytes (v * stride) u
 abbrev pub rowOf : (ℕ → Bool) → ℕ → ℕ → ℕ → ℕ → ℕ → ℕ → Bool
 rowOf row w hm v0 v1 u v = box 0 v0 (w * hm) v1 u v && row (u / hm)
 
--- a bitmap of w by h dots, each of which is hm dots wide and vm high: "h and v scale the cell"
+-- a bitmap of w by h dots, each of which is hm dots wide and vm high: "h 1..6, v 1..9 scale the cell"
 abbrev pub scaled : ℕ → ℕ → ℕ → ℕ → (ℕ → ℕ → Bool) → ℕ → ℕ → Bool
 scaled w h hm vm picture u v = box 0 0 (w * hm) (h * vm) u v && picture (u / hm) (v / vm)
 
@@ -48,7 +48,7 @@ scaled w h hm vm picture u v = box 0 0 (w * hm) (h * vm) u v && picture (u / hm)
 abbrev pub shifted : ℕ → (ℕ → ℕ → Bool) → ℕ → ℕ → Bool
 shifted d figure u v = leb d u && figure (u - d) v
 
--- where a run of equal dots ends that starts at dot g of a row of w dots: no dot of the run differs from its first
+-- serves the code alone: where a run of equal dots ends that starts at dot g of a row of w dots: no dot of the run differs from its first
 pub record Run (row : ℕ → Bool) (g w r : ℕ) : Type 0 where
   pub more : g < r
   pub inside : r ≤ w

@@ -3,23 +3,18 @@
 // definition for all turns, and each function promises `drawn ink (cut width length (placed ..))` of the page, for any page and any numbers.
 // Which figures there are, a glyph or the bars of a symbol, is left to the crates above.
 use dots::Ink;
-use dots::capped_sum;
-use dots::least;
+use ground::capped_sum;
+use ground::least;
+use ground::less;
 ghost use mathlib.Core.Path.{_≡_};
 ghost use Prim.Native.Nat.{_+_, _-_, _*_, _/_, _^_, _≤_, _<_, min};
 ghost use mathlib.Core.Bool.{_&&_};
 ghost use lib.Bits.{bitAnd};
 ghost use lib.Count.{leadingZeros};
 ghost use lib.ListN.{getD};
-ghost use Rattle.dots.specs.Dots.{bitOf, drawn, box, cut, capped};
+ghost use Rattle.dots.specs.Dots.{bitOf, drawn, box, cut};
+ghost use Rattle.ground.specs.Numbers.{capped};
 ghost use Rattle.figures.specs.Figures.{bitmap, bitRow, rowOf, scaled, shifted, placed, Run};
-
-// a less b, and 0 where b is more.
-fn less(a: usize, b: usize) -> usize
-    ensures { λ r. ⌜ r ≡ a - b ⌝ }
-{
-    if b < a { a - b } else { 0 }
-}
 
 // Draws the box p0 up to p1, q0 up to q1 that is counted from (x, y).
 fn ink_from(
@@ -105,11 +100,7 @@ fn edge(d: usize, g: usize, m: usize) -> usize
 fn byte_of(bits: &[u8], at: usize, g: usize) -> u8
     ensures { λ r. ⌜ r ≡ getD (now (bits .entry)) (at + g / 8) 0 ⌝ }
 {
-    let i = capped_sum(at, g / 8);
-    if i < bits.len() {
-        return bits[i];
-    }
-    0
+    ground::byte(bits, capped_sum(at, g / 8))
 }
 
 // Whether dot g of the row of a bitmap that starts at byte `at` is black.

@@ -13,7 +13,6 @@ use Rattle.kinds.specs.declared.Kind.{Kind}
 use Rattle.kinds.specs.declared.Kind.the-variants.{Shown, Code39, Interleaved, Ean13, Code128}
 use Rattle.kinds.specs.Bytes.{between, isDigit, allIn}
 use Rattle.kinds.specs.Fit.{inClass, fitLength, fit}
-use Rattle.kinds.proofs.Laws.{or-first, or-second}
 use Rattle.fields.specs.declared.Part.{Part}
 use Rattle.fields.specs.declared.What.{What}
 use Rattle.fields.specs.declared.What.the-variants.{Text, Variable, Counter}
@@ -23,24 +22,9 @@ use Rattle.values.specs.Declarations.{lengthAt, sideAt, widthAt}
 use Rattle.values.specs.Counters.{digits}
 use Rattle.values.specs.Stored.{legal, fits}
 use Rattle.values.specs.Data.{partOf, pieceFrom, pieceOf, pieceAt, Values, valueOf, assembled}
-use Rattle.values.proofs.Lists.{
-  and-left,
-  and-right,
-  and-both,
-  in-range,
-  range-low,
-  range-high,
-  all-join,
-  all-first,
-  all-second,
-  all-none,
-  all-wider,
-  all-replicate,
-  replicate-some,
-  length-digits,
-  all-digits,
-}
+use Rattle.values.proofs.Lists.{in-range, range-low, range-high, all-join, all-first, all-second, all-none, all-wider, all-replicate, replicate-some, length-digits, all-digits}
 use Rattle.values.proofs.Fields.{zero-digit}
+use Rattle.ground.proofs.Tests.{or-first, or-second, and-left, and-right, and-both}
 use Rattle.fitness.specs.Permitted.{Permitted, AlwaysFit}
 use Rattle.fitness.specs.Summary.{partLength, fewest, leastOf, mostOf, takesAll, goodOf, least, most, good, judged}
 use Rattle.fitness.proofs.Parts.{length-part, all-part, part-replicate, part-grows}

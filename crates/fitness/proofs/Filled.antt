@@ -20,9 +20,9 @@ use Rattle.values.specs.Declarations.{tenth, lengthAt, sideAt, widthAt, variabl
 use Rattle.values.specs.Counters.{tenTo, counterSet, counterValue}
 use Rattle.values.specs.Stored.{fieldAt, valueIn, variableIn, fieldSet, fits, isZero, keeps, fieldSound, counterSound, valuesSound, allSet}
 use Rattle.values.specs.Data.{assembled, valuesIn}
-use Rattle.values.proofs.Lists.{and-left, and-right}
 use Rattle.values.proofs.Tens.{ten-is}
 use Rattle.values.proofs.Sound.{sound-at, set-at, zero-at, field-sound-facts, counter-sound-facts}
+use Rattle.ground.proofs.Tests.{and-left, and-right}
 use Rattle.fitness.specs.Permitted.{Permitted}
 use Rattle.fitness.specs.Summary.{judged}
 use Rattle.fitness.proofs.Always.{judged-always}

@@ -1,5 +1,5 @@
--- The summary that decides fit data: how short and how long the data can be, and whether every byte it can show is of the kind's class.
--- That it decides `AlwaysFit` exactly is proved in proofs/Always.antt.
+-- Serves the code alone: the summary that decides fit data, how short and how long it can be, and whether every byte that it can show is of the class.
+-- What fit data is says `AlwaysFit` (Permitted.antt); that the summary decides exactly that is proved in proofs/Always.antt.
 -- Assumes nothing.
 use Prim.Native.Nat.{ℕ, _+_, _-_, min}
 use mathlib.Core.Bool.{Bool, true, false, _&&_, _||_, cond}
@@ -75,10 +75,12 @@ good c line d (e ∷ es) = goodOf c line d e (e .what) && good c line d es
 unfoldable pub judged : List ℕ → Declared → List Element → Kind → Bool
 judged line d es k = fitLength k (least line d es) && (fitLength k (most line d es) && good k line d es)
 
--- ---- as it is kept element by element: lengths up to 129, since no kind takes more than 128 bytes
+-- ---- as it is kept element by element: no further than one more than the most bytes that any kind takes
+abbrev pub tooLong : ℕ
+tooLong = 129
 
 abbrev pub upTo : ℕ → ℕ
-upTo n = min 129 n
+upTo n = min tooLong n
 
 abbrev pub summary : ℕ → ℕ → Bool → Summary
 summary l m g = record { least = l; most = m; good = g }

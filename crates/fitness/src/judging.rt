@@ -9,9 +9,9 @@ use crate::answers::undeclared_by;
 use crate::summary::Summary;
 use crate::summary::summary_of;
 use fields::Step;
+use ground::either;
 use kinds::Kind;
 use values::Declared;
-use values::bytes::either;
 
 // Fit, whatever permitted values it is shown with; 13 and 14 as in `DataAnswer`; 15 some permitted values make it unfit.
 pub enum Judgement {

@@ -8,14 +8,17 @@ ghost use Rattle.fitness.specs.Summary.{partLength, fewest, takesAll, le
 use fields::Element;
 use fields::Part;
 use fields::What;
+use ground::both;
+use ground::front;
+use ground::least;
+use ground::less;
 use kinds::Kind;
 use values::Declared;
-use values::bytes::both;
-use values::bytes::front;
-use values::bytes::less;
-use values::bytes::lesser;
 
-// How short and how long data can be, up to 129, and whether every byte is of the kind's class.
+// One more than the most bytes that any kind takes: lengths are counted no further.
+const TOO_LONG: usize = 129;
+
+// How short and how long data can be, up to `TOO_LONG`, and whether every byte is of the kind's class.
 pub struct Summary {
     pub least: usize,
     pub most: usize,
@@ -27,9 +30,9 @@ fn part_length(p: Part, n: usize) -> usize
 {
     match p {
         Part::Whole => n,
-        Part::First(k) => lesser(k, n),
-        Part::Last(k) => lesser(k, n),
-        Part::Middle(p, k) => lesser(k, less(n, less(p, 1))),
+        Part::First(k) => least(k, n),
+        Part::Last(k) => least(k, n),
+        Part::Middle(p, k) => least(k, less(n, less(p, 1))),
     }
 }
 
@@ -101,16 +104,16 @@ pub(crate) fn summary_of(line: &[u8], d: Declared, kind: Kind, e: Element) -> Su
     }
 }
 
-// The sum, up to 129.
+// The sum, up to `TOO_LONG`.
 fn sum_up_to(a: usize, b: usize) -> usize
     ensures { λ r. ⌜ r ≡ upTo (a + b) ⌝ }
 {
-    if a < 129 {
-        if b < 129 {
-            return lesser(129, a + b);
+    if a < TOO_LONG {
+        if b < TOO_LONG {
+            return least(TOO_LONG, a + b);
         }
     }
-    129
+    TOO_LONG
 }
 
 impl Summary {

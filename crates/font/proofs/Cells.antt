@@ -5,7 +5,7 @@ use mathlib.Core.Bool.{Bool, true, false, _&&_}
 use mathlib.Core.List.{List}
 use mathlib.Core.Logic.{_⊎_, inl, inr}
 use Prim.Native.Nat.{ℕ, _+_, _-_, _*_, _/_, _%_, _≤_, _<_}
-use native.Mathlib.Nat.{add-mul, one-mul, div-eq-of-lt-le, div-add-mod'}
+use native.Mathlib.Nat.{div-eq-of-lt-le, div-add-mod'}
 use native.Mathlib.Decide.{decLt}
 use native.Mathlib.Omega.{arith}
 use borrow.Author.Tests.{leb-true, le-leb}
@@ -14,16 +14,14 @@ use lib.Dec.{leb}
 use Rattle.dots.specs.declared.Ink.{Ink}
 use Rattle.dots.specs.Dots.{drawn, box}
 use Rattle.figures.specs.Figures.{bitmap, scaled, shifted}
+use Rattle.ground.proofs.Tests.{and-true}
+use Rattle.figures.proofs.Bitmaps.{next-times}
 use Rattle.font.specs.declared.text.Spot.{Spot}
 use Rattle.font.specs.Rules.{cellWidth, cellHeight, rowBytes, rowsOf}
 use Rattle.font.specs.Text.{sideBySide, glyphOf, along, down, onLabel}
 use Rattle.dots.proofs.Pages.{Bytes}
-use Rattle.dots.proofs.Bits.{and-true}
 use Rattle.dots.proofs.Shapes.{In, in-box, box-in, not-in-box, join-test}
 use Rattle.figures.proofs.Placed.{Joins, then-placed, none-placed}
-
-pub next-times : (n m : ℕ) → (n + 1) * m ≡ n * m + m
-next-times n m = add-mul n 1 m ∙ ap (λ (k : ℕ). n * m + k) (one-mul m)
 
 -- a dot of cell n, and its place in the cell
 in-cell : (n m u : ℕ) → n * m ≤ u → u < n * m + m → (u / m ≡ n) × (u % m ≡ u - n * m)

@@ -1,19 +1,15 @@
 -- The 96 fields that `legal` reads after the first are enough: to read on would change nothing, since codes rise and end at 126.
 -- Assumes nothing.
-use mathlib.Core.Path.{_≡_, refl, ap}
-use mathlib.Core.Bool.{Bool, true, false, cond, _&&_}
+use mathlib.Core.Path.{_≡_, ap}
+use mathlib.Core.Bool.{true, cond, _&&_}
 use mathlib.Core.List.{List}
 use Prim.Native.Nat.{ℕ, zero, suc, _+_, _≤_, _<_}
 use native.Mathlib.Omega.{arith}
 use borrow.Author.Tests.{leb-true, ltb-true}
 use lib.Dec.{leb, ltb, eqb}
+use Rattle.ground.proofs.Tests.{and-true}
+use Rattle.figures.proofs.Placed.{guarded}
 use Rattle.font.specs.Rules.{tagAt, codeAt, nextField, isGlyph, sized, coded, rowsClean, cellHeight, glyph, ended, fieldsFrom}
-use Rattle.dots.proofs.Bits.{and-true}
-
--- what two tests go on with matters only where the test is true
-same-after : (a p q : Bool) → (a ≡ true → p ≡ q) → (a && p) ≡ (a && q)
-same-after true p q e = e refl
-same-after false p q e = refl
 
 module _ (font : List ℕ) where
   glyph-code : (last at : ℕ) → glyph font last at ≡ true → (last < codeAt font at) × (codeAt font at ≤ 126)
@@ -32,5 +28,5 @@ module _ (font : List ℕ) where
   fields-enough (suc n) zero last at k h l = absurd (omega arith)
   fields-enough (suc n) (suc m) last at k h l =
       ap (cond (eqb (tagAt font at) 255) (ended font at))
-      (same-after (glyph font last at) _ _
+      (guarded (glyph font last at) _ _
       (λ e. let g = glyph-code last at e in fields-enough n m (codeAt font at) (nextField font at) (g .1) (omega arith) (omega arith)))

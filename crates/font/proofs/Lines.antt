@@ -11,9 +11,9 @@ use lib.Dec.{leb}
 use Rattle.dots.specs.declared.Ink.{Ink}
 use Rattle.dots.specs.declared.Ink.the-variants.{Black, White}
 use Rattle.dots.specs.Dots.{drawn, box}
+use Rattle.ground.proofs.Tests.{and-true}
 use Rattle.font.specs.declared.text.Spot.{Spot}
 use Rattle.font.specs.Text.{along, down, glyphs, onLabel, spotOf, drawable, inMode, textDrawn}
-use Rattle.dots.proofs.Bits.{and-true}
 use Rattle.dots.proofs.Pages.{Bytes}
 use Rattle.figures.proofs.Placed.{none-placed}
 
@@ -48,7 +48,7 @@ module _ (width height x y r h v : ℕ) (reverse : Bool) (font text p : List ℕ
   unfolding textDrawn
   text-drawn s q e a d = d ∙ ap (λ (z : Spot). inMode reverse z (glyphs font h v text) p) a ∙ rw e
 
-  -- "Text of no bytes draws nothing"
+  -- a text of no bytes draws nothing
   pub text-empty : Bytes p → text ≡ [] → textDrawn width height x y r h v reverse font text p ≡ p
   unfolding textDrawn inMode
   text-empty by e = rw e (either (drawable h v []))

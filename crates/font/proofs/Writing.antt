@@ -11,10 +11,10 @@ use borrow.Author.Tests.{leb-true, ltb-true, eqb-true, le-leb, lt-ltb, eq-eqb, n
 use lib.ListN.{length, getD, take, drop, length-drop, drop-of-length-le, take-append-drop, List·getD-append}
 use lib.Seq.{getD-drop, getD-take, drop-drop, drop-at, drop-cons, length-take-le}
 use lib.Dec.{leb, ltb, eqb}
+use Rattle.ground.proofs.Tests.{and-true}
 use Rattle.font.specs.Rules.{tagAt, sizeAt, codeAt, nextField, cellWidth, cellHeight, headed, rowBytes, spareBits}
 use Rattle.font.specs.Rules.{rowClean, rowsClean, isGlyph, sized, coded, glyph, ended, fieldsFrom, legal}
 use Rattle.font.specs.Written.{field, Cell, CellKept, Glyph, GlyphKept, GlyphsKept, glyphFields, written}
-use Rattle.dots.proofs.Bits.{and-true}
 
 abbrev pub cellOf : List ℕ → Cell
 cellOf font = record { width = cellWidth font; height = cellHeight font }

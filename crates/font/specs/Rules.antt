@@ -91,7 +91,7 @@ placeFrom font code (suc n) at =
 unfoldable pub rowsOf : List ℕ → ℕ → List ℕ
 rowsOf font code = take (cellHeight font * rowBytes font) (drop (placeFrom font code 95 5) font)
 
--- the places of all codes, found field by field: 0 where none is found yet, and then the n fields from `at` on decide
+-- serves the code alone: the places of all codes, found field by field: 0 where none is found yet, and then the n fields from `at` on decide
 pub record Places (font places : List ℕ) (n at : ℕ) : Type 0 where
   pub all : length places ≡ 256
   pub right : (code : ℕ) → code < 256 → cond (eqb (getD places code 0) 0) (placeFrom font code n at) (getD places code 0) ≡ placeFrom font code 95 5

@@ -6,6 +6,7 @@ use mathlib.Core.Bool.{Bool, true, false, cond, _&&_}
 use mathlib.Core.List.{List}
 use lib.ListN.{length, getD}
 use lib.Dec.{leb}
+use Rattle.kinds.specs.Fit.{mostData}
 use Rattle.dots.specs.declared.Ink.the-variants.{Black, White}
 use Rattle.dots.specs.Dots.{drawn, cut, box}
 use Rattle.figures.specs.Figures.{bitmap, placed}
@@ -47,7 +48,7 @@ spotOf width length x y r h v font n =
 
 -- what is drawn: a text of at most 128 bytes, scaled within the limits. Any bytes are drawn from as a font is; a call refuses an illegal font before
 abbrev pub drawable : ℕ → ℕ → List ℕ → Bool
-drawable h v text = leb h 6 && (leb v 9 && leb (length text) 128)
+drawable h v text = leb h 6 && (leb v 9 && leb (length text) mostData)
 
 unfoldable pub textDrawn : ℕ → ℕ → ℕ → ℕ → ℕ → ℕ → ℕ → Bool → List ℕ → List ℕ → List ℕ → List ℕ
 textDrawn width height x y r h v reverse font text page =

@@ -6,19 +6,8 @@ ghost use lib.Dec.{eqb};
 ghost use lib.ListN.{length, getD, set, take, drop};
 ghost use Rattle.font.specs.Rules.{sizeAt, codeAt, nextField, cellWidth, cellHeight, headed, rowBytes, spareBits};
 ghost use Rattle.font.specs.Rules.{rowClean, rowsClean, isGlyph, sized, coded, glyph, ended, fieldsFrom, legal, Places};
-
-pub fn both(a: bool, b: bool) -> bool
-    ensures { λ r. ⌜ r ≡ (a && b) ⌝ }
-{
-    if a { b } else { false }
-}
-
-// The byte at a place.
-fn byte_at(s: &[u8], at: usize) -> usize
-    ensures { λ r. ⌜ (r ≡ getD (now (s .entry)) at 0) × (r < 256) ⌝ }
-{
-    if at < s.len() { s[at] as usize } else { 0 }
-}
+use ground::both;
+use ground::byte_at;
 
 fn size_at(font: &[u8], at: usize) -> usize
     requires { ⌜ at < 2 ^ 32 ⌝ }

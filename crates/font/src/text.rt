@@ -4,8 +4,11 @@ ghost use Prim.Native.Nat.{_≤_};
 ghost use Rattle.dots.specs.Dots.{drawn, box};
 ghost use Rattle.font.specs.Rules.{Places};
 ghost use Rattle.font.specs.Text.{glyphs, onLabel, drawable, inMode, textDrawn};
+ghost use Rattle.kinds.specs.Fit.{mostData};
 use crate::rules;
 use dots::Ink;
+use ground::both;
+use kinds::MOST_DATA;
 
 // Where the box of a text stands: a label's width and length, the turn and the corner, and the box's own size before the turn.
 struct Spot {
@@ -22,7 +25,7 @@ struct Spot {
 fn drawable_ok(h: usize, v: usize, text: &[u8]) -> bool
     ensures { λ r. ⌜ r ≡ drawable h v (now (text .entry)) ⌝ }
 {
-    rules::both(h <= 6, rules::both(v <= 9, text.len() <= 128))
+    both(h <= 6, both(v <= 9, text.len() <= MOST_DATA))
 }
 
 // Draws the glyphs of a text, whose places are found.
@@ -36,7 +39,7 @@ fn ink_found(
     places: &[usize],
     text: &[u8],
 )
-    requires { do ⌜ (h ≤ 6) × ((← ⟦text.len()⟧) ≤ 128) × Places (now font) (now places) 0 0 ⌝ }
+    requires { do ⌜ (h ≤ 6) × ((← ⟦text.len()⟧) ≤ mostData) × Places (now font) (now places) 0 0 ⌝ }
     ensures { λ _. ⌜ now (page .exit) ≡ drawn ink (onLabel s (glyphs (now (font .entry)) h v (now (text .entry)))) (now (page .entry)) ⌝ }
 {
     let cell = rules::cell_width(font);
@@ -72,7 +75,7 @@ fn ink_found(
 
 // Draws the glyphs of a text.
 fn ink_glyphs(page: &mut [u8], ink: Ink, s: Spot, h: usize, v: usize, font: &[u8], text: &[u8])
-    requires { do ⌜ (h ≤ 6) × ((← ⟦text.len()⟧) ≤ 128) ⌝ }
+    requires { do ⌜ (h ≤ 6) × ((← ⟦text.len()⟧) ≤ mostData) ⌝ }
     ensures { λ _. ⌜ now (page .exit) ≡ drawn ink (onLabel s (glyphs (now (font .entry)) h v (now (text .entry)))) (now (page .entry)) ⌝ }
 {
     let mut places = [0usize; 256];
@@ -103,7 +106,7 @@ fn ink_cells(page: &mut [u8], s: Spot)
 
 // Draws a text in its mode.
 fn ink_text(page: &mut [u8], reverse: bool, s: Spot, h: usize, v: usize, font: &[u8], text: &[u8])
-    requires { do ⌜ (h ≤ 6) × ((← ⟦text.len()⟧) ≤ 128) ⌝ }
+    requires { do ⌜ (h ≤ 6) × ((← ⟦text.len()⟧) ≤ mostData) ⌝ }
     ensures { λ _. ⌜ now (page .exit) ≡ inMode reverse s (glyphs (now (font .entry)) h v (now (text .entry))) (now (page .entry)) ⌝ }
 {
     if reverse {

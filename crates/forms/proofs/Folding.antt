@@ -1,7 +1,7 @@
 -- The lines of a form, one after another: a fold over all lines of some bytes is a step with the first, and the fold over what stands behind it.
 -- Assumes nothing.
 use mathlib.Core.Path.{_≡_, refl, sym, ap, _∙_}
-use mathlib.Core.Bool.{Bool, true, false, _&&_}
+use mathlib.Core.Bool.{Bool, true, false, _&&_, cond}
 use mathlib.Core.List.{List, [], _∷_}
 use mathlib.Core.Logic.{_⊎_, ⊎-elim}
 use Prim.Native.Nat.{ℕ, suc, _-_, _≤_, _<_}
@@ -10,17 +10,18 @@ use native.Mathlib.Decide.{decLe}
 use lib.ListN.{length, drop, length-drop}
 use lib.Dec.{eqb, ltb}
 use borrow.Author.Tests.{eq-eqb, ne-eqb, lt-ltb, le-ltb, le-leb, lt-leb}
-use Rattle.cells.proofs.Counts.{same?, drop-none}
+use Rattle.cells.proofs.Counts.{drop-none}
 use Rattle.store.specs.Lines.{lines, onto, linesOf, lineOf}
 use Rattle.values.specs.declared.declarations.Declared.{Declared}
-use Rattle.read.specs.Grammar.{headOf, find}
+use Rattle.read.specs.Grammar.{headOf, headBy, find}
 use Rattle.read.specs.Commands.{readOf, headed}
 use Rattle.normal.specs.Written.{isNormal}
+use Rattle.ground.proofs.Tests.{same?}
 use Rattle.forms.specs.declared.Stored.{Stored}
 use Rattle.forms.specs.declared.Stored.the-variants.{Holds, Nothing}
 use Rattle.read.specs.declared.Item.{Item}
 use Rattle.forms.specs.Judged.{declares}
-use Rattle.forms.specs.Form.{pickStored, heldRead, itemIn, takes, declaring, takesAll, declaredBy, hasStored, hasAll}
+use Rattle.forms.specs.Form.{heldRead, itemIn, takes, declaring, takesAll, declaredBy, hasStored, hasAll}
 use Rattle.forms.specs.Draw.{Setting, Drawing, drawsLine, drawsLines}
 use Rattle.forms.specs.Walk.{lineIn, behind, restOk}
 use Rattle.forms.proofs.Bytes.{and-false, and-true, and-swap, and-assoc}
@@ -79,12 +80,12 @@ module _ (a : List ℕ) where
 
 -- ---- a line that holds nothing
 
-pick-same : (b : Bool) (s : Stored) → pickStored b s s ≡ s
+pick-same : (b : Bool) (s : Stored) → cond b s s ≡ s
 pick-same true s = refl
 pick-same false s = refl
 
 read-empty : heldRead (readOf 1 []) ≡ Nothing
-unfolding readOf headed headOf find
+unfolding readOf headed headOf headBy find
 read-empty = refl
 
 pub item-empty : itemIn [] ≡ Nothing

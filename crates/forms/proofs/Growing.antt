@@ -9,10 +9,10 @@ use native.Mathlib.Omega.{arith}
 use lib.ListN.{length}
 use lib.Dec.{eqb}
 use borrow.Author.Tests.{eq-eqb, ne-eqb, eqb-true}
-use Rattle.cells.proofs.Counts.{same?, and-left, and-right}
 use Rattle.store.specs.Lines.{Lines, lines, onto, withByte, linesOf}
 use Rattle.values.specs.declared.declarations.Declared.{Declared}
 use Rattle.values.specs.Declarations.{nothing}
+use Rattle.ground.proofs.Tests.{same?, and-left, and-right}
 use Rattle.forms.specs.Form.{takes, declaring, takesAll, declaredBy, hasAll, formOk, declaredOf, picturesStored}
 use Rattle.forms.specs.Draw.{Setting, Drawing, drawsLine, drawsLines, formDrawn}
 use Rattle.forms.proofs.Bytes.{and-assoc}

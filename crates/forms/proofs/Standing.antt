@@ -6,64 +6,34 @@ use Prim.Native.Nat.{ℕ}
 use lib.ListN.{length}
 use lib.Dec.{leb}
 use Rattle.read.specs.Commands.{readOf}
-use Rattle.read.specs.declared.Command.the-variants.{
-  Item as item,
-  Length,
-  Width,
-  Turn,
-  Start,
-  End,
-  Retrieve,
-  EraseForm,
-  ListForms,
-  PrintForm,
-  Store,
-  ListPictures,
-  ErasePicture,
-  SetVariable,
-  SetCounter,
-  Clear,
-  Print,
-  White,
-}
+use Rattle.read.specs.declared.Command.the-variants.{Item as item, End, Page, Forms, Pictures, Values, Listing}
 use Rattle.read.specs.declared.Fault.{Fault}
 use Rattle.read.specs.declared.Fault.the-variants.{Form as form}
 use Rattle.read.specs.declared.Read.{Read}
 use Rattle.read.specs.declared.Read.the-variants.{Taken, Refused}
 use Rattle.normal.specs.Written.{takenItem, isNormal, isOwn, ownRead, equal, normal}
 use Rattle.forms.specs.declared.Stored.the-variants.{Nothing}
-use Rattle.forms.specs.Form.{itemIn, heldRead, pickStored}
+use Rattle.forms.specs.Form.{itemIn, heldRead}
 
-neither : (b : Bool) → Nothing ≡ pickStored b Nothing Nothing
+neither : (b : Bool) → Nothing ≡ cond b Nothing Nothing
 neither true = refl
 neither false = refl
 
-own-read : (b : Bool) (r : Read) → pickStored (takenItem r && b) (heldRead r) Nothing ≡ pickStored b (heldRead r) Nothing
+own-read : (b : Bool) (r : Read) → cond (takenItem r && b) (heldRead r) Nothing ≡ cond b (heldRead r) Nothing
 own-read b (Taken (item i)) = refl
-own-read b (Taken (Length x)) = neither b
-own-read b (Taken (Width x)) = neither b
-own-read b (Taken (Turn x)) = neither b
-own-read b (Taken (Start x)) = neither b
 own-read b (Taken End) = neither b
-own-read b (Taken (Retrieve x)) = neither b
-own-read b (Taken (EraseForm x)) = neither b
-own-read b (Taken ListForms) = neither b
-own-read b (Taken (PrintForm x)) = neither b
-own-read b (Taken (Store x)) = neither b
-own-read b (Taken ListPictures) = neither b
-own-read b (Taken (ErasePicture x)) = neither b
-own-read b (Taken (SetVariable x)) = neither b
-own-read b (Taken (SetCounter x)) = neither b
-own-read b (Taken Clear) = neither b
-own-read b (Taken (Print x)) = neither b
-own-read b (Taken White) = neither b
+own-read b (Taken (Page c)) = neither b
+own-read b (Taken (Forms c)) = neither b
+own-read b (Taken (Pictures c)) = neither b
+own-read b (Taken (Values c)) = neither b
+own-read b (Taken (Listing c)) = neither b
 own-read b (Refused f) = neither b
 
-standing : (l b : Bool) (r : Read) → pickStored (l && (takenItem r && b)) (heldRead r) Nothing ≡ pickStored (l && b) (heldRead r) Nothing
+standing : (l b : Bool) (r : Read) → cond (l && (takenItem r && b)) (heldRead r) Nothing ≡ cond (l && b) (heldRead r) Nothing
 standing true b r = own-read b r
 standing false b r = refl
 
-held-own : (b : Bool) (r : Read) (f : Fault) → pickStored b (heldRead r) Nothing ≡ heldRead (cond b r (Refused f))
+held-own : (b : Bool) (r : Read) (f : Fault) → cond b (heldRead r) Nothing ≡ heldRead (cond b r (Refused f))
 held-own true r f = refl
 held-own false r f = refl
 

@@ -25,7 +25,7 @@ use Rattle.read.specs.declared.Ink.the-variants.{Black as black, White as white
 use Rattle.read.specs.declared.Origin.{Origin as Place}
 use Rattle.read.specs.declared.Item.{Item}
 use Rattle.read.specs.declared.Item.the-variants.{Origin, Variable, Counter, Text, Bars, Box, Frame, Picture}
-use Rattle.read.specs.Names.{packedOf}
+use Rattle.parts.specs.Names.{packedOf}
 use Rattle.forms.specs.declared.Stored.{Stored}
 use Rattle.forms.specs.declared.Stored.the-variants.{Holds, Nothing}
 use Rattle.forms.specs.Form.{itemIn, declaring}

@@ -1,7 +1,7 @@
 -- "each form a row of normalised lines that recording would take one after another (presence of pictures aside)"
 -- Assumes nothing.
 use Prim.Native.Nat.{ℕ}
-use mathlib.Core.Bool.{Bool, true, false, _&&_}
+use mathlib.Core.Bool.{Bool, true, false, _&&_, cond}
 use mathlib.Core.List.{List, [], _∷_}
 use lib.ListN.{length}
 use lib.Dec.{eqb}
@@ -14,30 +14,11 @@ use Rattle.store.specs.Lines.{linesOf}
 use Rattle.read.specs.declared.Item.{Item}
 use Rattle.read.specs.declared.Item.the-variants.{Origin, Variable, Counter, Text, Bars, Box, Frame, Picture}
 use Rattle.read.specs.declared.Command.{Command}
-use Rattle.read.specs.declared.Command.the-variants.{
-  Item as item,
-  Length,
-  Width,
-  Turn,
-  Start,
-  End,
-  Retrieve,
-  EraseForm,
-  ListForms,
-  PrintForm,
-  Store,
-  ListPictures,
-  ErasePicture,
-  SetVariable,
-  SetCounter,
-  Clear,
-  Print,
-  White,
-}
+use Rattle.read.specs.declared.Command.the-variants.{Item as item, End, Page, Forms, Pictures, Values, Listing}
 use Rattle.read.specs.declared.Read.{Read}
 use Rattle.read.specs.declared.Read.the-variants.{Taken, Refused}
 use Rattle.read.specs.Commands.{readOf}
-use Rattle.read.specs.Names.{packedOf}
+use Rattle.parts.specs.Names.{packedOf}
 use Rattle.normal.specs.Written.{isNormal}
 use Rattle.forms.specs.declared.Stored.{Stored}
 use Rattle.forms.specs.declared.Stored.the-variants.{Holds, Nothing}
@@ -48,35 +29,20 @@ use Rattle.forms.specs.Judged.{judged, declares, isTaken}
 -- "While recording only R, V, C, A, B, LO, LE, LW, X, GG and FE have a place", and FE is not recorded
 abbrev pub heldCommand : Command → Stored
 heldCommand (item it) = Holds it
-heldCommand (Length l) = Nothing
-heldCommand (Width w) = Nothing
-heldCommand (Turn t) = Nothing
-heldCommand (Start n) = Nothing
 heldCommand End = Nothing
-heldCommand (Retrieve n) = Nothing
-heldCommand (EraseForm n) = Nothing
-heldCommand ListForms = Nothing
-heldCommand (PrintForm n) = Nothing
-heldCommand (Store p) = Nothing
-heldCommand ListPictures = Nothing
-heldCommand (ErasePicture n) = Nothing
-heldCommand (SetVariable v) = Nothing
-heldCommand (SetCounter c) = Nothing
-heldCommand Clear = Nothing
-heldCommand (Print p) = Nothing
-heldCommand White = Nothing
+heldCommand (Page c) = Nothing
+heldCommand (Forms c) = Nothing
+heldCommand (Pictures c) = Nothing
+heldCommand (Values c) = Nothing
+heldCommand (Listing c) = Nothing
 
 abbrev pub heldRead : Read → Stored
 heldRead (Taken c) = heldCommand c
 heldRead (Refused f) = Nothing
 
-abbrev pub pickStored : Bool → Stored → Stored → Stored
-pickStored true a b = a
-pickStored false a b = b
-
 -- what a stored line holds: at most 255 bytes, in normal form. No item asks for the rows of a page
 unfoldable pub itemIn : List ℕ → Stored
-itemIn line = pickStored (isNormal line) (heldRead (readOf 1 line)) Nothing
+itemIn line = cond (isNormal line) (heldRead (readOf 1 line)) Nothing
 
 -- "recording would take" it, after the declarations d
 abbrev pub takesStored : Declared → List ℕ → Stored → Bool

@@ -2,7 +2,7 @@
 -- declared after it.
 -- Assumes nothing.
 use Prim.Native.Nat.{ℕ}
-use mathlib.Core.Bool.{Bool, true, false}
+use mathlib.Core.Bool.{Bool, true, false, cond}
 use mathlib.Core.List.{List}
 use Rattle.kinds.specs.declared.Kind.{Kind}
 use Rattle.kinds.specs.declared.Kind.the-variants.{Shown}
@@ -18,15 +18,11 @@ use Rattle.read.specs.declared.Item.the-variants.{Origin, Variable, Counter, Te
 use Rattle.forms.specs.declared.Verdict.{Verdict}
 use Rattle.forms.specs.declared.Verdict.the-variants.{Taken, Again, Undeclared, Past, Unfit}
 
-abbrev pub pickVerdict : Bool → Verdict → Verdict → Verdict
-pickVerdict true a b = a
-pickVerdict false a b = b
-
 -- [13] "variable or counter not declared", [14] "a modifier reaches past the declared length", [15] "unfit data", in the table's order
 abbrev pub ofData : DataAnswer → Bool → Verdict
 ofData NotDeclared fit = Undeclared
 ofData Reaches fit = Past
-ofData Good fit = pickVerdict fit Taken Unfit
+ofData Good fit = cond fit Taken Unfit
 
 abbrev pub judgedData : Declared → List ℕ → ℕ → Kind → Verdict
 judgedData d line at kind = ofData (dataAnswer d (elements line at)) (fitAlways line d (elements line at) kind)
@@ -34,8 +30,8 @@ judgedData d line at kind = ofData (dataAnswer d (elements line at)) (fitAlways 
 -- [12] "declared before in this form": V and C numbers are separate. An item that neither declares nor shows data is taken
 unfoldable pub judged : Declared → List ℕ → Item → Verdict
 judged d line (Origin o) = Taken
-judged d line (Variable v) = pickVerdict (variableDeclared d (v .n)) Again Taken
-judged d line (Counter c) = pickVerdict (counterDeclared d (c .n)) Again Taken
+judged d line (Variable v) = cond (variableDeclared d (v .n)) Again Taken
+judged d line (Counter c) = cond (counterDeclared d (c .n)) Again Taken
 judged d line (Text t) = judgedData d line (t .at) Shown
 judged d line (Bars b) = judgedData d line (b .at) (b .kind)
 judged d line (Box r) = Taken

@@ -6,7 +6,7 @@ ghost use Rattle.fields.specs.Data.{elements};
 ghost use Rattle.values.specs.Data.{assembled, valuesIn};
 ghost use Rattle.store.specs.Content.{content};
 ghost use Rattle.store.specs.Find.{titledAt};
-ghost use Rattle.read.specs.Names.{packedOf};
+ghost use Rattle.parts.specs.Names.{packedOf};
 ghost use Rattle.dots.specs.Dots.{drawn, cut, box, frame};
 ghost use Rattle.dots.specs.declared.Ink.the-variants.{Black};
 ghost use Rattle.picture.specs.Shape.{pictured};
@@ -14,6 +14,8 @@ ghost use Rattle.font.specs.Text.{textDrawn};
 ghost use Rattle.bars.specs.Drawing.{barsDrawn};
 ghost use Rattle.forms.specs.Draw.{setting, inkOf, bytesAt, drawsItem};
 ghost use Rattle.forms.specs.Draw.{far as farOf};
+use ground::front;
+use ground::least;
 use read::Bars;
 use read::Frame;
 use read::Item;
@@ -23,13 +25,11 @@ use read::Text;
 use store::Found;
 use values::Counters;
 use values::Declared;
-use values::bytes::front;
-use values::bytes::lesser;
 
 fn far(a: usize, b: usize) -> usize
     ensures { λ r. ⌜ r ≡ farOf a b ⌝ }
 {
-    lesser(lesser(a, 4294967295) + lesser(b, 4294967295), 4294967295)
+    least(least(a, 4294967295) + least(b, 4294967295), 4294967295)
 }
 
 fn ink_of(ink: read::Ink) -> dots::Ink
@@ -163,7 +163,7 @@ fn draw_picture(
 {
     let a = far(x, p.a);
     let b = far(y, p.b);
-    let found = store::find(directory, true, read::names::packed(line, p.at, p.length));
+    let found = store::find(directory, true, parts::packed(line, p.at, p.length));
     match found {
         Found::At(i) => draw_content(page, store, links, directory, width, length, a, b, i),
         Found::Nothing => picture::draw(page, width, length, a, b, front(line, 0)),

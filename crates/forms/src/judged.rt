@@ -1,10 +1,10 @@
 // An item judged as recording does, what it declares, and whether its picture is stored.
 ghost use mathlib.Core.Path.{_≡_};
-ghost use mathlib.Core.Bool.{true};
-ghost use Rattle.forms.specs.Judged.{pickVerdict, judgedData, judged, declares, declaration, isTaken};
+ghost use mathlib.Core.Bool.{true, cond};
+ghost use Rattle.forms.specs.Judged.{judgedData, judged, declares, declaration, isTaken};
 ghost use Rattle.forms.specs.Form.{isAt, hasPicture};
 ghost use Rattle.store.specs.Find.{titledAt};
-ghost use Rattle.read.specs.Names.{packedOf};
+ghost use Rattle.parts.specs.Names.{packedOf};
 use crate::Verdict;
 use fitness::Judgement;
 use kinds::Kind;
@@ -13,7 +13,7 @@ use store::Found;
 use values::Declared;
 
 fn again(declared: bool) -> Verdict
-    ensures { λ r. ⌜ r ≡ pickVerdict declared Verdict.Again Verdict.Taken ⌝ }
+    ensures { λ r. ⌜ r ≡ cond declared Verdict.Again Verdict.Taken ⌝ }
 {
     if declared {
         Verdict::Again
@@ -72,7 +72,7 @@ pub fn is_declaration(item: Item) -> bool
 fn has_named(directory: &[u8], line: &[u8], at: usize, length: usize) -> bool
     ensures { λ r. ⌜ r ≡ isAt (titledAt (now (directory .entry)) true (packedOf (now (line .entry)) at length)) ⌝ }
 {
-    let found = store::find(directory, true, read::names::packed(line, at, length));
+    let found = store::find(directory, true, parts::packed(line, at, length));
     match found {
         Found::At(_) => true,
         Found::Nothing => false,

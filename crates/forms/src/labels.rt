@@ -9,12 +9,12 @@ use crate::drawing::draw_item;
 use crate::judged::declare;
 use crate::lines::next_line;
 use crate::lines::stored_item;
+use ground::front;
 use read::Item;
 use read::Origin;
 use store::Cursor;
 use values::Counters;
 use values::Declared;
-use values::bytes::front;
 
 // Where a label under way stands: a reader, what is declared so far, and the origin.
 pub struct Run {

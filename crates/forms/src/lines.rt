@@ -7,35 +7,24 @@ ghost use Rattle.store.specs.Content.{ahead, onward as onwardOf};
 ghost use Rattle.forms.specs.Walk.{lineIn, behind};
 ghost use Rattle.forms.specs.Form.{heldCommand, itemIn};
 use crate::Stored;
+use ground::front;
+use ground::less;
 use read::Command;
 use read::Read;
 use store::Cursor;
 use store::Next;
-use values::bytes::front;
-use values::bytes::less;
 
 fn held_command(c: Command) -> Stored
     ensures { λ r. ⌜ r ≡ heldCommand c ⌝ }
 {
     match c {
         Command::Item(item) => Stored::Holds(item),
-        Command::Length(_) => Stored::Nothing,
-        Command::Width(_) => Stored::Nothing,
-        Command::Turn(_) => Stored::Nothing,
-        Command::Start(_) => Stored::Nothing,
         Command::End => Stored::Nothing,
-        Command::Retrieve(_) => Stored::Nothing,
-        Command::EraseForm(_) => Stored::Nothing,
-        Command::ListForms => Stored::Nothing,
-        Command::PrintForm(_) => Stored::Nothing,
-        Command::Store(_) => Stored::Nothing,
-        Command::ListPictures => Stored::Nothing,
-        Command::ErasePicture(_) => Stored::Nothing,
-        Command::SetVariable(_) => Stored::Nothing,
-        Command::SetCounter(_) => Stored::Nothing,
-        Command::Clear => Stored::Nothing,
-        Command::Print(_) => Stored::Nothing,
-        Command::White => Stored::Nothing,
+        Command::Page(_) => Stored::Nothing,
+        Command::Forms(_) => Stored::Nothing,
+        Command::Pictures(_) => Stored::Nothing,
+        Command::Values(_) => Stored::Nothing,
+        Command::Listing(_) => Stored::Nothing,
     }
 }
 

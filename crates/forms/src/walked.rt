@@ -12,10 +12,10 @@ use crate::judged::is_taken;
 use crate::judged::judge;
 use crate::lines::next_line;
 use crate::lines::stored_item;
+use ground::both;
+use ground::front;
 use store::Cursor;
 use values::Declared;
-use values::bytes::both;
-use values::bytes::front;
 
 // Where a walk stands, what is declared so far, and whether all was good so far.
 pub struct Walk {

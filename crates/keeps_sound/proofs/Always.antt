@@ -7,7 +7,7 @@ use Prim.Native.Nat.{ℕ}
 use Rattle.sound.specs.Sound.{sound}
 use Rattle.session.specs.declared.answers.Answer.the-variants.{Taken, Unsound}
 use Rattle.session.specs.Lent.{World}
-use Rattle.commands.specs.World.{State}
+use Rattle.results.specs.World.{State}
 use Rattle.station.specs.Station.{opened, commanded, labelledBy}
 use Rattle.keeps_sound.specs.Good.{Good}
 use Rattle.keeps_sound.specs.Tens.{Tens}

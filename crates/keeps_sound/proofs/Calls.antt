@@ -14,26 +14,17 @@ use Rattle.store.specs.declared.Found.{Found}
 use Rattle.store.specs.declared.Found.the-variants.{At, Nothing}
 use Rattle.store.specs.Find.{recorded}
 use Rattle.read.specs.declared.Command.{Command}
-use Rattle.read.specs.declared.Command.the-variants.{
-  Item as item,
-  Length,
-  Width,
-  Turn,
-  Start,
-  End,
-  Retrieve,
-  EraseForm,
-  ListForms,
-  PrintForm,
-  Store,
-  ListPictures,
-  ErasePicture,
-  SetVariable,
-  SetCounter,
-  Clear,
-  Print,
-  White,
-}
+use Rattle.read.specs.declared.Command.the-variants.{Item as item, End, Page, Forms, Pictures, Values, Listing}
+use Rattle.read.specs.declared.PageCommand.{PageCommand}
+use Rattle.read.specs.declared.PageCommand.the-variants.{Length, Width, Turn, White}
+use Rattle.read.specs.declared.FormCommand.{FormCommand}
+use Rattle.read.specs.declared.FormCommand.the-variants.{Start, Retrieve, Erase as EraseForm}
+use Rattle.read.specs.declared.PictureCommand.{PictureCommand}
+use Rattle.read.specs.declared.PictureCommand.the-variants.{Store, Erase as ErasePicture}
+use Rattle.read.specs.declared.ValueCommand.{ValueCommand}
+use Rattle.read.specs.declared.ValueCommand.the-variants.{Variable as EnterVariable, Counter as EnterCounter, Clear, Print}
+use Rattle.read.specs.declared.ListingCommand.{ListingCommand}
+use Rattle.read.specs.declared.ListingCommand.the-variants.{Forms as ListForms, Pictures as ListPictures, Form as ListForm}
 use Rattle.read.specs.declared.Front.{Front}
 use Rattle.read.specs.declared.Front.the-variants.{Short, Long as LongLine, Idle, Line}
 use Rattle.read.specs.declared.Read.{Read}
@@ -55,7 +46,7 @@ use Rattle.commands.specs.Rows.{runRows, placedRows, lineRows}
 use Rattle.commands.specs.Does.{runs, placed, doesLine}
 use Rattle.station.specs.Table.{lineOf, moreOf, frontRows, commandTable}
 use Rattle.station.specs.Outcomes.{After}
-use Rattle.station.specs.Station.{doesFront, settled, commanded}
+use Rattle.station.specs.Station.{doesFront, commanded}
 use Rattle.keeps_sound.specs.Good.{Good}
 use Rattle.keeps_sound.specs.Tens.{Tens}
 use Rattle.keeps_sound.proofs.Layers.{good-sound, sound-good}
@@ -98,26 +89,48 @@ line-few s n k e =
 -- ---- a command that is taken
 
 module _ (font : List ℕ) (w : World) (s : Session) (line more : List ℕ) (room : ℕ) where
+  page-good : (c : PageCommand) → Good s w → s .owed ≡ 0 → readOf (rowsOf w) line ≡ Reads (Page c)
+      → Good (runs font w s line more (Page c) .session) (runs font w s line more (Page c) .world)
+  page-good (Length l) g none r = keeps-length font w s line more g l r
+  page-good (Width m) g none r = keeps-width font w s line more g m r
+  page-good (Turn x) g none r = keeps-turn font w s line more g x
+  page-good White g none r = keeps-white font w s line more g none
+
+  form-good : (c : FormCommand) → Good s w → recorded (w .directory) ≡ Nothing → s .owed ≡ 0 → readOf (rowsOf w) line ≡ Reads (Forms c)
+      → answerOf (runRows w s line more room (Forms c)) ≡ Taken
+      → Good (runs font w s line more (Forms c) .session) (runs font w s line more (Forms c) .world)
+  form-good (Start n) g quiet none r a = keeps-start s w g none quiet font line more room n r a
+  form-good (Retrieve n) g quiet none r a = keeps-retrieve font w s line more g n quiet none
+  form-good (EraseForm n) g quiet none r a = keeps-erase-form s w g none font line more n
+
+  picture-good : (c : PictureCommand) → Good s w → recorded (w .directory) ≡ Nothing → s .owed ≡ 0 → readOf (rowsOf w) line ≡ Reads (Pictures c)
+      → answerOf (runRows w s line more room (Pictures c)) ≡ Taken
+      → Good (runs font w s line more (Pictures c) .session) (runs font w s line more (Pictures c) .world)
+  picture-good (Store p) g quiet none r a = keeps-picture s w g none quiet font line more room p r a
+  picture-good (ErasePicture n) g quiet none r a = keeps-erase-picture s w g none font line more n
+
+  value-good : (c : ValueCommand) → Good s w → Tens s → recorded (w .directory) ≡ Nothing → s .owed ≡ 0 → readOf (rowsOf w) line ≡ Reads (Values c)
+      → answerOf (runRows w s line more room (Values c)) ≡ Taken
+      → Good (runs font w s line more (Values c) .session) (runs font w s line more (Values c) .world)
+  value-good (EnterVariable v) g t quiet none r a = keeps-variable font w s line more g v none
+  value-good (EnterCounter c) g t quiet none r a = keeps-counter font w s line more g c none t
+  value-good Clear g t quiet none r a = keeps-clear font w s line more g none
+  value-good (Print p) g t quiet none r a = keeps-print font w s line more g room p quiet r a
+
+  listing-good : (c : ListingCommand) → Good s w → Good (runs font w s line more (Listing c) .session) (runs font w s line more (Listing c) .world)
+  listing-good ListForms g = keeps-listing font w s line more g
+  listing-good ListPictures g = keeps-pictures font w s line more g
+  listing-good (ListForm n) g = keeps-printed font w s line more g n
+
   run-good : (c : Command) → Good s w → Tens s → recorded (w .directory) ≡ Nothing → s .owed ≡ 0 → readOf (rowsOf w) line ≡ Reads c
       → answerOf (runRows w s line more room c) ≡ Taken → Good (runs font w s line more c .session) (runs font w s line more c .world)
   run-good (item it) g t quiet none r a = keeps-item font w s line more g it r
-  run-good (Length l) g t quiet none r a = keeps-length font w s line more g l r
-  run-good (Width m) g t quiet none r a = keeps-width font w s line more g m r
-  run-good (Turn x) g t quiet none r a = keeps-turn font w s line more g x
-  run-good (Start n) g t quiet none r a = keeps-start s w g none quiet font line more room n r a
   run-good End g t quiet none r a = g
-  run-good (Retrieve n) g t quiet none r a = keeps-retrieve font w s line more g n quiet none
-  run-good (EraseForm n) g t quiet none r a = keeps-erase-form s w g none font line more n
-  run-good ListForms g t quiet none r a = keeps-listing font w s line more g
-  run-good (PrintForm n) g t quiet none r a = keeps-printed font w s line more g n
-  run-good (Store p) g t quiet none r a = keeps-picture s w g none quiet font line more room p r a
-  run-good ListPictures g t quiet none r a = keeps-pictures font w s line more g
-  run-good (ErasePicture n) g t quiet none r a = keeps-erase-picture s w g none font line more n
-  run-good (SetVariable v) g t quiet none r a = keeps-variable font w s line more g v none
-  run-good (SetCounter c) g t quiet none r a = keeps-counter font w s line more g c none t
-  run-good Clear g t quiet none r a = keeps-clear font w s line more g none
-  run-good (Print p) g t quiet none r a = keeps-print font w s line more g room p quiet r a
-  run-good White g t quiet none r a = keeps-white font w s line more g none
+  run-good (Page c) g t quiet none r a = page-good c g none r
+  run-good (Forms c) g t quiet none r a = form-good c g quiet none r a
+  run-good (Pictures c) g t quiet none r a = picture-good c g quiet none r a
+  run-good (Values c) g t quiet none r a = value-good c g t quiet none r a
+  run-good (Listing c) g t quiet none r a = listing-good c g
 
 -- ---- a line that is taken
 
@@ -148,7 +161,7 @@ module _ (font : List ℕ) (w : World) (s : Session) (g : Good s w) (t : Tens s)
 -- ---- the call, taken or refused
 
 settled-keeps : (p : Session → World → Type 0) (b : Bool) (x y : After) → (b ≡ true → p (x .outcome .session) (x .world)) → p (y .outcome .session) (y .world)
-    → p (settled b x y .outcome .session) (settled b x y .world)
+    → p (cond b x y .outcome .session) (cond b x y .world)
 settled-keeps p true x y h k = h refl
 settled-keeps p false x y h k = k
 

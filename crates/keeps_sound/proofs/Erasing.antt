@@ -8,7 +8,6 @@ use native.Mathlib.Omega.{arith}
 use lib.ListN.{getD}
 use lib.Dec.{eqb}
 use borrow.Author.Tests.{ne-eqb, eqb-false}
-use Rattle.cells.proofs.Counts.{and-left}
 use Rattle.cells.proofs.Scan.{lowest-passes}
 use Rattle.store.specs.declared.Found.{Found}
 use Rattle.store.specs.declared.Found.the-variants.{At, Nothing}
@@ -17,19 +16,25 @@ use Rattle.store.specs.Find.{sameName, titled, titledAt}
 use Rattle.store.proofs.Finding.{at-says}
 use Rattle.moves.specs.Memory.{Memory}
 use Rattle.moves.specs.Erase.{erasedAt, erasedAll}
-use Rattle.store_sound.specs.Shelf.{Held, nothing, shelfOf, pickHeld, swept}
+use Rattle.store_sound.specs.Shelf.{Held, nothing, shelfOf, swept}
 use Rattle.store_sound.proofs.Listing.{shelf-at}
 use Rattle.store_sound.proofs.Moving.{Moved}
 use Rattle.store_sound.proofs.Erase.{erase-moved}
 use Rattle.store_sound.proofs.EraseAll.{Swept, erase-all-moved}
 use Rattle.read.specs.declared.Named.{Named}
-use Rattle.read.specs.declared.Command.the-variants.{EraseForm, ErasePicture}
-use Rattle.read.specs.Names.{packedOf}
+use Rattle.read.specs.declared.Command.the-variants.{Forms, Pictures}
+use Rattle.read.specs.declared.FormCommand.the-variants.{Erase as EraseForm}
+use Rattle.read.specs.declared.PictureCommand.the-variants.{Erase as ErasePicture}
+use Rattle.parts.specs.Names.{packedOf}
 use Rattle.session.specs.declared.Session.{Session}
 use Rattle.session.specs.Lent.{World}
-use Rattle.commands.specs.World.{state, memoryOf}
-use Rattle.commands.specs.Rows.{named}
-use Rattle.commands.specs.Does.{erasedNamed, erasedEvery, erasedForm, pickState, inactive, runs}
+use Rattle.results.specs.World.{state, memoryOf, inactive}
+use Rattle.results.specs.Named.{named, erasedNamed, erasedEvery}
+use Rattle.results.specs.Result.{sixteenBits}
+use Rattle.results.proofs.Lengths.{directory-long}
+use Rattle.form_commands.specs.Forms.{erasedForm}
+use Rattle.commands.specs.Does.{runs}
+use Rattle.ground.proofs.Tests.{and-left}
 use Rattle.keeps_sound.specs.Good.{Good}
 use Rattle.keeps_sound.proofs.Stored.{heldOk, contentsOf, contents-at, contents-of, contents-moved, good-stored, good-moved, good-ended}
 
@@ -59,7 +64,7 @@ erasedAt-moved s w g i b n = rw (ne-eqb (kind (entry (w .directory) i)) 0 n) (er
 held-swept : (picture : Bool) (h : Held) → heldOk h ≡ true → heldOk (swept picture h) ≡ true
 held-swept picture h k = go (ofKind picture (h .kind))
   where
-    go : (b : Bool) → heldOk (pickHeld b nothing h) ≡ true
+    go : (b : Bool) → heldOk (cond b nothing h) ≡ true
     go true = refl
     go false = k
 
@@ -72,7 +77,7 @@ swept-contents picture m m′ v h = contents-of m′ (λ j l.
 form-stays : (m : Memory) (j : ℕ) → j < entries (m .directory) → kind (entry (m .directory) j) ≡ 1 → swept true (getD (shelfOf m) j nothing) ≡ getD (shelfOf m) j nothing
 form-stays m j b k =
     let q : getD (shelfOf m) j nothing .kind ≡ 1 = ap (λ (x : Held). x .kind) (shelf-at (m .store) (m .links) (m .directory) j b) ∙ k in
-    ap (λ (n : ℕ). pickHeld (ofKind true n) nothing (getD (shelfOf m) j nothing)) q
+    ap (λ (n : ℕ). cond (ofKind true n) nothing (getD (shelfOf m) j nothing)) q
 
 -- ---- the commands
 
@@ -82,19 +87,21 @@ module _ (s : Session) (w : World) (g : Good s w) (z : s .owed ≡ 0) where
       let a = named-is (w .directory) false n i e in
       let v = erasedAt-moved s w g i (a .0) (some-kind false (kind (entry (w .directory) i)) (a .1)) in
       let c = contents-moved (memoryOf w) (erasedAt (memoryOf w) i) i nothing v (a .0) (g .contents) refl in
-      go (eqb (s .active) i) refl (good-ended s w g z (erasedAt (memoryOf w) i) (v .sound) (v .long-directory) c)
-      (λ ne. good-moved s w g z (erasedAt (memoryOf w) i) i nothing v (a .0) refl (λ q k. ne q))
+      let small : sixteenBits i ≡ i = omega (arith, a .0, directory-long w (g .lengths)) in
+      rw small
+      (go (eqb (s .active) i) refl (good-ended s w g z (erasedAt (memoryOf w) i) (v .sound) (v .long-directory) c)
+      (λ ne. good-moved s w g z (erasedAt (memoryOf w) i) i nothing v (a .0) refl (λ q k. ne q)))
     where
       go : (b : Bool) → eqb (s .active) i ≡ b → Good (inactive s (erasedNamed w (At i)) .session) (inactive s (erasedNamed w (At i)) .world)
           → ((s .active ≡ i → ⊥) → Good s (erasedNamed w (At i)))
-          → Good (pickState b (inactive s (erasedNamed w (At i))) (state s (erasedNamed w (At i))) .session)
-          (pickState b (inactive s (erasedNamed w (At i))) (state s (erasedNamed w (At i))) .world)
+          → Good (cond b (inactive s (erasedNamed w (At i))) (state s (erasedNamed w (At i))) .session)
+          (cond b (inactive s (erasedNamed w (At i))) (state s (erasedNamed w (At i))) .world)
       go true q x y = x
       go false q x y = y (eqb-false (s .active) i q)
   erased-form n Nothing e = go (eqb (s .active) 65535) (good-ended s w g z (memoryOf w) (g .store) refl (g .contents))
     where
       go : (b : Bool) → Good (inactive s w .session) (inactive s w .world)
-          → Good (pickState b (inactive s w) (state s w) .session) (pickState b (inactive s w) (state s w) .world)
+          → Good (cond b (inactive s w) (state s w) .session) (cond b (inactive s w) (state s w) .world)
       go true x = x
       go false x = g
 
@@ -105,11 +112,11 @@ module _ (s : Session) (w : World) (g : Good s w) (z : s .owed ≡ 0) where
 
   -- FK: a form or all forms
   pub keeps-erase-form : (font line more : List ℕ) (n : Named)
-      → Good (runs font w s line more (EraseForm n) .session) (runs font w s line more (EraseForm n) .world)
+      → Good (runs font w s line more (Forms (EraseForm n)) .session) (runs font w s line more (Forms (EraseForm n)) .world)
   keeps-erase-form font line more n = go (n .all)
     where
-      go : (b : Bool) → Good (pickState b (inactive s (erasedEvery w false)) (erasedForm s w (named w false line n)) .session)
-          (pickState b (inactive s (erasedEvery w false)) (erasedForm s w (named w false line n)) .world)
+      go : (b : Bool) → Good (cond b (inactive s (erasedEvery w false)) (erasedForm s w (named w false line n)) .session)
+          (cond b (inactive s (erasedEvery w false)) (erasedForm s w (named w false line n)) .world)
       go true = erased-forms
       go false = erased-form (packedOf line (n .at) (n .length)) (named w false line n) refl
 
@@ -128,7 +135,7 @@ module _ (s : Session) (w : World) (g : Good s w) (z : s .owed ≡ 0) where
 
   -- GK: a picture or all pictures
   pub keeps-erase-picture : (font line more : List ℕ) (n : Named)
-      → Good (runs font w s line more (ErasePicture n) .session) (runs font w s line more (ErasePicture n) .world)
+      → Good (runs font w s line more (Pictures (ErasePicture n)) .session) (runs font w s line more (Pictures (ErasePicture n)) .world)
   keeps-erase-picture font line more n = go (n .all)
     where
       go : (b : Bool) → Good s (cond b (erasedEvery w true) (erasedNamed w (named w true line n)))

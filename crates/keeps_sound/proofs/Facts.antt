@@ -11,7 +11,7 @@ use borrow.Author.Tests.{ltb-false, eqb-true, eqb-false, leb-true, le-leb, eq-eq
 use Rattle.kinds.specs.Bytes.{between}
 use Rattle.store_sound.specs.Sound.{lentOk}
 use Rattle.sound.specs.Sound.{numbersOk}
-use Rattle.commands.proofs.Answers.{or-none}
+use Rattle.results.proofs.Answers.{or-none}
 use Rattle.session.specs.declared.Session.{Session}
 use Rattle.session.specs.Lent.{World, wrongLent, lengthsWrong, pageWrong, storeWrong, directoryWrong, valuesWrong}
 use Rattle.keeps_sound.proofs.Layers.{both, first-of, second-of}

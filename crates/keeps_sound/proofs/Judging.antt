@@ -30,7 +30,7 @@ use Rattle.read.specs.Grammar.{good, rowOf, headOf, fieldAt, fieldsFrom}
 use Rattle.read.specs.Commands.{readOf, itemOf}
 use Rattle.read.specs.declared.Item.{Item}
 use Rattle.read.specs.declared.Item.the-variants.{Origin, Variable, Counter, Text, Bars, Box, Frame, Picture}
-use Rattle.read.specs.declared.Head.the-variants.{Row}
+use Rattle.grammar.specs.declared.Head.the-variants.{Row}
 use Rattle.read.specs.declared.Command.the-variants.{Item as item}
 use Rattle.read.specs.declared.Read.the-variants.{Taken as Reads}
 use Rattle.read.proofs.Rows.{fields-split}
@@ -38,10 +38,11 @@ use Rattle.normal.specs.Written.{kept, cased, whatWritten, normal}
 use Rattle.normal.specs.Contents.{unplaced, pieces, held, heldBy, contentsOf, headContents, contents}
 use Rattle.normal.proofs.Back.{text-fits}
 use Rattle.normal.proofs.Data.{a-text, a-variable, a-counter, Chain, ended, then, chain-of}
-use Rattle.normal.proofs.Round.{Normal, item-parted}
+use Rattle.normal.specs.Promise.{Normal}
+use Rattle.normal.proofs.Round.{item-parted}
 use Rattle.forms.specs.declared.Verdict.{Verdict}
 use Rattle.forms.specs.declared.Verdict.the-variants.{Taken, Again}
-use Rattle.forms.specs.Judged.{pickVerdict, ofData, judgedData, judged}
+use Rattle.forms.specs.Judged.{ofData, judgedData, judged}
 use Rattle.keeps_sound.proofs.Titles.{ReadBy, read-by, choice}
 
 abbrev Piece : Type 0
@@ -183,26 +184,26 @@ last-data (f ∷ fs) s at vs ps t h =
     let n = and-T (silent f) (allSilent fs) t in
     ends-step f fs s (x .v) at (x .vs) (x .ps) vs ps (x .values) (x .places) (n .0) (last-data fs s (x .e) (x .vs) (x .ps) (n .1) (x .others))
 
-contents-is : (s : List ℕ) (row : ℕ) (vs ps : List ℕ) → headOf (getD s 0 0) (getD s 1 0) ≡ Row row → fieldsFrom (rowOf row .fields) s 0 ≡ good vs ps
+contents-is : (s : List ℕ) (row : ℕ) (vs ps : List ℕ) → headOf s ≡ Row row → fieldsFrom (rowOf row .fields) s 0 ≡ good vs ps
     → contents s ≡ heldBy (rowOf row .fields) s vs ps
 unfolding headContents contentsOf
 contents-is s row vs ps h k = rw (h, k)
 
-text-tells : (s vs ps : List ℕ) → headOf (getD s 0 0) (getD s 1 0) ≡ Row 9 → fieldsFrom (rowOf 9 .fields) s 0 ≡ good vs ps
+text-tells : (s vs ps : List ℕ) → headOf s ≡ Row 9 → fieldsFrom (rowOf 9 .fields) s 0 ≡ good vs ps
     → (contents s ≡ pieces s (elements s (getD ps 13 0))) × Chain s (getD ps 13 0) (elements s (getD ps 13 0))
 unfolding allSilent
 text-tells s vs ps h k =
     let r = last-data (bytes "An,n,n,n,n,m,") s 0 vs ps tt k in
     (contents-is s 9 vs ps h k ∙ r .0, r .1)
 
-bars-tell : (s vs ps : List ℕ) → headOf (getD s 0 0) (getD s 1 0) ≡ Row 10 → fieldsFrom (rowOf 10 .fields) s 0 ≡ good vs ps
+bars-tell : (s vs ps : List ℕ) → headOf s ≡ Row 10 → fieldsFrom (rowOf 10 .fields) s 0 ≡ good vs ps
     → (contents s ≡ pieces s (elements s (getD ps 17 0))) × Chain s (getD ps 17 0) (elements s (getD ps 17 0))
 unfolding allSilent
 bars-tell s vs ps h k =
     let r = last-data (bytes "Bn,n,n,k,n,w,n,N,") s 0 vs ps tt k in
     (contents-is s 10 vs ps h k ∙ r .0, r .1)
 
-row-tells : (row : ℕ) (s vs ps : List ℕ) → headOf (getD s 0 0) (getD s 1 0) ≡ Row row → fieldsFrom (rowOf row .fields) s 0 ≡ good vs ps
+row-tells : (row : ℕ) (s vs ps : List ℕ) → headOf s ≡ Row row → fieldsFrom (rowOf row .fields) s 0 ≡ good vs ps
     → Tells s (itemOf row vs ps)
 unfolding Tells itemOf
 row-tells row s vs ps h k =
@@ -229,8 +230,8 @@ item-tells rows s i h =
 
 abbrev judgedItem : Declared → List Piece → Item → Verdict
 judgedItem d xs (Origin o) = Taken
-judgedItem d xs (Variable v) = pickVerdict (variableDeclared d (v .n)) Again Taken
-judgedItem d xs (Counter c) = pickVerdict (counterDeclared d (c .n)) Again Taken
+judgedItem d xs (Variable v) = cond (variableDeclared d (v .n)) Again Taken
+judgedItem d xs (Counter c) = cond (counterDeclared d (c .n)) Again Taken
 judgedItem d xs (Text t) = judgedBy d xs Shown
 judgedItem d xs (Bars b) = judgedBy d xs (b .kind)
 judgedItem d xs (Box r) = Taken

@@ -8,7 +8,6 @@ use native.Mathlib.Omega.{arith}
 use lib.ListN.{length, set, length-set}
 use lib.Dec.{eqb}
 use borrow.Author.Tests.{eqb-false, leb-true, le-leb}
-use Rattle.kinds.proofs.Laws.{or-second}
 use Rattle.store.specs.Find.{recorded}
 use Rattle.values.specs.declared.declarations.Declared.{Declared}
 use Rattle.values.specs.declared.counters.Counters.{Counters}
@@ -21,13 +20,14 @@ use Rattle.session.specs.declared.Session.{Session}
 use Rattle.session.specs.declared.answers.Answer.{Answer}
 use Rattle.session.specs.declared.answers.Answer.the-variants.{Taken, Lengths}
 use Rattle.session.specs.Answers.{numberOf, isTaken, answerOf}
-use Rattle.session.specs.Session.{session, counting}
+use Rattle.session.specs.Session.{withLabels, counting}
 use Rattle.session.specs.Lent.{World, wrongLent}
-use Rattle.commands.specs.World.{activeOf, activeDeclared}
-use Rattle.commands.proofs.Answers.{or-none}
+use Rattle.session.specs.Active.{activeOf, activeDeclared}
+use Rattle.results.proofs.Answers.{or-none}
 use Rattle.station.specs.Outcomes.{Drawn, drawnBy, labelled}
 use Rattle.station.specs.Table.{labelTable}
-use Rattle.station.specs.Station.{labelPage, labelSession, settledLabel, labelledBy}
+use Rattle.station.specs.Station.{labelPage, labelSession, labelledBy}
+use Rattle.ground.proofs.Tests.{or-second}
 use Rattle.keeps_sound.specs.Good.{Good}
 use Rattle.keeps_sound.specs.Tens.{Tens}
 use Rattle.keeps_sound.proofs.Layers.{good-sound, sound-good}
@@ -71,7 +71,7 @@ module _ (s : Session) (w : World) (g : Good s w) (t : Tens s) where
   c′ = movedAll (activeDeclared w s) (s .counters)
 
   abbrev one-less : Session
-  one-less = session (s .width) (s .length) (s .turn) (s .x) (s .y) (s .active) (s .owed - 1) (s .drawn + 1) c′
+  one-less = withLabels (counting s c′) (s .owed - 1) (s .drawn + 1)
 
   counted-good : (b : Bool) → (eqb (s .owed) 0 || eqb (s .drawn) 65535) ≡ b → Good (cond b (counting s c′) one-less) w
   unfolding numbersOk
@@ -133,23 +133,23 @@ module _ (s : Session) (w : World) (g : Good s w) (t : Tens s) where
 
   -- ---- the call, taken or refused
 
-  settled-good : (b : Bool) (a : Answer) (p q : List ℕ) → Good (settledLabel b (drawnBy (labelled Taken (labelSession s w)) p) (drawnBy (labelled a s) q) .outcome .session) w
+  settled-good : (b : Bool) (a : Answer) (p q : List ℕ) → Good (cond b (drawnBy (labelled Taken (labelSession s w)) p) (drawnBy (labelled a s) q) .outcome .session) w
   settled-good true a p q = label-session-good
   settled-good false a p q = g
 
-  settled-tens : (b : Bool) (a : Answer) (p q : List ℕ) → Tens (settledLabel b (drawnBy (labelled Taken (labelSession s w)) p) (drawnBy (labelled a s) q) .outcome .session)
+  settled-tens : (b : Bool) (a : Answer) (p q : List ℕ) → Tens (cond b (drawnBy (labelled Taken (labelSession s w)) p) (drawnBy (labelled a s) q) .outcome .session)
   settled-tens true a p q = label-session-tens
   settled-tens false a p q = t
 
   pub label-good : (font page : List ℕ) → Good (labelledBy s font w page .outcome .session) w
   unfolding labelledBy
   label-good font page =
-      settled-good (isTaken (answerOf (labelTable s font w (length page)))) (answerOf (labelTable s font w (length page))) (labelPage font s w page) page
+      settled-good (isTaken (answerOf (labelTable s font w (length page)))) (answerOf (labelTable s font w (length page))) (labelPage font s w) page
 
   pub label-tens : (font page : List ℕ) → Tens (labelledBy s font w page .outcome .session)
   unfolding labelledBy
   label-tens font page =
-      settled-tens (isTaken (answerOf (labelTable s font w (length page)))) (answerOf (labelTable s font w (length page))) (labelPage font s w page) page
+      settled-tens (isTaken (answerOf (labelTable s font w (length page)))) (answerOf (labelTable s font w (length page))) (labelPage font s w) page
 
 -- with lent lengths that are wrong nothing is taken, so sound alone is enough
 label-lengths : (s : Session) (font : List ℕ) (w : World) (page : ℕ) → answerOf (labelTable s font w page) ≡ Taken → wrongLent w ≡ false
@@ -158,7 +158,7 @@ label-lengths s font w page a = or-none (wrongLent w) (not (eqb page (length (w 
 
 settled-sound :
     (s : Session) (w : World) (b : Bool) (x y : Drawn) → (b ≡ true → sound (x .outcome .session) w ≡ true) → sound (y .outcome .session) w ≡ true →
-    sound (settledLabel b x y .outcome .session) w ≡ true
+    sound (cond b x y .outcome .session) w ≡ true
 settled-sound s w true x y h k = h refl
 settled-sound s w false x y h k = k
 

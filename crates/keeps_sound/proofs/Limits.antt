@@ -13,29 +13,14 @@ use Rattle.fields.specs.declared.Limits.the-variants.{Within, Outside}
 use Rattle.read.specs.declared.Item.{Item}
 use Rattle.read.specs.declared.Item.the-variants.{Origin, Variable, Counter, Text, Bars, Box, Frame, Picture}
 use Rattle.read.specs.declared.Command.{Command}
-use Rattle.read.specs.declared.Command.the-variants.{
-  Item as item,
-  Length,
-  Width,
-  Turn,
-  Start,
-  End,
-  Retrieve,
-  EraseForm,
-  ListForms,
-  PrintForm,
-  Store,
-  ListPictures,
-  ErasePicture,
-  SetVariable,
-  SetCounter,
-  Clear,
-  Print,
-  White,
-}
+use Rattle.read.specs.declared.Command.the-variants.{Item as item, End, Page, Forms, Pictures, Values, Listing}
+use Rattle.read.specs.declared.PageCommand.{PageCommand}
+use Rattle.read.specs.declared.PageCommand.the-variants.{Length, Width, Turn, White}
+use Rattle.read.specs.declared.ValueCommand.{ValueCommand}
+use Rattle.read.specs.declared.ValueCommand.the-variants.{Variable as EnterVariable, Counter as EnterCounter, Clear, Print}
 use Rattle.read.specs.declared.Read.the-variants.{Taken}
-use Rattle.read.specs.Grammar.{rowOf, boundsOf, limitsFrom, fieldLimits, isNumber, beyond, spread, free}
-use Rattle.read.specs.Commands.{readOf, itemOf, orderOf, isItem}
+use Rattle.read.specs.Grammar.{rowOf, boundsOf, limitsFrom, fieldLimits, isNumber, meets, spread, free}
+use Rattle.read.specs.Commands.{readOf, itemOf, pageOf, valueOf, orderOf, isItem, isForm, isPicture, isValue, isListing}
 use Rattle.keeps_sound.proofs.Layers.{first-of}
 use Rattle.keeps_sound.proofs.Facts.{between-facts}
 use Rattle.keeps_sound.proofs.Titles.{line-parted, choice, first-within, limits-rest}
@@ -56,23 +41,18 @@ itemRanged (Picture p) = Unit {0}
 
 abbrev pub ranged : ℕ → Command → Type 0
 ranged rows (item it) = itemRanged it
-ranged rows (Length l) = Ranged (1, rows) (l .m)
-ranged rows (Width m) = Ranged (80, 608) (m .m)
-ranged rows (Turn t) = Unit {0}
-ranged rows (Start n) = Unit {0}
 ranged rows End = Unit {0}
-ranged rows (Retrieve n) = Unit {0}
-ranged rows (EraseForm n) = Unit {0}
-ranged rows ListForms = Unit {0}
-ranged rows (PrintForm n) = Unit {0}
-ranged rows (Store p) = Unit {0}
-ranged rows ListPictures = Unit {0}
-ranged rows (ErasePicture n) = Unit {0}
-ranged rows (SetVariable v) = Unit {0}
-ranged rows (SetCounter c) = Unit {0}
-ranged rows Clear = Unit {0}
-ranged rows (Print p) = Ranged (1, 65535) (p .k)
-ranged rows White = Unit {0}
+ranged rows (Page (Length l)) = Ranged (1, rows) (l .m)
+ranged rows (Page (Width m)) = Ranged (80, 608) (m .m)
+ranged rows (Page (Turn t)) = Unit {0}
+ranged rows (Page White) = Unit {0}
+ranged rows (Forms c) = Unit {0}
+ranged rows (Pictures c) = Unit {0}
+ranged rows (Values (EnterVariable v)) = Unit {0}
+ranged rows (Values (EnterCounter c)) = Unit {0}
+ranged rows (Values Clear) = Unit {0}
+ranged rows (Values (Print p)) = Ranged (1, 65535) (p .k)
+ranged rows (Listing c) = Unit {0}
 
 -- ---- fields within their limits
 
@@ -87,7 +67,7 @@ chosen-within false p e = absurd (false≢true (ap isWithin e))
 field-within : (l : ℕ × ℕ) (s : List ℕ) (u v p : ℕ) → fieldLimits 110 l s u v p ≡ Within → Ranged l v
 unfolding fieldLimits
 field-within l s u v p e =
-    between-facts (l .0) (l .1) v (first-of (between (l .0) (l .1) v) (beyond 110 s u v p) (chosen-within (between (l .0) (l .1) v && beyond 110 s u v p) p e))
+    between-facts (l .0) (l .1) v (first-of (between (l .0) (l .1) v) (meets 110 s u v p) (chosen-within (between (l .0) (l .1) v && meets 110 s u v p) p e))
 
 number-within :
     (fs : List ℕ) (ls : List (ℕ × ℕ)) (s : List ℕ) (u : ℕ) (vs ps : List ℕ) → limitsFrom (110 ∷ fs) ls s u vs ps ≡ Within →
@@ -165,28 +145,35 @@ item-ranges k rows s vs ps q =
     (choice itemRanged (eqb k 23) _ _ (λ e. tt)
     tt))))))
 
-order-ranges : (k rows : ℕ) (s vs ps : List ℕ) → Kept rows k s vs ps → ranged rows (orderOf k s vs ps)
-unfolding orderOf
-order-ranges k rows s vs ps q =
-    let r : (Command → Type 0) = ranged rows in
+page-ranges : (k rows : ℕ) (s vs ps : List ℕ) → Kept rows k s vs ps → ranged rows (Page (pageOf k vs))
+unfolding pageOf
+page-ranges k rows s vs ps q =
+    let r : (PageCommand → Type 0) = λ c. ranged rows (Page c) in
     choice r (eqb k 0) _ _ (λ e. length-row rows s vs ps (subst (λ (j : ℕ). Kept rows j s vs ps) (eqb-true k 0 e) q))
     (choice r (eqb k 1) _ _ (λ e. width-row rows s vs ps (subst (λ (j : ℕ). Kept rows j s vs ps) (eqb-true k 1 e) q))
     (choice r (eqb k 3) _ _ (λ e. tt)
     (choice r (eqb k 4) _ _ (λ e. tt)
-    (choice r (eqb k 12) _ _ (λ e. tt)
-    (choice r (eqb k 13) _ _ (λ e. tt)
-    (choice r (eqb k 14) _ _ (λ e. tt)
-    (choice r (eqb k 15) _ _ (λ e. tt)
-    (choice r (eqb k 16) _ _ (λ e. tt)
-    (choice r (eqb k 17) _ _ (λ e. tt)
-    (choice r (eqb k 18) _ _ (λ e. tt)
-    (choice r (eqb k 19) _ _ (λ e. tt)
-    (choice r (eqb k 20) _ _ (λ e. tt)
-    (choice r (eqb k 21) _ _ (λ e. tt)
-    (choice r (eqb k 24) _ _ (λ e. tt)
+    tt)))
+
+value-ranges : (k rows : ℕ) (s vs ps : List ℕ) → Kept rows k s vs ps → ranged rows (Values (valueOf k vs ps))
+unfolding valueOf
+value-ranges k rows s vs ps q =
+    let r : (ValueCommand → Type 0) = λ c. ranged rows (Values c) in
+    choice r (eqb k 24) _ _ (λ e. tt)
     (choice r (eqb k 25) _ _ (λ e. tt)
     (choice r (eqb k 26) _ _ (λ e. print-row rows s vs ps (subst (λ (j : ℕ). Kept rows j s vs ps) (eqb-true k 26 e) q))
-    tt))))))))))))))))
+    tt))
+
+order-ranges : (k rows : ℕ) (s vs ps : List ℕ) → Kept rows k s vs ps → ranged rows (orderOf k s vs ps)
+unfolding orderOf
+order-ranges k rows s vs ps q =
+    let r : (Command → Type 0) = ranged rows in
+    choice r (eqb k 13) _ _ (λ e. tt)
+    (choice r (isValue k) _ _ (λ e. value-ranges k rows s vs ps q)
+    (choice r (isForm k) _ _ (λ e. tt)
+    (choice r (isPicture k) _ _ (λ e. tt)
+    (choice r (isListing k) _ _ (λ e. tt)
+    (page-ranges k rows s vs ps q)))))
 
 pub read-ranges : (rows : ℕ) (s : List ℕ) (c : Command) → readOf rows s ≡ Taken c → ranged rows c
 read-ranges rows s c e =

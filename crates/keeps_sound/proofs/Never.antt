@@ -1,7 +1,7 @@
 -- On a sound world of right lengths no call answers 3.
 -- Assumes nothing.
 use mathlib.Core.Path.{_≡_, refl, sym, ap, _∙_}
-use mathlib.Core.Bool.{Bool, true, false, not, _&&_, _||_, true≢false, false≢true}
+use mathlib.Core.Bool.{Bool, true, false, not, _&&_, _||_, true≢false, false≢true, cond}
 use mathlib.Core.List.{List, [], _∷_}
 use Prim.Native.Nat.{ℕ}
 use lib.ListN.{length}
@@ -10,26 +10,11 @@ use Rattle.store.specs.declared.Found.{Found}
 use Rattle.store.specs.declared.Found.the-variants.{At, Nothing}
 use Rattle.store.specs.Find.{recorded}
 use Rattle.read.specs.declared.Command.{Command}
-use Rattle.read.specs.declared.Command.the-variants.{
-  Item as item,
-  Length,
-  Width,
-  Turn,
-  Start,
-  End,
-  Retrieve,
-  EraseForm,
-  ListForms,
-  PrintForm,
-  Store,
-  ListPictures,
-  ErasePicture,
-  SetVariable,
-  SetCounter,
-  Clear,
-  Print,
-  White,
-}
+use Rattle.read.specs.declared.Command.the-variants.{Item as item, End, Page, Forms, Pictures, Values, Listing}
+use Rattle.read.specs.declared.FormCommand.the-variants.{Start, Retrieve, Erase as EraseForm}
+use Rattle.read.specs.declared.PictureCommand.the-variants.{Store, Erase as ErasePicture}
+use Rattle.read.specs.declared.ValueCommand.the-variants.{Variable as EnterVariable, Counter as EnterCounter, Clear, Print}
+use Rattle.read.specs.declared.ListingCommand.the-variants.{Forms as ListForms, Pictures as ListPictures, Form as ListForm}
 use Rattle.read.specs.declared.Fault.the-variants.{Form as form, Limit}
 use Rattle.read.specs.declared.Front.{Front}
 use Rattle.read.specs.declared.Front.the-variants.{Short, Long as LongLine, Idle, Line}
@@ -41,12 +26,12 @@ use Rattle.sound.specs.Sound.{sound}
 use Rattle.session.specs.declared.Session.{Session}
 use Rattle.session.specs.declared.answers.Answer.{Answer}
 use Rattle.session.specs.declared.answers.Answer.the-variants.{Taken, Unsound}
-use Rattle.session.specs.Answers.{Row, numberOf, isTaken, pickAnswer, answerOf}
+use Rattle.session.specs.Answers.{Row, numberOf, isTaken, answerOf}
 use Rattle.session.specs.Lent.{World, rowsOf}
 use Rattle.commands.specs.Rows.{recordRows, runRows, placedRows, lineRows}
 use Rattle.station.specs.Outcomes.{After, Drawn, drawnBy, labelled}
 use Rattle.station.specs.Table.{lineOf, moreOf, frontRows, commandTable, labelTable}
-use Rattle.station.specs.Station.{readBy, settled, refused, commanded, settledLabel, labelledBy}
+use Rattle.station.specs.Station.{readBy, refused, commanded, labelledBy}
 use Rattle.keeps_sound.proofs.Layers.{first-of, second-of}
 
 -- ---- tables none of whose rows gives 3
@@ -55,7 +40,7 @@ abbrev harmless : List Row → Bool
 harmless [] = true
 harmless (r ∷ rs) = (not (eqb (numberOf (r .answer)) 3) || not (r .applies)) && harmless rs
 
-picked-not : (b : Bool) (a x : Answer) → (not (eqb (numberOf a) 3) || not b) ≡ true → (x ≡ Unsound → ⊥) → pickAnswer b a x ≡ Unsound → ⊥
+picked-not : (b : Bool) (a x : Answer) → (not (eqb (numberOf a) 3) || not b) ≡ true → (x ≡ Unsound → ⊥) → cond b a x ≡ Unsound → ⊥
 unfolding numberOf
 picked-not true a x h n e = false≢true (ap (λ (k : Answer). not (eqb (numberOf k) 3) || false) (sym e) ∙ h)
 picked-not false a x h n e = n e
@@ -71,44 +56,30 @@ module _ (w : World) (s : Session) (line more : List ℕ) (room : ℕ) where
   record-harmless : (i : ℕ) (c : Command) → harmless (recordRows w line i c) ≡ true
   unfolding numberOf
   record-harmless i (item it) = refl
-  record-harmless i (Length l) = refl
-  record-harmless i (Width m) = refl
-  record-harmless i (Turn t) = refl
-  record-harmless i (Start n) = refl
   record-harmless i End = refl
-  record-harmless i (Retrieve n) = refl
-  record-harmless i (EraseForm n) = refl
-  record-harmless i ListForms = refl
-  record-harmless i (PrintForm n) = refl
-  record-harmless i (Store p) = refl
-  record-harmless i ListPictures = refl
-  record-harmless i (ErasePicture n) = refl
-  record-harmless i (SetVariable v) = refl
-  record-harmless i (SetCounter c) = refl
-  record-harmless i Clear = refl
-  record-harmless i (Print p) = refl
-  record-harmless i White = refl
+  record-harmless i (Page c) = refl
+  record-harmless i (Forms c) = refl
+  record-harmless i (Pictures c) = refl
+  record-harmless i (Values c) = refl
+  record-harmless i (Listing c) = refl
 
   run-harmless : (c : Command) → harmless (runRows w s line more room c) ≡ true
   unfolding numberOf
   run-harmless (item it) = refl
-  run-harmless (Length l) = refl
-  run-harmless (Width m) = refl
-  run-harmless (Turn t) = refl
-  run-harmless (Start n) = refl
   run-harmless End = refl
-  run-harmless (Retrieve n) = refl
-  run-harmless (EraseForm n) = refl
-  run-harmless ListForms = refl
-  run-harmless (PrintForm n) = refl
-  run-harmless (Store p) = refl
-  run-harmless ListPictures = refl
-  run-harmless (ErasePicture n) = refl
-  run-harmless (SetVariable v) = refl
-  run-harmless (SetCounter c) = refl
-  run-harmless Clear = refl
-  run-harmless (Print p) = refl
-  run-harmless White = refl
+  run-harmless (Page c) = refl
+  run-harmless (Forms (Start n)) = refl
+  run-harmless (Forms (Retrieve n)) = refl
+  run-harmless (Forms (EraseForm n)) = refl
+  run-harmless (Pictures (Store p)) = refl
+  run-harmless (Pictures (ErasePicture n)) = refl
+  run-harmless (Values (EnterVariable v)) = refl
+  run-harmless (Values (EnterCounter c)) = refl
+  run-harmless (Values Clear) = refl
+  run-harmless (Values (Print p)) = refl
+  run-harmless (Listing ListForms) = refl
+  run-harmless (Listing ListPictures) = refl
+  run-harmless (Listing (ListForm n)) = refl
 
   placed-harmless : (f : Found) (c : Command) → harmless (placedRows w s line more room c f) ≡ true
   placed-harmless (At i) c = record-harmless i c
@@ -138,12 +109,12 @@ module _ (s : Session) (font : List ℕ) (w : World) (h : sound s w ≡ true) wh
   unfolding labelTable numberOf
   label-harmless page = rw h
 
-  settled-never : (b : Bool) (x y : After) → x .outcome .answer ≡ Taken → (y .outcome .answer ≡ Unsound → ⊥) → settled b x y .outcome .answer ≡ Unsound → ⊥
+  settled-never : (b : Bool) (x y : After) → x .outcome .answer ≡ Taken → (y .outcome .answer ≡ Unsound → ⊥) → cond b x y .outcome .answer ≡ Unsound → ⊥
   unfolding isTaken numberOf
   settled-never true x y p q e = true≢false (ap isTaken (sym p ∙ e))
   settled-never false x y p q e = q e
 
-  settled-label-never : (b : Bool) (x y : Drawn) → x .outcome .answer ≡ Taken → (y .outcome .answer ≡ Unsound → ⊥) → settledLabel b x y .outcome .answer ≡ Unsound → ⊥
+  settled-label-never : (b : Bool) (x y : Drawn) → x .outcome .answer ≡ Taken → (y .outcome .answer ≡ Unsound → ⊥) → cond b x y .outcome .answer ≡ Unsound → ⊥
   unfolding isTaken numberOf
   settled-label-never true x y p q e = true≢false (ap isTaken (sym p ∙ e))
   settled-label-never false x y p q e = q e

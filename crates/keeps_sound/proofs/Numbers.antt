@@ -15,7 +15,8 @@ use Rattle.read.specs.declared.Item.the-variants.{Origin, Variable, Counter, Te
 use Rattle.read.specs.declared.Length.{Length as LengthOf}
 use Rattle.read.specs.declared.Width.{Width as WidthOf}
 use Rattle.read.specs.declared.Turn.{Turn as TurnOf}
-use Rattle.read.specs.declared.Command.the-variants.{Item as item, Length, Width, Turn}
+use Rattle.read.specs.declared.Command.the-variants.{Item as item, Page}
+use Rattle.read.specs.declared.PageCommand.the-variants.{Length, Width, Turn}
 use Rattle.read.specs.declared.Read.the-variants.{Taken as Reads}
 use Rattle.read.specs.Commands.{readOf}
 use Rattle.forms.specs.Draw.{Setting, setting, drawsItem}
@@ -23,8 +24,11 @@ use Rattle.sound.specs.Sound.{numbersOk, backgroundOk, activitySound}
 use Rattle.session.specs.declared.Session.{Session}
 use Rattle.session.specs.Session.{sized, turning, based}
 use Rattle.session.specs.Lent.{World, rowsOf}
-use Rattle.commands.specs.World.{withBackground, activeOf}
-use Rattle.commands.specs.Does.{drawnOn, basedBy, runs}
+use Rattle.session.specs.Active.{activeOf}
+use Rattle.results.specs.World.{withBackground}
+use Rattle.results.specs.Result.{sixteenBits}
+use Rattle.item_commands.specs.Items.{drawnOn, basedBy}
+use Rattle.commands.specs.Does.{runs}
 use Rattle.keeps_sound.specs.Good.{Good}
 use Rattle.keeps_sound.proofs.Facts.{Numbers, numbers-facts, facts-numbers}
 use Rattle.keeps_sound.proofs.Limits.{Ranged, itemRanged, read-ranges}
@@ -51,37 +55,37 @@ background-good s s′ w b g e n h a = record {
 module _ (font : List ℕ) (w : World) (s : Session) (line more : List ℕ) (g : Good s w) where
   -- ---- Q and q: "Both whiten the background"
 
-  pub keeps-length : (l : LengthOf) → readOf (rowsOf w) line ≡ Reads (Length l)
-      → Good (runs font w s line more (Length l) .session) (runs font w s line more (Length l) .world)
+  pub keeps-length : (l : LengthOf) → readOf (rowsOf w) line ≡ Reads (Page (Length l))
+      → Good (runs font w s line more (Page (Length l)) .session) (runs font w s line more (Page (Length l)) .world)
   unfolding activitySound
   keeps-length l e =
       let n = numbers-facts (rowsOf w) s (g .numbers) in
-      let r : Ranged (1, rowsOf w) (l .m) = read-ranges (rowsOf w) line (Length l) e in
-      background-good s (sized s (s .width) (l .m)) w (zeros (length (w .background))) g (length-zeros (length (w .background))) (record {
+      let r : Ranged (1, rowsOf w) (l .m) = read-ranges (rowsOf w) line (Page (Length l)) e in
+      background-good s (sized s (s .width) (sixteenBits (l .m))) w (zeros (length (w .background))) g (length-zeros (length (w .background))) (record {
         wide-least = n .wide-least;
         wide-most = n .wide-most;
-        long-least = r .0;
-        long-most = r .1;
+        long-least = omega (arith, r .0);
+        long-most = omega (arith, r .1);
         turn = n .turn;
         x = n .x;
         y = n .y;
-      }) (white-zeros (s .width) (l .m) (length (w .background))) (g .activity)
+      }) (white-zeros (s .width) (sixteenBits (l .m)) (length (w .background))) (g .activity)
 
-  pub keeps-width : (m : WidthOf) → readOf (rowsOf w) line ≡ Reads (Width m)
-      → Good (runs font w s line more (Width m) .session) (runs font w s line more (Width m) .world)
+  pub keeps-width : (m : WidthOf) → readOf (rowsOf w) line ≡ Reads (Page (Width m))
+      → Good (runs font w s line more (Page (Width m)) .session) (runs font w s line more (Page (Width m)) .world)
   unfolding activitySound
   keeps-width m e =
       let n = numbers-facts (rowsOf w) s (g .numbers) in
-      let r : Ranged (80, 608) (m .m) = read-ranges (rowsOf w) line (Width m) e in
-      background-good s (sized s (m .m) (s .length)) w (zeros (length (w .background))) g (length-zeros (length (w .background))) (record {
-        wide-least = r .0;
-        wide-most = r .1;
+      let r : Ranged (80, 608) (m .m) = read-ranges (rowsOf w) line (Page (Width m)) e in
+      background-good s (sized s (sixteenBits (m .m)) (s .length)) w (zeros (length (w .background))) g (length-zeros (length (w .background))) (record {
+        wide-least = omega (arith, r .0);
+        wide-most = omega (arith, r .1);
         long-least = n .long-least;
         long-most = n .long-most;
         turn = n .turn;
         x = n .x;
         y = n .y;
-      }) (white-zeros (m .m) (s .length) (length (w .background))) (g .activity)
+      }) (white-zeros (sixteenBits (m .m)) (s .length) (length (w .background))) (g .activity)
 
   -- ---- ZT and ZB
 
@@ -89,7 +93,7 @@ module _ (font : List ℕ) (w : World) (s : Session) (line more : List ℕ) (g :
   half-turn true = omega arith
   half-turn false = omega arith
 
-  pub keeps-turn : (t : TurnOf) → Good (runs font w s line more (Turn t) .session) (runs font w s line more (Turn t) .world)
+  pub keeps-turn : (t : TurnOf) → Good (runs font w s line more (Page (Turn t)) .session) (runs font w s line more (Page (Turn t)) .world)
   unfolding activitySound
   keeps-turn t =
       let n = numbers-facts (rowsOf w) s (g .numbers) in
@@ -129,14 +133,14 @@ module _ (font : List ℕ) (w : World) (s : Session) (line more : List ℕ) (g :
   unfolding activitySound
   item-good (Origin o) r =
       let n = numbers-facts (rowsOf w) s (g .numbers) in
-      background-good s (based s (o .x) (o .y)) w _ g (drawn-length (Origin o)) (record {
+      background-good s (based s (sixteenBits (o .x)) (sixteenBits (o .y))) w _ g (drawn-length (Origin o)) (record {
         wide-least = n .wide-least;
         wide-most = n .wide-most;
         long-least = n .long-least;
         long-most = n .long-most;
         turn = n .turn;
-        x = r .0 .1;
-        y = r .1 .1;
+        x = omega (arith, r .0 .1);
+        y = omega (arith, r .1 .1);
       }) (drawn-white (Origin o)) (g .activity)
   item-good (Variable v) r = drawn-good (Variable v)
   item-good (Counter c) r = drawn-good (Counter c)

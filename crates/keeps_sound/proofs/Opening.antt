@@ -1,7 +1,7 @@
--- "opening gives a sound world": whenever opening is taken, what it leaves is sound.
+-- Whenever opening is taken, what it leaves is sound.
 -- Assumes nothing.
 use mathlib.Core.Path.{_≡_, refl, ap, _∙_}
-use mathlib.Core.Bool.{Bool, true, false, not, _||_, false≢true}
+use mathlib.Core.Bool.{Bool, true, false, not, _||_, false≢true, cond}
 use mathlib.Core.List.{List}
 use Prim.Native.Nat.{ℕ, _+_, _*_, _/_, _<_}
 use native.Mathlib.Omega.{arith}
@@ -23,9 +23,9 @@ use Rattle.session.specs.declared.answers.Answer.the-variants.{Taken, Lengths}
 use Rattle.session.specs.Answers.{numberOf, isTaken}
 use Rattle.session.specs.Session.{none, fresh, blank}
 use Rattle.session.specs.Lent.{World, rowsOf, wrongLent}
-use Rattle.commands.proofs.Answers.{or-none}
+use Rattle.results.proofs.Answers.{or-none}
 use Rattle.station.specs.Outcomes.{Opened, openedBy, labelled}
-use Rattle.station.specs.Station.{cleared, pickOpened, opened}
+use Rattle.station.specs.Station.{cleared, opened}
 use Rattle.keeps_sound.specs.Good.{Good}
 use Rattle.keeps_sound.specs.Tens.{Tens}
 use Rattle.keeps_sound.proofs.Layers.{good-sound}
@@ -99,10 +99,10 @@ fresh-good w e =
 
 opened-by :
     (t : Bool) (page : List ℕ) (w : World) → (wrongLent w || not (eqb (length page) (length (w .background)))) ≡ t →
-    pickOpened t (openedBy (labelled Lengths none) page w) (openedBy (labelled Taken (fresh (rowsOf w))) (zeros (length page)) (cleared w)) .outcome .answer ≡ Taken →
+    cond t (openedBy (labelled Lengths none) page w) (openedBy (labelled Taken (fresh (rowsOf w))) (zeros (length page)) (cleared w)) .outcome .answer ≡ Taken →
     Good
-    (pickOpened t (openedBy (labelled Lengths none) page w) (openedBy (labelled Taken (fresh (rowsOf w))) (zeros (length page)) (cleared w)) .outcome .session)
-    (pickOpened t (openedBy (labelled Lengths none) page w) (openedBy (labelled Taken (fresh (rowsOf w))) (zeros (length page)) (cleared w)) .world)
+    (cond t (openedBy (labelled Lengths none) page w) (openedBy (labelled Taken (fresh (rowsOf w))) (zeros (length page)) (cleared w)) .outcome .session)
+    (cond t (openedBy (labelled Lengths none) page w) (openedBy (labelled Taken (fresh (rowsOf w))) (zeros (length page)) (cleared w)) .world)
 unfolding isTaken numberOf
 opened-by true page w e t = absurd (false≢true (ap isTaken t))
 opened-by false page w e t = fresh-good w (or-none (wrongLent w) (not (eqb (length page) (length (w .background)))) e .0)
@@ -114,7 +114,7 @@ opened-good page w t = opened-by (wrongLent w || not (eqb (length page) (length 
 pub opened-sound : (page : List ℕ) (w : World) → opened page w .outcome .answer ≡ Taken → sound (opened page w .outcome .session) (opened page w .world) ≡ true
 opened-sound page w t = good-sound (opened page w .outcome .session) (opened page w .world) (opened-good page w t)
 
-opened-ten : (t : Bool) (a b : Opened) → Tens (a .outcome .session) → Tens (b .outcome .session) → Tens (pickOpened t a b .outcome .session)
+opened-ten : (t : Bool) (a b : Opened) → Tens (a .outcome .session) → Tens (b .outcome .session) → Tens (cond t a b .outcome .session)
 opened-ten true a b p q = p
 opened-ten false a b p q = q
 

@@ -1,14 +1,13 @@
 -- While a form is recorded: a line is kept behind it, FE ends it.
 -- Assumes nothing.
 use mathlib.Core.Path.{_≡_, refl, sym, ap, _∙_}
-use mathlib.Core.Bool.{Bool, true, false, _&&_, _||_, false≢true}
+use mathlib.Core.Bool.{Bool, true, false, _&&_, _||_, false≢true, cond}
 use mathlib.Core.List.{List, [], _∷_, _++_}
 use Prim.Native.Nat.{ℕ, _≤_, _<_}
 use native.Mathlib.Omega.{arith}
 use lib.ListN.{length, length-append}
 use lib.Dec.{eqb, leb}
 use borrow.Author.Tests.{eq-eqb, eqb-true, le-leb}
-use Rattle.cells.proofs.Counts.{and-left, and-both}
 use Rattle.cells.proofs.Scan.{lowest-passes}
 use Rattle.store.specs.declared.Found.the-variants.{At}
 use Rattle.store.specs.Entry.{entries, entry, kind, name}
@@ -26,44 +25,28 @@ use Rattle.values.specs.Stored.{allSet}
 use Rattle.read.specs.Commands.{readOf}
 use Rattle.read.specs.declared.Item.{Item}
 use Rattle.read.specs.declared.Command.{Command}
-use Rattle.read.specs.declared.Command.the-variants.{
-  Item as item,
-  Length,
-  Width,
-  Turn,
-  Start,
-  End,
-  Retrieve,
-  EraseForm,
-  ListForms,
-  PrintForm,
-  Store,
-  ListPictures,
-  ErasePicture,
-  SetVariable,
-  SetCounter,
-  Clear,
-  Print,
-  White,
-}
+use Rattle.read.specs.declared.Command.the-variants.{Item as item, End, Page, Forms, Pictures, Values, Listing}
 use Rattle.read.specs.declared.Read.the-variants.{Taken as Reads}
 use Rattle.normal.specs.Written.{normal, takenItem, equal, isNormal}
 use Rattle.normal.proofs.Round.{normal-line, item-rows}
 use Rattle.normal.proofs.Short.{normal-short}
-use Rattle.forms.specs.declared.Verdict.{Verdict}
-use Rattle.forms.specs.declared.Verdict.the-variants.{Taken as Fine, Again as Before, Undeclared as Unknown, Past as Reaches, Unfit as Wrong}
+use Rattle.forms.specs.declared.Verdict.the-variants.{Taken as Fine}
 use Rattle.forms.specs.declared.Stored.the-variants.{Holds, Nothing as NoItem}
 use Rattle.forms.specs.Judged.{judged, isTaken as isFine}
-use Rattle.forms.specs.Form.{formOk, declaredOf, itemIn, heldRead, pickStored, takesStored, takes, picturesStored}
+use Rattle.forms.specs.Form.{formOk, declaredOf, itemIn, heldRead, takesStored, takes, picturesStored}
 use Rattle.forms.proofs.Growing.{formOk-grows}
 use Rattle.sound.specs.Sound.{owedOk}
 use Rattle.session.specs.declared.Session.{Session}
-use Rattle.session.specs.declared.answers.Answer.the-variants.{Taken, Missing, Again, Undeclared, Past, Unfit, Full}
+use Rattle.session.specs.declared.answers.Answer.the-variants.{Taken, Misplaced, Missing, Again, Undeclared, Past, Unfit, Full}
 use Rattle.session.specs.Answers.{Row, isTaken, numberOf, answerOf}
 use Rattle.session.specs.Lent.{World, rowsOf}
-use Rattle.commands.specs.World.{memoryOf, contentAt, activeOf, activeDeclared}
-use Rattle.commands.specs.Rows.{isBefore, isUnknown, isReaching, isWrong, verdictRows, recordRows}
+use Rattle.session.specs.Active.{activeOf, activeDeclared}
+use Rattle.results.specs.World.{memoryOf, contentAt}
+use Rattle.item_commands.specs.Items.{fitRows}
+use Rattle.item_commands.proofs.First.{first-verdict}
+use Rattle.commands.specs.Rows.{recordRows}
 use Rattle.commands.specs.Does.{records}
+use Rattle.ground.proofs.Tests.{and-left, and-both}
 use Rattle.keeps_sound.specs.Good.{Good}
 use Rattle.keeps_sound.proofs.Tables.{clear, not-no}
 use Rattle.keeps_sound.proofs.OneLine.{normal-inside}
@@ -123,21 +106,15 @@ module _ (s : Session) (w : World) (g : Good s w) (i : ℕ) (e : recorded (w .di
 
 -- ---- a line
 
-verdict-fine : (v : Verdict) (rows : List Row) → answerOf (verdictRows v rows) ≡ Taken → (v ≡ Fine) × (answerOf rows ≡ Taken)
+fit-fine :
+    (d : Declared) (line : List ℕ) (it : Item) (rows : List Row) → answerOf (fitRows d line it rows) ≡ Taken → (judged d line it ≡ Fine) × (answerOf rows ≡ Taken)
 unfolding isTaken numberOf
-verdict-fine v rows h =
+fit-fine d line it rows h =
     let a = clear Again _ _ refl h in
     let b = clear Undeclared _ _ refl (a .1) in
     let c = clear Past _ _ refl (b .1) in
-    let d = clear Unfit _ _ refl (c .1) in
-    (go v (a .0) (b .0) (c .0) (d .0), d .1)
-  where
-    go : (v : Verdict) → isBefore v ≡ false → isUnknown v ≡ false → isReaching v ≡ false → isWrong v ≡ false → v ≡ Fine
-    go Fine p q r t = refl
-    go Before p q r t = absurd (false≢true (sym p))
-    go Unknown p q r t = absurd (false≢true (sym q))
-    go Reaches p q r t = absurd (false≢true (sym r))
-    go Wrong p q r t = absurd (false≢true (sym t))
+    let e = clear Unfit _ _ refl (c .1) in
+    (rw (first-verdict d line it, a .0, b .0, c .0, e .0), e .1)
 
 equal-self : (l : List ℕ) → equal l l ≡ true
 unfolding equal
@@ -150,7 +127,7 @@ unfolding itemIn isNormal
 normal-holds l i h r n =
     let t : (leb (length l) 255 && (takenItem (readOf 1 l) && equal (normal l) l)) ≡ true =
     and-both _ _ (le-leb (length l) 255 h) (and-both _ _ (ap takenItem r) (ap (λ (x : List ℕ). equal x l) n ∙ equal-self l)) in
-    ap (λ (b : Bool). pickStored b (heldRead (readOf 1 l)) NoItem) t ∙ ap heldRead r
+    ap (λ (b : Bool). cond b (heldRead (readOf 1 l)) NoItem) t ∙ ap heldRead r
 
 -- "recording would take" the normal form of a line that is taken
 pub normal-takes : (rows : ℕ) (d : Declared) (line : List ℕ) (it : Item) → readOf rows line ≡ Reads (item it) → length line ≤ 255
@@ -168,8 +145,9 @@ module _ (s : Session) (w : World) (g : Good s w) (i : ℕ) (e : recorded (w .di
       → Good (records w s line i (item it) .session) (records w s line i (item it) .world)
   unfolding isTaken numberOf
   keeps-recorded line it r h c =
-      let c₁ = clear Missing _ _ refl c in
-      let c₂ = verdict-fine (judged (declaredOf (contentAt w i)) line it) _ (c₁ .1) in
+      let c₀ = clear Misplaced _ _ refl c in
+      let c₁ = clear Missing _ _ refl (c₀ .1) in
+      let c₂ = fit-fine (declaredOf (contentAt w i)) line it _ (c₁ .1) in
       let c₃ = clear Full _ _ refl (c₂ .1) in
       let more : List ℕ = normal line ++ (10 ∷ []) in
       let can : canGrow (w .links) (entry (w .directory) i) (length more) ≡ true =
@@ -185,20 +163,9 @@ module _ (s : Session) (w : World) (g : Good s w) (i : ℕ) (e : recorded (w .di
   pub keeps-records : (line : List ℕ) (c : Command) → readOf (rowsOf w) line ≡ Reads c → length line ≤ 255
       → answerOf (recordRows w line i c) ≡ Taken → Good (records w s line i c .session) (records w s line i c .world)
   keeps-records line (item it) r h a = keeps-recorded line it r h a
-  keeps-records line (Length l) r h a = g
-  keeps-records line (Width m) r h a = g
-  keeps-records line (Turn t) r h a = g
-  keeps-records line (Start n) r h a = g
   keeps-records line End r h a = keeps-end s w g i e line
-  keeps-records line (Retrieve n) r h a = g
-  keeps-records line (EraseForm n) r h a = g
-  keeps-records line ListForms r h a = g
-  keeps-records line (PrintForm n) r h a = g
-  keeps-records line (Store p) r h a = g
-  keeps-records line ListPictures r h a = g
-  keeps-records line (ErasePicture n) r h a = g
-  keeps-records line (SetVariable v) r h a = g
-  keeps-records line (SetCounter c) r h a = g
-  keeps-records line Clear r h a = g
-  keeps-records line (Print p) r h a = g
-  keeps-records line White r h a = g
+  keeps-records line (Page c) r h a = g
+  keeps-records line (Forms c) r h a = g
+  keeps-records line (Pictures c) r h a = g
+  keeps-records line (Values c) r h a = g
+  keeps-records line (Listing c) r h a = g

@@ -7,7 +7,6 @@ use Prim.Native.Nat.{ℕ, _<_}
 use native.Mathlib.Omega.{arith}
 use lib.ListN.{length}
 use borrow.Author.Tests.{eqb-true, lt-ltb}
-use Rattle.cells.proofs.Counts.{and-both}
 use Rattle.cells.proofs.Scan.{lowest-passes}
 use Rattle.store.specs.declared.Found.{Found}
 use Rattle.store.specs.declared.Found.the-variants.{At, Nothing}
@@ -21,19 +20,23 @@ use Rattle.picture.specs.Rules.{legal}
 use Rattle.picture.proofs.Rules.{legal-says}
 use Rattle.read.specs.declared.Named.{Named}
 use Rattle.read.specs.declared.StorePicture.{StorePicture}
-use Rattle.read.specs.declared.Command.the-variants.{Start, Store}
+use Rattle.read.specs.declared.Command.the-variants.{Forms, Pictures}
+use Rattle.read.specs.declared.FormCommand.the-variants.{Start}
+use Rattle.read.specs.declared.PictureCommand.the-variants.{Store}
 use Rattle.read.specs.declared.Read.the-variants.{Taken as Reads}
 use Rattle.read.specs.Commands.{readOf}
-use Rattle.read.specs.Names.{packedOf}
+use Rattle.parts.specs.Names.{packedOf}
 use Rattle.forms.specs.Form.{isAt}
 use Rattle.forms.proofs.Growing.{formOk-empty}
 use Rattle.session.specs.declared.Session.{Session}
-use Rattle.session.specs.declared.answers.Answer.the-variants.{Taken, InUse, Illegal, Full}
+use Rattle.session.specs.declared.answers.Answer.the-variants.{Taken, Misplaced, InUse, Illegal, Full}
 use Rattle.session.specs.Answers.{isTaken, numberOf, answerOf}
 use Rattle.session.specs.Lent.{World, rowsOf}
-use Rattle.commands.specs.World.{memoryOf}
-use Rattle.commands.specs.Rows.{lookup, named, runRows}
+use Rattle.results.specs.World.{memoryOf}
+use Rattle.results.specs.Named.{lookup, named}
+use Rattle.commands.specs.Rows.{runRows}
 use Rattle.commands.specs.Does.{runs}
+use Rattle.ground.proofs.Tests.{and-both}
 use Rattle.keeps_sound.specs.Good.{Good}
 use Rattle.keeps_sound.proofs.Tables.{clear, not-no}
 use Rattle.keeps_sound.proofs.Titles.{start-title, store-title}
@@ -56,12 +59,12 @@ module _ (s : Session) (w : World) (g : Good s w) (z : s .owed ≡ 0) (quiet : r
   apart size h e k = let o = empty-there (w .links) (w .directory) size h .1 in let x : ⊥ = omega arith in x
 
   -- FS
-  pub keeps-start : (font line more : List ℕ) (room : ℕ) (n : Named) → readOf (rowsOf w) line ≡ Reads (Start n)
-      → answerOf (runRows w s line more room (Start n)) ≡ Taken
-      → Good (runs font w s line more (Start n) .session) (runs font w s line more (Start n) .world)
+  pub keeps-start : (font line more : List ℕ) (room : ℕ) (n : Named) → readOf (rowsOf w) line ≡ Reads (Forms (Start n))
+      → answerOf (runRows w s line more room (Forms (Start n))) ≡ Taken
+      → Good (runs font w s line more (Forms (Start n)) .session) (runs font w s line more (Forms (Start n)) .world)
   unfolding isTaken numberOf
   keeps-start font line more room n r c =
-      let c₁ = clear InUse _ _ refl c in
+      let c₁ = clear InUse _ _ refl (clear Misplaced _ _ refl c .1) in
       let c₂ = clear Full _ _ refl (c₁ .1) in
       let title : List ℕ = packedOf line (n .at) (n .length) in
       let can : hasRoom (w .links) (w .directory) 0 ≡ true = not-no _ (c₂ .0) in
@@ -79,12 +82,12 @@ module _ (s : Session) (w : World) (g : Good s w) (z : s .owed ≡ 0) (quiet : r
       (empty-there (w .links) (w .directory) 0 can .0) (rw formOk-empty) (apart 0 can)
 
   -- GM
-  pub keeps-picture : (font line more : List ℕ) (room : ℕ) (p : StorePicture) → readOf (rowsOf w) line ≡ Reads (Store p)
-      → answerOf (runRows w s line more room (Store p)) ≡ Taken
-      → Good (runs font w s line more (Store p) .session) (runs font w s line more (Store p) .world)
+  pub keeps-picture : (font line more : List ℕ) (room : ℕ) (p : StorePicture) → readOf (rowsOf w) line ≡ Reads (Pictures (Store p))
+      → answerOf (runRows w s line more room (Pictures (Store p))) ≡ Taken
+      → Good (runs font w s line more (Pictures (Store p)) .session) (runs font w s line more (Pictures (Store p)) .world)
   unfolding isTaken numberOf
   keeps-picture font line more room p r c =
-      let c₁ = clear InUse _ _ refl c in
+      let c₁ = clear InUse _ _ refl (clear Misplaced _ _ refl c .1) in
       let c₂ = clear Illegal _ _ refl (c₁ .1) in
       let c₃ = clear Full _ _ refl (c₂ .1) in
       let title : List ℕ = packedOf line (p .at) (p .length) in

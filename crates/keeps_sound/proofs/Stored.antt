@@ -10,8 +10,7 @@ use lib.ListN.{length, getD, take, length-replicate, drop-of-length-le}
 use lib.Dec.{eqb, leb}
 use borrow.Author.Tests.{eq-eqb, ne-eqb, eqb-true, leb-true, leb-false, le-ltb}
 use Rattle.cells.specs.Cell.{cell}
-use Rattle.cells.proofs.Counts.{same?, and-left, and-right, and-both, all-at, all-of}
-use Rattle.cells.proofs.Scan.{either}
+use Rattle.cells.proofs.Counts.{all-at, all-of}
 use Rattle.store.specs.Entry.{entries, entry, kind, ofKind}
 use Rattle.store.specs.Content.{contentOf}
 use Rattle.moves.specs.Memory.{Memory}
@@ -29,9 +28,9 @@ use Rattle.sound.specs.Sound.{numbersOk, contentOk, contentsOk, activeOk, activ
 use Rattle.session.specs.declared.Session.{Session}
 use Rattle.session.specs.Session.{activated}
 use Rattle.session.specs.Lent.{World, pageWrong, storeWrong, lengthsWrong}
-use Rattle.commands.proofs.Answers.{or-none}
-use Rattle.commands.specs.World.{memoryOf, withMemory}
-use Rattle.commands.specs.Does.{unsetIn}
+use Rattle.results.specs.World.{memoryOf, withMemory, unsetIn}
+use Rattle.results.proofs.Answers.{or-none}
+use Rattle.ground.proofs.Tests.{same?, and-left, and-right, and-both, either}
 use Rattle.keeps_sound.specs.Good.{Good}
 
 -- ---- contents

@@ -17,26 +17,11 @@ use Rattle.values.specs.Counters.{tenTo, counters, counted, counterEntered}
 use Rattle.read.specs.declared.Item.{Item}
 use Rattle.read.specs.declared.Item.the-variants.{Origin, Variable, Counter, Text, Bars, Box, Frame, Picture}
 use Rattle.read.specs.declared.Command.{Command}
-use Rattle.read.specs.declared.Command.the-variants.{
-  Item as item,
-  Length,
-  Width,
-  Turn,
-  Start,
-  End,
-  Retrieve,
-  EraseForm,
-  ListForms,
-  PrintForm,
-  Store,
-  ListPictures,
-  ErasePicture,
-  SetVariable,
-  SetCounter,
-  Clear,
-  Print,
-  White,
-}
+use Rattle.read.specs.declared.Command.the-variants.{Item as item, End, Page, Forms, Pictures, Values, Listing}
+use Rattle.read.specs.declared.PageCommand.the-variants.{Length, Width, Turn, White}
+use Rattle.read.specs.declared.FormCommand.the-variants.{Start, Retrieve, Erase as EraseForm}
+use Rattle.read.specs.declared.PictureCommand.the-variants.{Store, Erase as ErasePicture}
+use Rattle.read.specs.declared.ValueCommand.the-variants.{Variable as EnterVariable, Counter as EnterCounter, Clear, Print}
 use Rattle.read.specs.declared.Front.{Front}
 use Rattle.read.specs.declared.Front.the-variants.{Short, Long as LongLine, Idle, Line}
 use Rattle.read.specs.declared.Read.{Read}
@@ -47,12 +32,14 @@ use Rattle.session.specs.declared.Session.{Session}
 use Rattle.session.specs.Answers.{isTaken, answerOf}
 use Rattle.session.specs.Session.{activated}
 use Rattle.session.specs.Lent.{World, rowsOf}
-use Rattle.commands.specs.World.{State, activeDeclared, placeOf}
-use Rattle.commands.specs.Rows.{named}
-use Rattle.commands.specs.Does.{records, runs, placed, doesLine, pickState, basedBy}
+use Rattle.session.specs.Active.{activeDeclared}
+use Rattle.results.specs.World.{State}
+use Rattle.results.specs.Named.{placeOf, named}
+use Rattle.item_commands.specs.Items.{basedBy}
+use Rattle.commands.specs.Does.{records, runs, placed, doesLine}
 use Rattle.station.specs.Table.{lineOf, moreOf, commandTable}
 use Rattle.station.specs.Outcomes.{After}
-use Rattle.station.specs.Station.{doesFront, settled, commanded}
+use Rattle.station.specs.Station.{doesFront, commanded}
 use Rattle.keeps_sound.specs.Tens.{Tens}
 
 -- ---- counters and sessions
@@ -83,7 +70,7 @@ based-tens s (Picture p) t = t
 activated-tens : (s : Session) (a : ℕ) → Tens (activated s a)
 activated-tens s a = record { flags = refl; values = refl }
 
-picked-tens : (b : Bool) (x y : State) → Tens (x .session) → Tens (y .session) → Tens (pickState b x y .session)
+picked-tens : (b : Bool) (x y : State) → Tens (x .session) → Tens (y .session) → Tens (cond b x y .session)
 picked-tens true x y p q = p
 picked-tens false x y p q = q
 
@@ -92,46 +79,33 @@ picked-tens false x y p q = q
 module _ (font : List ℕ) (w : World) (s : Session) (line more : List ℕ) (t : Tens s) where
   run-tens : (c : Command) → Tens (runs font w s line more c .session)
   run-tens (item it) = based-tens s it t
-  run-tens (Length l) = record { flags = t .flags; values = t .values }
-  run-tens (Width m) = record { flags = t .flags; values = t .values }
-  run-tens (Turn x) = record { flags = t .flags; values = t .values }
-  run-tens (Start n) = t
   run-tens End = t
-  run-tens (Retrieve n) = activated-tens s _
-  run-tens (EraseForm n) =
+  run-tens (Page (Length l)) = record { flags = t .flags; values = t .values }
+  run-tens (Page (Width m)) = record { flags = t .flags; values = t .values }
+  run-tens (Page (Turn x)) = record { flags = t .flags; values = t .values }
+  run-tens (Page White) = activated-tens s 65535
+  run-tens (Forms (Start n)) = t
+  run-tens (Forms (Retrieve n)) = activated-tens s _
+  run-tens (Forms (EraseForm n)) =
       picked-tens (n .all) _ _ (activated-tens s 65535) (picked-tens (eqb (s .active) (placeOf (named w false line n))) _ _ (activated-tens s 65535) t)
-  run-tens ListForms = t
-  run-tens (PrintForm n) = t
-  run-tens (Store p) = t
-  run-tens ListPictures = t
-  run-tens (ErasePicture n) = t
-  run-tens (SetVariable v) = t
-  run-tens (SetCounter c) =
+  run-tens (Pictures (Store p)) = t
+  run-tens (Pictures (ErasePicture n)) = t
+  run-tens (Values (EnterVariable v)) = t
+  run-tens (Values (EnterCounter c)) =
       let e = counter-ten (activeDeclared w s) (s .counters) (c .n) (c .value) in
       record { flags = e .0 ∙ t .flags; values = e .1 ∙ t .values }
-  run-tens Clear = t
-  run-tens (Print p) = record { flags = t .flags; values = t .values }
-  run-tens White = activated-tens s 65535
+  run-tens (Values Clear) = t
+  run-tens (Values (Print p)) = record { flags = t .flags; values = t .values }
+  run-tens (Listing c) = t
 
   record-tens : (i : ℕ) (c : Command) → Tens (records w s line i c .session)
   record-tens i (item it) = t
-  record-tens i (Length l) = t
-  record-tens i (Width m) = t
-  record-tens i (Turn x) = t
-  record-tens i (Start n) = t
   record-tens i End = t
-  record-tens i (Retrieve n) = t
-  record-tens i (EraseForm n) = t
-  record-tens i ListForms = t
-  record-tens i (PrintForm n) = t
-  record-tens i (Store p) = t
-  record-tens i ListPictures = t
-  record-tens i (ErasePicture n) = t
-  record-tens i (SetVariable v) = t
-  record-tens i (SetCounter c) = t
-  record-tens i Clear = t
-  record-tens i (Print p) = t
-  record-tens i White = t
+  record-tens i (Page c) = t
+  record-tens i (Forms c) = t
+  record-tens i (Pictures c) = t
+  record-tens i (Values c) = t
+  record-tens i (Listing c) = t
 
   placed-tens : (f : Found) (c : Command) → Tens (placed font w s line more c f .session)
   placed-tens (At i) c = record-tens i c
@@ -150,7 +124,7 @@ module _ (font : List ℕ) (w : World) (s : Session) (t : Tens s) where
   front-tens input (Idle k) = t
   front-tens input (Line n k) = line-tens font w s (lineOf input n) (moreOf input n k) t (readOf (rowsOf w) (lineOf input n))
 
-  settled-tens : (b : Bool) (x y : After) → Tens (x .outcome .session) → Tens (y .outcome .session) → Tens (settled b x y .outcome .session)
+  settled-tens : (b : Bool) (x y : After) → Tens (x .outcome .session) → Tens (y .outcome .session) → Tens (cond b x y .outcome .session)
   settled-tens true x y p q = p
   settled-tens false x y p q = q
 

@@ -1,7 +1,7 @@
 -- The name under which FS and GM store: a line that is read gives one that an entry may bear.
 -- Assumes nothing.
 use mathlib.Core.Path.{_≡_, refl, sym, ap, _∙_, subst}
-use mathlib.Core.Bool.{Bool, true, false, not, cond, _&&_, _||_, false≢true, and-false}
+use mathlib.Core.Bool.{Bool, true, false, not, cond, _&&_, _||_, true≢false, false≢true, and-false}
 use mathlib.Core.List.{List, [], _∷_}
 use mathlib.Core.Logic.{⊎-elim}
 use Prim.Native.Nat.{ℕ, zero, suc, _+_, _≤_, _<_}
@@ -13,8 +13,8 @@ use borrow.Author.Tests.{eq-eqb, eqb-true, leb-true, leb-false, le-leb, lt-leb, 
 use Rattle.kinds.specs.Bytes.{between}
 use Rattle.cells.specs.Count.{allTo}
 use Rattle.cells.specs.Scan.{lowest}
-use Rattle.cells.proofs.Counts.{same?, and-both, all-at, all-of}
-use Rattle.cells.proofs.Scan.{either, lowest-passes, lowest-first, lowest-most}
+use Rattle.cells.proofs.Counts.{all-at, all-of}
+use Rattle.cells.proofs.Scan.{lowest-passes, lowest-first, lowest-most}
 use Rattle.fields.specs.declared.Class.{Class}
 use Rattle.fields.specs.declared.Class.the-variants.{Named as NameByte}
 use Rattle.fields.specs.declared.Limits.{Limits}
@@ -24,35 +24,20 @@ use Rattle.fields.specs.Field.{runAt}
 use Rattle.moves.specs.Start.{nameEnd}
 use Rattle.store_sound.specs.Sound.{legalByte, nameByteOk}
 use Rattle.store_sound.specs.Shelf.{titleOk}
-use Rattle.read.specs.Grammar.{Got, good, bad, rowOf, boundsOf, headOf, fieldsFrom, limitsFrom, fieldLimits, firstOf, isNumber, beyond, spread, free, named}
-use Rattle.read.specs.Names.{capital, nameByte, packedOf}
-use Rattle.read.specs.Commands.{readOf, headed, judged, decided, commandOf, itemOf, orderOf, isItem}
-use Rattle.read.specs.declared.Head.{Head}
-use Rattle.read.specs.declared.Head.the-variants.{Row, Unknown}
+use Rattle.read.specs.Grammar.{Got, good, bad, rowOf, boundsOf, headOf, fieldsFrom, limitsFrom, fieldLimits, firstOf, isNumber, meets, spread, free, named}
+use Rattle.parts.specs.Names.{capital, nameByte, packedOf}
+use Rattle.read.specs.Commands.{readOf, headed, judged, decided, commandOf, itemOf, formOf, pictureOf, orderOf, isItem, isForm, isPicture, isValue, isListing, namedAt}
+use Rattle.grammar.specs.declared.Head.{Head}
+use Rattle.grammar.specs.declared.Head.the-variants.{Row, Unknown}
 use Rattle.read.specs.declared.Read.the-variants.{Taken as Reads}
 use Rattle.read.specs.declared.Named.{Named}
 use Rattle.read.specs.declared.StorePicture.{StorePicture}
 use Rattle.read.specs.declared.Command.{Command}
-use Rattle.read.specs.declared.Command.the-variants.{
-  Item as item,
-  Length,
-  Width,
-  Turn,
-  Start,
-  End,
-  Retrieve,
-  EraseForm,
-  ListForms,
-  PrintForm,
-  Store,
-  ListPictures,
-  ErasePicture,
-  SetVariable,
-  SetCounter,
-  Clear,
-  Print,
-  White,
-}
+use Rattle.read.specs.declared.Command.the-variants.{Item as item, End, Page, Forms, Pictures, Values, Listing}
+use Rattle.read.specs.declared.FormCommand.{FormCommand}
+use Rattle.read.specs.declared.FormCommand.the-variants.{Start, Retrieve, Erase as EraseForm}
+use Rattle.read.specs.declared.PictureCommand.the-variants.{Store, Erase as ErasePicture}
+use Rattle.ground.proofs.Tests.{same?, and-both, either}
 
 -- ---- a name in capitals is a title
 
@@ -159,7 +144,7 @@ pub record Parted (rows : ℕ) (s : List ℕ) (c : Command) : Type 0 where
 
 pub line-parted : (rows : ℕ) (s : List ℕ) (c : Command) → readOf rows s ≡ Reads c → Parted rows s c
 unfolding readOf headed judged
-line-parted rows s c h = go (headOf (getD s 0 0) (getD s 1 0)) h
+line-parted rows s c h = go (headOf s) h
   where
     within : (row : ℕ) (vs ps : List ℕ) (l : Limits) → limitsFrom (rowOf row .fields) (boundsOf row rows) s 0 vs ps ≡ l
         → decided l (commandOf row s vs ps) ≡ Reads c → Parted rows s c
@@ -168,7 +153,7 @@ line-parted rows s c h = go (headOf (getD s 0 0) (getD s 1 0)) h
 
     fields : (row : ℕ) (g : Got) → judged row rows s g ≡ Reads c → Parted rows s c
     fields row (good vs ps) d = within row vs ps (limitsFrom (rowOf row .fields) (boundsOf row rows) s 0 vs ps) refl d
-    fields row (bad p) d = absurd (let z : _≡_ {A = ℕ} 0 1 = cc in omega arith)
+    fields row (bad vs ps p) d = absurd (let z : _≡_ {A = ℕ} 0 1 = cc in omega arith)
 
     go : (x : Head) → headed x rows s ≡ Reads c → Parted rows s c
     go (Row row) d = fields row (fieldsFrom (rowOf row .fields) s 0) d
@@ -177,51 +162,47 @@ line-parted rows s c h = go (headOf (getD s 0 0) (getD s 1 0)) h
 -- what a command says of the row that it is read by: an item is the row's, and of FS and GM the third field is the name
 unfoldable pub ReadBy : ℕ → List ℕ → List ℕ → Command → Type 0
 ReadBy row vs ps (item i) = (isItem row ≡ true) × (itemOf row vs ps ≡ i)
-ReadBy row vs ps (Length l) = Unit {0}
-ReadBy row vs ps (Width m) = Unit {0}
-ReadBy row vs ps (Turn t) = Unit {0}
-ReadBy row vs ps (Start n) = (row ≡ 12) × ((n .at ≡ getD ps 2 0) × (n .length ≡ getD vs 2 0))
 ReadBy row vs ps End = Unit {0}
-ReadBy row vs ps (Retrieve n) = Unit {0}
-ReadBy row vs ps (EraseForm n) = Unit {0}
-ReadBy row vs ps ListForms = Unit {0}
-ReadBy row vs ps (PrintForm n) = Unit {0}
-ReadBy row vs ps (Store p) = (row ≡ 20) × ((p .at ≡ getD ps 2 0) × (p .length ≡ getD vs 2 0))
-ReadBy row vs ps ListPictures = Unit {0}
-ReadBy row vs ps (ErasePicture n) = Unit {0}
-ReadBy row vs ps (SetVariable v) = Unit {0}
-ReadBy row vs ps (SetCounter c) = Unit {0}
-ReadBy row vs ps Clear = Unit {0}
-ReadBy row vs ps (Print p) = Unit {0}
-ReadBy row vs ps White = Unit {0}
+ReadBy row vs ps (Page c) = Unit {0}
+ReadBy row vs ps (Forms (Start n)) = (row ≡ 12) × ((n .at ≡ getD ps 2 0) × (n .length ≡ getD vs 2 0))
+ReadBy row vs ps (Forms (Retrieve n)) = Unit {0}
+ReadBy row vs ps (Forms (EraseForm n)) = Unit {0}
+ReadBy row vs ps (Pictures (Store p)) = (row ≡ 20) × ((p .at ≡ getD ps 2 0) × (p .length ≡ getD vs 2 0))
+ReadBy row vs ps (Pictures (ErasePicture n)) = Unit {0}
+ReadBy row vs ps (Values c) = Unit {0}
+ReadBy row vs ps (Listing c) = Unit {0}
 
 pub choice : {A : Type 0} (q : A → Type 0) (b : Bool) (x y : A) → (b ≡ true → q x) → q y → q (cond b x y)
 choice q true x y f g = f refl
 choice q false x y f g = g
 
+either-row : (a b : Bool) → (a || b) ≡ true → a ≡ false → b ≡ true
+either-row true b h n = absurd (true≢false n)
+either-row false b h n = h
+
 pub read-by : (row : ℕ) (s vs ps : List ℕ) → ReadBy row vs ps (commandOf row s vs ps)
-unfolding ReadBy orderOf
+unfolding ReadBy orderOf formOf pictureOf
 read-by row s vs ps =
     let q : (Command → Type 0) = ReadBy row vs ps in
     choice q (isItem row) _ _ (λ e. (e, refl))
-    (choice q (eqb row 0) _ _ (λ e. tt)
-    (choice q (eqb row 1) _ _ (λ e. tt)
-    (choice q (eqb row 3) _ _ (λ e. tt)
-    (choice q (eqb row 4) _ _ (λ e. tt)
-    (choice q (eqb row 12) _ _ (λ e. (eqb-true row 12 e, (refl, refl)))
     (choice q (eqb row 13) _ _ (λ e. tt)
-    (choice q (eqb row 14) _ _ (λ e. tt)
-    (choice q (eqb row 15) _ _ (λ e. tt)
-    (choice q (eqb row 16) _ _ (λ e. tt)
-    (choice q (eqb row 17) _ _ (λ e. tt)
-    (choice q (eqb row 18) _ _ (λ e. tt)
-    (choice q (eqb row 19) _ _ (λ e. tt)
-    (choice q (eqb row 20) _ _ (λ e. (eqb-true row 20 e, (refl, refl)))
-    (choice q (eqb row 21) _ _ (λ e. tt)
-    (choice q (eqb row 24) _ _ (λ e. tt)
-    (choice q (eqb row 25) _ _ (λ e. tt)
-    (choice q (eqb row 26) _ _ (λ e. tt)
-    tt)))))))))))))))))
+    (choice q (isValue row) _ _ (λ e. tt)
+    (choice q (isForm row) _ _ (λ e. form)
+    (choice q (isPicture row) _ _ (λ e. picture (eqb row 16) refl e)
+    (choice q (isListing row) _ _ (λ e. tt)
+    tt)))))
+  where
+    n : Named
+    n = namedAt s vs ps 2
+
+    form : ReadBy row vs ps (Forms (formOf row n))
+    form =
+        choice (λ (c : FormCommand). ReadBy row vs ps (Forms c)) (eqb row 12) _ _ (λ e. (eqb-true row 12 e, (refl, refl)))
+        (choice (λ (c : FormCommand). ReadBy row vs ps (Forms c)) (eqb row 14) _ _ (λ e. tt) tt)
+
+    picture : (b : Bool) → eqb row 16 ≡ b → isPicture row ≡ true → ReadBy row vs ps (Pictures (pictureOf row n (getD vs 4 0)))
+    picture true e h = rw e tt
+    picture false e h = rw e (eqb-true row 20 (either-row (eqb row 16) (eqb row 20) h e), (refl, refl))
 
 -- ---- its name is within its limits
 
@@ -241,7 +222,7 @@ pub record Name (s : List ℕ) (p n : ℕ) : Type 0 where
   pub bytes : runAt NameByte s (p + 1) ≡ n
 
 name-field : (s : List ℕ) (u v p : ℕ) → fieldLimits 97 (1, 8) s u v p ≡ Within → Name s p v
-unfolding fieldLimits beyond between
+unfolding fieldLimits meets between
 name-field s u v p h = go (leb 1 v) (leb v 8) (named s p v) refl refl refl h
   where
     go : (a b c : Bool) → leb 1 v ≡ a → leb v 8 ≡ b → named s p v ≡ c → cond ((a && b) && c) Within (Outside p) ≡ Within → Name s p v
@@ -285,20 +266,20 @@ store-name rows s vs ps h = third-name 71 77 (44 ∷ (110 ∷ [])) (boundsOf 20 
 name-title : (s : List ℕ) (p n p′ n′ : ℕ) → p′ ≡ p → n′ ≡ n → Name s p n → titleOk (packedOf s p′ n′) ≡ true
 name-title s p n p′ n′ e f a = rw (e, f) (title-legal s p n (a .some) (a .few) (a .bytes))
 
-pub start-title : (rows : ℕ) (s : List ℕ) (n : Named) → readOf rows s ≡ Reads (Start n) → titleOk (packedOf s (n .at) (n .length)) ≡ true
+pub start-title : (rows : ℕ) (s : List ℕ) (n : Named) → readOf rows s ≡ Reads (Forms (Start n)) → titleOk (packedOf s (n .at) (n .length)) ≡ true
 unfolding ReadBy
 start-title rows s n h =
-    let p = line-parted rows s (Start n) h in
+    let p = line-parted rows s (Forms (Start n)) h in
     let t : (p .row ≡ 12) × ((n .at ≡ getD (p .ps) 2 0) × (n .length ≡ getD (p .vs) 2 0)) =
     subst (ReadBy (p .row) (p .vs) (p .ps)) (p .command) (read-by (p .row) s (p .vs) (p .ps)) in
     name-title s (getD (p .ps) 2 0) (getD (p .vs) 2 0) (n .at) (n .length) (t .1 .0) (t .1 .1)
     (start-name rows s (p .vs) (p .ps)
     (subst (λ (k : ℕ). limitsFrom (rowOf k .fields) (boundsOf k rows) s 0 (p .vs) (p .ps) ≡ Within) (t .0) (p .within)))
 
-pub store-title : (rows : ℕ) (s : List ℕ) (x : StorePicture) → readOf rows s ≡ Reads (Store x) → titleOk (packedOf s (x .at) (x .length)) ≡ true
+pub store-title : (rows : ℕ) (s : List ℕ) (x : StorePicture) → readOf rows s ≡ Reads (Pictures (Store x)) → titleOk (packedOf s (x .at) (x .length)) ≡ true
 unfolding ReadBy
 store-title rows s x h =
-    let p = line-parted rows s (Store x) h in
+    let p = line-parted rows s (Pictures (Store x)) h in
     let t : (p .row ≡ 20) × ((x .at ≡ getD (p .ps) 2 0) × (x .length ≡ getD (p .vs) 2 0)) =
     subst (ReadBy (p .row) (p .vs) (p .ps)) (p .command) (read-by (p .row) s (p .vs) (p .ps)) in
     name-title s (getD (p .ps) 2 0) (getD (p .vs) 2 0) (x .at) (x .length) (t .1 .0) (t .1 .1)

@@ -4,7 +4,7 @@
 use mathlib.Core.Path.{_≡_, refl, sym, ap, _∙_}
 use mathlib.Core.Bool.{Bool, true, false, not, _||_, cond, true≢false}
 use mathlib.Core.List.{List}
-use Prim.Native.Nat.{ℕ, _+_, _*_, _<_}
+use Prim.Native.Nat.{ℕ, _+_, _*_, _≤_, _<_}
 use native.Mathlib.Omega.{arith}
 use lib.ListN.{length, length-replicate}
 use lib.Dec.{eqb}
@@ -13,7 +13,6 @@ use borrow.Author.Tests.{le-leb, not-false}
 use Rattle.cells.specs.Cell.{zeros}
 use Rattle.cells.proofs.Cells.{length-zeros}
 use Rattle.cells.proofs.Scan.{lowest-passes, lowest-before}
-use Rattle.kinds.proofs.Laws.{or-second}
 use Rattle.store.specs.declared.Found.{Found}
 use Rattle.store.specs.declared.Found.the-variants.{At, Nothing}
 use Rattle.store.specs.Entry.{entries, entry, kind, ofKind}
@@ -30,27 +29,37 @@ use Rattle.read.specs.declared.Named.{Named}
 use Rattle.read.specs.declared.SetVariable.{SetVariable as VariableOf}
 use Rattle.read.specs.declared.SetCounter.{SetCounter as CounterOf}
 use Rattle.read.specs.declared.Print.{Print as PrintOf}
-use Rattle.read.specs.declared.Command.the-variants.{Retrieve, ListForms, PrintForm, ListPictures, SetVariable, SetCounter, Clear, Print, White}
+use Rattle.read.specs.declared.Command.the-variants.{Page, Forms, Values, Listing}
+use Rattle.read.specs.declared.PageCommand.the-variants.{White}
+use Rattle.read.specs.declared.FormCommand.the-variants.{Retrieve}
+use Rattle.read.specs.declared.ValueCommand.the-variants.{Variable as EnterVariable, Counter as EnterCounter, Clear, Print}
+use Rattle.read.specs.declared.ListingCommand.the-variants.{Forms as ListForms, Pictures as ListPictures, Form as ListForm}
 use Rattle.read.specs.declared.Read.the-variants.{Taken as Reads}
 use Rattle.read.specs.Commands.{readOf}
-use Rattle.read.specs.Names.{packedOf}
+use Rattle.parts.specs.Names.{packedOf}
 use Rattle.forms.specs.Form.{declaredOf, picturesStored}
 use Rattle.sound.specs.Sound.{numbersOk, activeOk, owedOk}
 use Rattle.session.specs.declared.Session.{Session}
-use Rattle.session.specs.declared.answers.Answer.the-variants.{Taken, Missing, Unset}
+use Rattle.session.specs.declared.answers.Answer.the-variants.{Taken, Misplaced, Missing, Unset}
 use Rattle.session.specs.Answers.{numberOf, isTaken, answerOf}
 use Rattle.session.specs.Session.{blank, activated, counting, owing}
 use Rattle.session.specs.Lent.{World, rowsOf}
-use Rattle.commands.specs.World.{memoryOf, withValues, activeOf, activeDeclared, placeOf}
-use Rattle.commands.specs.Rows.{named, textOf, runRows}
-use Rattle.commands.specs.Does.{whitened, runs}
+use Rattle.session.specs.Active.{activeOf, activeDeclared}
+use Rattle.results.specs.World.{memoryOf, withValues}
+use Rattle.results.specs.Result.{sixteenBits}
+use Rattle.results.specs.Named.{placeOf, named}
+use Rattle.results.proofs.Lengths.{directory-long}
+use Rattle.page_commands.specs.Page.{whitened}
+use Rattle.value_commands.specs.Values.{textOf}
+use Rattle.commands.specs.Rows.{runRows}
+use Rattle.commands.specs.Does.{runs}
+use Rattle.ground.proofs.Tests.{or-second}
 use Rattle.keeps_sound.specs.Good.{Good}
 use Rattle.keeps_sound.specs.Tens.{Tens}
 use Rattle.keeps_sound.proofs.Layers.{first-of}
 use Rattle.keeps_sound.proofs.Facts.{lent-facts, numbers-facts}
 use Rattle.keeps_sound.proofs.Stored.{Active, activity-facts, facts-activity, owed-none, good-ended}
 use Rattle.keeps_sound.proofs.Tables.{clear}
-use Rattle.keeps_sound.proofs.Limits.{Ranged, read-ranges}
 use Rattle.keeps_sound.proofs.Opening.{white-zeros}
 use Rattle.keeps_sound.proofs.Numbers.{background-good}
 
@@ -88,7 +97,7 @@ or-other : (a b : Bool) → (a || b) ≡ true → b ≡ false → a ≡ true
 or-other true b e z = refl
 or-other false b e z = absurd (true≢false (sym e ∙ z))
 
-module _ (directory name : List ℕ) (quiet : recorded directory ≡ Nothing) where
+module _ (directory name : List ℕ) (long : length directory ≤ 8192) (quiet : recorded directory ≡ Nothing) where
   not-recording : (i : ℕ) → i < entries directory → isRecording directory i ≡ false
   not-recording i h =
       lowest-before (isRecording directory) (entries directory) i (omega (arith, nothing-says (isRecording directory) (entries directory) quiet))
@@ -103,7 +112,9 @@ module _ (directory name : List ℕ) (quiet : recorded directory ≡ Nothing) wh
       let a = at-says (titled directory false name) (entries directory) i e in
       let t : titled directory false name i ≡ true =
       ap (titled directory false name) (sym (a .0)) ∙ lowest-passes (titled directory false name) (entries directory) (omega (arith, a .0, a .1)) in
-      or-second (eqb i 65535) _ (or-other (eqb (kind (entry directory i)) 1) (eqb (kind (entry directory i)) 3) (titled-form i t) (not-recording i (a .1)))
+      let small : sixteenBits i ≡ i = omega (arith, a .1, long) in
+      rw small
+      (or-second (eqb i 65535) _ (or-other (eqb (kind (entry directory i)) 1) (eqb (kind (entry directory i)) 3) (titled-form i t) (not-recording i (a .1))))
   found-active Nothing e = refl
 
   pub found-form : activeOk directory (placeOf (titledAt directory false name)) ≡ true
@@ -129,12 +140,12 @@ module _ (font : List ℕ) (w : World) (s : Session) (line more : List ℕ) (g :
 
   -- FR: "FR unsets all values"
   pub keeps-retrieve : (n : Named) → recorded (w .directory) ≡ Nothing → s .owed ≡ 0
-      → Good (runs font w s line more (Retrieve n) .session) (runs font w s line more (Retrieve n) .world)
+      → Good (runs font w s line more (Forms (Retrieve n)) .session) (runs font w s line more (Forms (Retrieve n)) .world)
   unfolding numbersOk
   keeps-retrieve n quiet none =
       let s′ = activated s (placeOf (named w false line n)) in
       values-good s′ (unset (w .values)) (length-unset (w .values)) (g .numbers) refl refl (record {
-        form = found-form (w .directory) (packedOf line (n .at) (n .length)) quiet;
+        form = found-form (w .directory) (packedOf line (n .at) (n .length)) (directory-long w (g .lengths)) quiet;
         fit = unset-blank (activeDeclared w s′) (w .values);
         counts = was .counts;
         owed = owed-none s′ (w .directory) (activeOf w s′) (unset (w .values)) none;
@@ -142,7 +153,7 @@ module _ (font : List ℕ) (w : World) (s : Session) (line more : List ℕ) (g :
 
   -- ?V
   pub keeps-variable : (v : VariableOf) → s .owed ≡ 0
-      → Good (runs font w s line more (SetVariable v) .session) (runs font w s line more (SetVariable v) .world)
+      → Good (runs font w s line more (Values (EnterVariable v)) .session) (runs font w s line more (Values (EnterVariable v)) .world)
   keeps-variable v none =
       let d = activeDeclared w s in
       let text = textOf line (v .at) (v .length) in
@@ -155,7 +166,7 @@ module _ (font : List ℕ) (w : World) (s : Session) (line more : List ℕ) (g :
 
   -- ?C
   pub keeps-counter : (c : CounterOf) → s .owed ≡ 0 → Tens s
-      → Good (runs font w s line more (SetCounter c) .session) (runs font w s line more (SetCounter c) .world)
+      → Good (runs font w s line more (Values (EnterCounter c)) .session) (runs font w s line more (Values (EnterCounter c)) .world)
   unfolding numbersOk
   keeps-counter c none t =
       let d = activeDeclared w s in
@@ -168,7 +179,7 @@ module _ (font : List ℕ) (w : World) (s : Session) (line more : List ℕ) (g :
       })
 
   -- VC
-  pub keeps-clear : s .owed ≡ 0 → Good (runs font w s line more Clear .session) (runs font w s line more Clear .world)
+  pub keeps-clear : s .owed ≡ 0 → Good (runs font w s line more (Values Clear) .session) (runs font w s line more (Values Clear) .world)
   keeps-clear none =
       values-good s (unset (w .values)) (length-unset (w .values)) (g .numbers) refl refl (record {
         form = was .form;
@@ -178,41 +189,40 @@ module _ (font : List ℕ) (w : World) (s : Session) (line more : List ℕ) (g :
       })
 
   -- P: its pictures are stored [11] and all declared values set [18]
-  print-owed : (room : ℕ) (p : PrintOf) → recorded (w .directory) ≡ Nothing → answerOf (runRows w s line more room (Print p)) ≡ Taken
-      → owedOk (p .k) (w .directory) (activeOf w s) (w .values) (s .counters) ≡ true
+  print-owed : (room : ℕ) (p : PrintOf) → recorded (w .directory) ≡ Nothing → answerOf (runRows w s line more room (Values (Print p))) ≡ Taken
+      → owedOk (sixteenBits (p .k)) (w .directory) (activeOf w s) (w .values) (s .counters) ≡ true
   unfolding isTaken numberOf
   print-owed room p quiet e =
-      let a = clear Missing (not (picturesStored (w .directory) (activeOf w s))) _ refl e in
+      let a = clear Missing (not (picturesStored (w .directory) (activeOf w s))) _ refl (clear Misplaced _ _ refl e .1) in
       let b = clear Unset (not (allSet (activeDeclared w s) (w .values) (s .counters))) _ refl (a .1) in
-      some-owed (p .k) (w .directory) (activeOf w s) (w .values) (s .counters) quiet (not-false _ (b .0)) (not-false _ (a .0))
+      some-owed (sixteenBits (p .k)) (w .directory) (activeOf w s) (w .values) (s .counters) quiet (not-false _ (b .0)) (not-false _ (a .0))
 
-  pub keeps-print : (room : ℕ) (p : PrintOf) → recorded (w .directory) ≡ Nothing → readOf (rowsOf w) line ≡ Reads (Print p)
-      → answerOf (runRows w s line more room (Print p)) ≡ Taken
-      → Good (runs font w s line more (Print p) .session) (runs font w s line more (Print p) .world)
+  pub keeps-print : (room : ℕ) (p : PrintOf) → recorded (w .directory) ≡ Nothing → readOf (rowsOf w) line ≡ Reads (Values (Print p))
+      → answerOf (runRows w s line more room (Values (Print p))) ≡ Taken
+      → Good (runs font w s line more (Values (Print p)) .session) (runs font w s line more (Values (Print p)) .world)
   unfolding numbersOk
   keeps-print room p quiet reads e =
-      let r : Ranged (1, 65535) (p .k) = read-ranges (rowsOf w) line (Print p) reads in
-      values-good (owing s (p .k)) (w .values) refl (g .numbers) refl refl (record {
+      values-good (owing s (sixteenBits (p .k))) (w .values) refl (g .numbers) refl refl (record {
         form = was .form;
         fit = was .fit;
-        counts = le-leb (p .k + 0) 65535 (omega (arith, r .1));
+        counts = le-leb (sixteenBits (p .k) + 0) 65535 (omega arith);
         owed = print-owed room p quiet e;
       })
 
   -- FI, GI and FP change nothing
-  pub keeps-listing : Good (runs font w s line more ListForms .session) (runs font w s line more ListForms .world)
+  pub keeps-listing : Good (runs font w s line more (Listing ListForms) .session) (runs font w s line more (Listing ListForms) .world)
   keeps-listing = g
 
-  pub keeps-pictures : Good (runs font w s line more ListPictures .session) (runs font w s line more ListPictures .world)
+  pub keeps-pictures : Good (runs font w s line more (Listing ListPictures) .session) (runs font w s line more (Listing ListPictures) .world)
   keeps-pictures = g
 
-  pub keeps-printed : (n : Named) → Good (runs font w s line more (PrintForm n) .session) (runs font w s line more (PrintForm n) .world)
+  pub keeps-printed : (n : Named) → Good (runs font w s line more (Listing (ListForm n)) .session) (runs font w s line more (Listing (ListForm n)) .world)
   keeps-printed n = g
 
 -- N: "Both whiten the background, as does `N`", and activity ends
 pub keeps-white :
     (font : List ℕ) (w : World) (s : Session) (line more : List ℕ) → Good s w → s .owed ≡ 0 →
-    Good (runs font w s line more White .session) (runs font w s line more White .world)
+    Good (runs font w s line more (Page White) .session) (runs font w s line more (Page White) .world)
 keeps-white font w s line more g none =
     let white =
     background-good s s w (zeros (length (w .background))) g (length-zeros (length (w .background))) (numbers-facts (rowsOf w) s (g .numbers))

@@ -1,8 +1,8 @@
--- Calls one after another: each is given the session that the call before it answered, and the lent memory as that call left it.
+-- What the demands speak of: calls one after another, each given the session that the call before it answered, and the lent memory as that call left it.
 -- Assumes nothing.
 use mathlib.Core.List.{List, [], _∷_}
 use Prim.Native.Nat.{ℕ}
-use Rattle.commands.specs.World.{State, state}
+use Rattle.results.specs.World.{State, state}
 use Rattle.station.specs.Station.{opened, commanded, labelledBy}
 use Rattle.session.specs.Lent.{World}
 

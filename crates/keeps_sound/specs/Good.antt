@@ -1,4 +1,4 @@
--- Sound lent memory of right lengths, layer by layer.
+-- Serves the proofs alone: sound lent memory of right lengths, layer by layer, as each call is shown to keep it.
 -- Assumes nothing.
 use mathlib.Core.Path.{_≡_}
 use mathlib.Core.Bool.{true, false}

@@ -1,4 +1,4 @@
--- A session's counters are ten flags and ten values, as every session that a call is given or gives.
+-- Serves the proofs alone: a session's counters are ten flags and ten values, as in every session that a call is given or gives.
 -- Assumes nothing.
 use mathlib.Core.Path.{_≡_}
 use lib.ListN.{length}

@@ -1,5 +1,5 @@
 -- Laws of `between`, `allIn`, `inClass` and `fit`.
-use mathlib.Core.Path.{_≡_, refl}
+use mathlib.Core.Path.{_≡_}
 use mathlib.Core.Bool.{Bool, true, false, _||_}
 use mathlib.Core.List.{List}
 use Prim.Native.Nat.{ℕ, _+_, _≤_, _<_}
@@ -8,6 +8,7 @@ use lib.ListN.{length, getD, drop, drop-of-length-le}
 use lib.Seq.{drop-cons}
 use lib.Dec.{leb, eqb}
 use borrow.Author.Tests.{le-leb, lt-leb}
+use Rattle.ground.proofs.Tests.{or-first, or-second}
 use Rattle.kinds.specs.declared.Kind.{Kind}
 use Rattle.kinds.specs.declared.Kind.the-variants.{Code39}
 use Rattle.kinds.specs.Bytes.{between, isDigit, allIn}
@@ -33,15 +34,6 @@ all-stop q s i h e = rw (drop-cons s i 0 h, e)
 
 pub all-end : (q : ℕ → Bool) (s : List ℕ) (i : ℕ) → length s ≤ i → allIn q (drop i s) ≡ true
 all-end q s i h = rw (drop-of-length-le s h)
-
--- ---- `||`
-
-pub or-first : (x y : Bool) → x ≡ true → (x || y) ≡ true
-or-first x y e = rw e
-
-pub or-second : (x y : Bool) → y ≡ true → (x || y) ≡ true
-or-second true y e = refl
-or-second false y e = e
 
 -- ---- `inClass`
 

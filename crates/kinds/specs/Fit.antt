@@ -9,8 +9,8 @@ use Rattle.kinds.specs.declared.Kind.{Kind}
 use Rattle.kinds.specs.declared.Kind.the-variants.{Shown, Code39, Interleaved, Ean13, Code128}
 use Rattle.kinds.specs.Bytes.{between, isDigit, allIn}
 
--- "type 3, one or more of 0-9 A-Z - . space $ / + %; type 2, an even number of digits; type E30, 12 digits; type 1, at least one
--- byte": which bytes. What stands in quotes or in a value is 32 to 126, and type 1 takes no other
+-- "type 3, one or more of 0-9 A-Z - . space $ / + %; type 2, an even number of digits, at least 2; type E30, 12 digits; type 1, at
+-- least one byte": which bytes. What stands in quotes or in a value is 32 to 126, and type 1 takes no other
 unfoldable pub inClass : Kind → ℕ → Bool
 inClass Shown b = true
 inClass Code39 b =
@@ -19,13 +19,17 @@ inClass Interleaved b = isDigit b
 inClass Ean13 b = isDigit b
 inClass Code128 b = between 32 126 b
 
--- "at most 128 bytes"; one or more; an even number, at least 2; 12; at least one byte: how many
+-- "at most 128 bytes"
+abbrev pub mostData : ℕ
+mostData = 128
+
+-- at most so many; one or more; an even number, at least 2; 12; at least one byte: how many
 unfoldable pub fitLength : Kind → ℕ → Bool
-fitLength Shown n = leb n 128
-fitLength Code39 n = leb 1 n && leb n 128
-fitLength Interleaved n = leb 2 n && (leb n 128 && eqb (n % 2) 0)
+fitLength Shown n = leb n mostData
+fitLength Code39 n = leb 1 n && leb n mostData
+fitLength Interleaved n = leb 2 n && (leb n mostData && eqb (n % 2) 0)
 fitLength Ean13 n = eqb n 12
-fitLength Code128 n = leb 1 n && leb n 128
+fitLength Code128 n = leb 1 n && leb n mostData
 
 -- bytes that are fit for a kind
 unfoldable pub fit : Kind → List ℕ → Bool

@@ -2,12 +2,15 @@
 //
 // Paper 01 says under "Fit data" how many bytes a text or a bar symbol takes, and which. This crate has that paragraph for
 // bytes that are known: `fits` answers true exactly when the definition `fit` (specs/Fit.antt) holds. What becomes of data with
-// variables and counters in it stands in crate `values`, and the bars themselves in crate `bars`.
+// variables and counters in it stands in crate `fitness`, and the bars themselves in crate `bars`.
 ghost use mathlib.Core.Path.{_≡_};
 ghost use mathlib.Core.Bool.{_&&_};
 ghost use lib.ListN.{length};
 ghost use Rattle.kinds.specs.Bytes.{between, allIn};
 ghost use Rattle.kinds.specs.Fit.{inClass, fitLength, fit};
+
+// "at most 128 bytes".
+pub const MOST_DATA: usize = 128;
 
 // What the data is for: text that is shown (A), or bars of type 3, 2, E30 or 1 (B).
 pub enum Kind {
@@ -83,7 +86,7 @@ fn some(n: usize) -> bool
     if n < 1 {
         return false;
     }
-    n <= 128
+    n <= MOST_DATA
 }
 
 fn pairs(n: usize) -> bool
@@ -92,7 +95,7 @@ fn pairs(n: usize) -> bool
     if n < 2 {
         return false;
     }
-    if 128 < n {
+    if MOST_DATA < n {
         return false;
     }
     n % 2 == 0
@@ -103,7 +106,7 @@ pub fn fit_length(k: Kind, n: usize) -> bool
     ensures { λ r. ⌜ r ≡ fitLength k n ⌝ }
 {
     match k {
-        Kind::Shown => n <= 128,
+        Kind::Shown => n <= MOST_DATA,
         Kind::Code39 => some(n),
         Kind::Interleaved => pairs(n),
         Kind::Ean13 => n == 12,

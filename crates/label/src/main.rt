@@ -2,11 +2,25 @@
 //
 // Paper 01, "Sample session": each call's number and answer are written, then the listing that the call gave, then a line for each label that it owes,
 // with the black dots of its page. All that matters is in crate `station`; the sample session stands in `stdin`, and what it must give in `stdout`.
+ghost use Prim.Native.Nat.{_≤_};
+use dots::BYTES_A_ROW;
 use libc::STDIN_FILENO;
 use libc::STDOUT_FILENO;
 use session::Answer;
+use session::BYTES_OF_VALUES;
 use session::Session;
 use station::Outcome;
+
+// "240 rows, 64 portions, 8 entries, input 8,192 bytes": a page of 76 bytes a row, a store of 256 bytes a portion, a directory of 16 an entry.
+const PAGE: usize = 240 * BYTES_A_ROW;
+
+const PORTIONS: usize = 64;
+
+const STORE: usize = PORTIONS * 256;
+
+const DIRECTORY: usize = 8 * 16;
+
+const INPUT: usize = 8192;
 
 // Cells of 8 by 8 dots, and no glyph.
 const FONT: [u8; 8] = *b"\x01\x02\x00\x08\x08\xff\x00\x00";
@@ -19,15 +33,18 @@ fn say_number(n: usize) {
     io::print_decimal(STDOUT_FILENO, n as u64);
 }
 
-// `line K: A`, and the listing as it is.
-fn say_answer(k: usize, answer: Answer, output: &[u8], written: usize) {
+// `line K: A`, and the listing as it is; "silent if no bytes remain".
+fn say_answer(k: usize, unread: usize, answer: Answer, output: &[u8], written: usize) {
+    if unread == 0 {
+        return;
+    }
     let number = session::answers::number(answer);
     say(b"line ");
     say_number(k);
     say(b": ");
     say_number(number as usize);
     say(b"\n");
-    say(read::input::first(output, written));
+    say(parts::first(output, written));
 }
 
 // `label I black D`
@@ -61,7 +78,7 @@ fn labels(
     s
 }
 
-// One call on the unread rest of the input, "silent if no bytes remain", with the labels that it owes.
+// One call on the unread rest of the input, and the labels that it owes.
 fn call(
     k: usize,
     session: Session,
@@ -85,13 +102,10 @@ fn call(
         output,
         unread,
     );
-    if unread.len() == 0 {
-        return o;
-    }
     let answer = o.answer;
     let written = o.written;
     let after = o.session;
-    say_answer(k, answer, output, written);
+    say_answer(k, unread.len(), answer, output, written);
     let drawn = labels(after, page, background, store, links, directory, values);
     Outcome {
         answer: answer,
@@ -99,6 +113,16 @@ fn call(
         read: o.read,
         written: written,
     }
+}
+
+// How many calls there may be: no more, once one has read nothing.
+fn calls_in(most: usize, read: usize) -> usize
+    ensures { λ r. ⌜ r ≤ most ⌝ }
+{
+    if read == 0 {
+        return 0;
+    }
+    most
 }
 
 // Calls up to the one that reads nothing. Every other reads a byte or more, so that there are no more of them than bytes.
@@ -114,11 +138,11 @@ fn calls(
     input: &[u8],
 ) {
     let mut s = opened;
-    let mut at: usize = 0;
+    let mut unread = input;
+    let mut most = input.len();
     let mut k: usize = 0;
-    while k < input.len() {
+    while k < most {
         k += 1;
-        let unread = station::rest(input, at);
         let o = call(
             k,
             s,
@@ -132,23 +156,22 @@ fn calls(
             unread,
         );
         s = o.session;
-        let read = o.read;
-        if read == 0 {
-            return;
-        }
-        at = dots::capped_sum(at, read);
+        most = calls_in(most, o.read);
+        let answer = o.answer;
+        let rest = station::rest(unread, answer);
+        unread = rest;
     }
 }
 
 fn main() {
-    let mut page = [0u8; 18240];
-    let mut background = [0u8; 18240];
-    let mut store = [0u8; 16384];
-    let mut links = [0u16; 64];
-    let mut directory = [0u8; 128];
-    let mut values = [0u8; 340];
-    let mut output = [0u8; 16384];
-    let mut input = [0u8; 8192];
+    let mut page = [0u8; PAGE];
+    let mut background = [0u8; PAGE];
+    let mut store = [0u8; STORE];
+    let mut links = [0u16; PORTIONS];
+    let mut directory = [0u8; DIRECTORY];
+    let mut values = [0u8; BYTES_OF_VALUES];
+    let mut output = [0u8; STORE];
+    let mut input = [0u8; INPUT];
     let n = io::read_full(STDIN_FILENO, &mut input);
     let opened = station::open(
         &mut page,

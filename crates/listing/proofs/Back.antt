@@ -14,8 +14,7 @@ use Rattle.store.specs.Entry.{nameLength, name, size}
 use Rattle.normal.specs.Written.{decimal}
 use Rattle.normal.proofs.Back.{allIn, number-back, byte-back, text-back}
 use Rattle.listing.specs.Listing.{listingLine}
-use Rattle.read.specs.Reading.{listedAt}
-use Rattle.read.specs.declared.reader.Listed.the-variants.{Entry}
+use Rattle.listing.specs.Back.{listedAt, Entry}
 
 -- size, comma, quoted name behind pre and before rest
 back : (pre rest : List ℕ) (n : ℕ) (t : List ℕ) → n < 1000000000 → T (allIn Quoted t)

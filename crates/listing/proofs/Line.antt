@@ -1,30 +1,20 @@
 -- A line put together from its parts.
 use mathlib.Core.Path.{_≡_, refl, sym, ap, _∙_}
-use mathlib.Core.List.{List, [], _∷_, _++_}
-use Prim.Native.Nat.{ℕ, suc, _+_, _*_, _≤_, min}
+use mathlib.Core.List.{List, [], _∷_}
+use Prim.Native.Nat.{ℕ, suc, _+_, _≤_, min}
 use native.Mathlib.Omega.{arith}
-use lib.ListN.{length, getD, set, take, length-take, length-append}
+use lib.ListN.{length, set, take, length-take, length-append}
 use lib.Seq.{sets}
-use Rattle.cells.proofs.Cells.{cell-at}
 use Rattle.cells.proofs.Sets.{sets-front}
-use Rattle.store.specs.Entry.{entry, nameLength, name, size}
+use Rattle.store.specs.Entry.{nameLength, name, size}
 use Rattle.normal.specs.Written.{decimal}
+use Rattle.ground.proofs.Stores.{sets-append}
 use Rattle.listing.specs.Listing.{commaName, listingLine}
 use Rattle.listing.proofs.Decimal.{decimal-short}
-
--- a run of stores cut in two
-pub sets-append : (l : List ℕ) (i : ℕ) (a b : List ℕ) → sets l i (a ++ b) ≡ sets (sets l i a) (i + length a) b
-sets-append l i [] b = ap (λ (k : ℕ). sets l k b) (let e : i ≡ i + 0 = omega arith in e)
-sets-append l i (x ∷ a) b =
-    sets-append (set l i x) (suc i) a b
-    ∙ ap (λ (k : ℕ). sets (sets (set l i x) (suc i) a) k b) (let e : suc i + length a ≡ i + suc (length a) = omega arith in e)
 
 pub length-name : (e : List ℕ) → length (name e) ≡ 8
 unfolding name
 length-name e = refl
-
-pub name-length-is : (directory : List ℕ) (i b r : ℕ) → b ≡ getD directory (i * 16 + 1) 0 → r ≡ b → r ≡ nameLength (entry directory i)
-name-length-is directory i b r eb er = er ∙ eb ∙ sym (cell-at 16 directory i 1 (omega arith))
 
 module _ (e : List ℕ) (at n k : ℕ) (en : n ≡ nameLength e) (ek : k ≡ min n 8) where
   taken : k ≡ length (take (nameLength e) (name e))

@@ -1,6 +1,6 @@
 -- A listing written entry by entry.
 use mathlib.Core.Path.{_≡_, refl, sym, ap, _∙_}
-use mathlib.Core.Bool.{Bool, true, false}
+use mathlib.Core.Bool.{Bool, true, false, cond}
 use mathlib.Core.List.{List, [], _++_}
 use Prim.Native.Nat.{ℕ, suc, _+_, _-_, _*_, _≤_, _<_}
 use native.Mathlib.Omega.{arith}
@@ -10,10 +10,11 @@ use lib.Seq.{sets, length-sets}
 use lib.Dec.{eqb}
 use borrow.Author.Tests.{eq-eqb, ne-eqb}
 use Rattle.store.specs.Entry.{entries, entry, kind}
-use Rattle.listing.specs.Listing.{listingLine, lineIf, lineAt, listingFrom, listing}
-use Rattle.listing.proofs.Line.{sets-append, line-short}
+use Rattle.listing.specs.Listing.{listingLine, lineAt, listingFrom, listing}
+use Rattle.ground.proofs.Stores.{sets-append}
+use Rattle.listing.proofs.Line.{line-short}
 
-if-short : (t : Bool) (line : List ℕ) → length line ≤ 32 → length (lineIf t line) ≤ 32
+if-short : (t : Bool) (line : List ℕ) → length line ≤ 32 → length (cond t line []) ≤ 32
 if-short true line h = h
 if-short false line h = omega arith
 

@@ -1,7 +1,7 @@
 -- What FI and GI write to the output.
 -- Assumes nothing.
 use Prim.Native.Nat.{ℕ, zero, suc}
-use mathlib.Core.Bool.{Bool, true, false}
+use mathlib.Core.Bool.{cond}
 use mathlib.Core.List.{List, [], _∷_, _++_}
 use lib.ListN.{take}
 use lib.Dec.{eqb}
@@ -15,13 +15,9 @@ commaName e = 44 ∷ 34 ∷ (take (nameLength e) (name e) ++ (34 ∷ 10 ∷ []))
 unfoldable pub listingLine : List ℕ → List ℕ
 listingLine e = decimal (size e) ++ commaName e
 
-abbrev pub lineIf : Bool → List ℕ → List ℕ
-lineIf true line = line
-lineIf false line = []
-
 -- what entry i adds to the listing of kind k
 abbrev pub lineAt : List ℕ → ℕ → ℕ → List ℕ
-lineAt directory k i = lineIf (eqb (kind (entry directory i)) k) (listingLine (entry directory i))
+lineAt directory k i = cond (eqb (kind (entry directory i)) k) (listingLine (entry directory i)) []
 
 -- "in directory order": those of the entries from i on, n of them, that are of kind k
 unfoldable pub listingFrom : List ℕ → ℕ → ℕ → ℕ → List ℕ

@@ -8,36 +8,29 @@ ghost use mathlib.Core.Path.{_≡_};
 ghost use Prim.Native.Nat.{_+_, _/_, _≤_, _<_};
 ghost use lib.ListN.{length};
 ghost use lib.Seq.{sets};
-ghost use Rattle.store.specs.Entry.{entry, nameLength};
+ghost use Rattle.store.specs.Entry.{entries, entry};
 ghost use Rattle.listing.specs.Listing.{commaName, listingLine, lineAt, listing};
-use values::bytes;
-
-fn name_length(directory: &[u8], i: usize) -> usize
-    requires { ⌜ i < length (now directory) / 16 ⌝ }
-    ensures { λ r. ⌜ r ≡ nameLength (entry (now (directory .entry)) i) ⌝ }
-{
-    bytes::wide(bytes::byte(directory, i * 16 + 1))
-}
+use store::BYTES_AN_ENTRY;
 
 // What follows the size of entry i in its line: comma, the name between quotes, LF; the place after it.
 fn put_name(directory: &[u8], i: usize, line: &mut [u8], at: usize) -> usize
-    requires { ⌜ (i < length (now directory) / 16) × (at ≤ 32) ⌝ }
+    requires { ⌜ (i < entries (now directory)) × (at ≤ 32) ⌝ }
     ensures { λ r. ⌜ (r ≡ at + length (commaName (entry (now (directory .entry)) i))) × (now (line .exit) ≡ sets (now (line .entry)) at (commaName (entry (now (directory .entry)) i))) ⌝ }
 {
     let name = store::name_at(directory, i);
-    let n = name_length(directory, i);
-    let end = at + 2 + bytes::lesser(n, 8);
-    store::put(line, at, b',');
-    store::put(line, at + 1, b'"');
-    bytes::put(line, at + 2, bytes::front(&name, n));
-    store::put(line, end, b'"');
-    store::put(line, end + 1, 10);
+    let n = store::name_length_at(directory, i);
+    let end = at + 2 + ground::least(n, 8);
+    ground::put_byte(line, at, b',');
+    ground::put_byte(line, at + 1, b'"');
+    ground::put(line, at + 2, ground::front(&name, n));
+    ground::put_byte(line, end, b'"');
+    ground::put_byte(line, end + 1, 10);
     end + 2
 }
 
 // The line of entry i, at the front of a buffer; how long it is.
 fn line_into(directory: &[u8], i: usize, line: &mut [u8]) -> usize
-    requires { ⌜ (i < length (now directory) / 16) × (length (now line) ≡ 32) ⌝ }
+    requires { ⌜ (i < entries (now directory)) × (length (now line) ≡ 32) ⌝ }
     ensures { λ r. ⌜ (r ≡ length (listingLine (entry (now (directory .entry)) i))) × (now (line .exit) ≡ sets (now (line .entry)) 0 (listingLine (entry (now (directory .entry)) i))) ⌝ }
 {
     let n = normal::put_decimal(store::size_at(directory, i), line, 0);
@@ -46,17 +39,17 @@ fn line_into(directory: &[u8], i: usize, line: &mut [u8]) -> usize
 
 // The line of entry i from a place of the output on, by way of a buffer; the place after it.
 fn put_line(directory: &[u8], i: usize, line: &mut [u8], output: &mut [u8], at: usize) -> usize
-    requires { ⌜ (i < length (now directory) / 16) × ((length (now line) ≡ 32) × (at < 18446744073709551584)) ⌝ }
+    requires { ⌜ (i < entries (now directory)) × ((length (now line) ≡ 32) × (at < 18446744073709551584)) ⌝ }
     ensures { λ r. ⌜ (r ≡ at + length (listingLine (entry (now (directory .entry)) i))) × (now (output .exit) ≡ sets (now (output .entry)) at (listingLine (entry (now (directory .entry)) i))) ⌝ }
 {
     let n = line_into(directory, i, line);
-    bytes::put(output, at, bytes::front(line, n));
+    ground::put(output, at, ground::front(line, n));
     at + n
 }
 
 // The same if the entry is of kind k; else nothing is written.
 fn list_entry(directory: &[u8], k: usize, i: usize, output: &mut [u8], at: usize) -> usize
-    requires { ⌜ (i < length (now directory) / 16) × (at < 18446744073709551584) ⌝ }
+    requires { ⌜ (i < entries (now directory)) × (at < 18446744073709551584) ⌝ }
     ensures { λ r. ⌜ (r ≡ at + length (lineAt (now (directory .entry)) k i)) × (now (output .exit) ≡ sets (now (output .entry)) at (lineAt (now (directory .entry)) k i)) ⌝ }
 {
     if store::kind_at(directory, i) == k {
@@ -70,7 +63,7 @@ fn list_entry(directory: &[u8], k: usize, i: usize, output: &mut [u8], at: usize
 fn lines(directory: &[u8], k: usize, output: &mut [u8]) -> usize
     ensures { λ r. ⌜ (r ≡ length (listing (now (directory .entry)) k)) × (now (output .exit) ≡ sets (now (output .entry)) 0 (listing (now (directory .entry)) k)) ⌝ }
 {
-    let n = directory.len() / 16;
+    let n = directory.len() / BYTES_AN_ENTRY;
     let mut at: usize = 0;
     let mut i: usize = 0;
     while i < n {

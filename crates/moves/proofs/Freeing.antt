@@ -1,7 +1,7 @@
 -- Freeing and erasing, as the code does it.
 use mathlib.Core.Path.{_≡_, refl, sym, ap, _∙_}
 use mathlib.Core.List.{List}
-use mathlib.Core.Bool.{Bool, true, false, not}
+use mathlib.Core.Bool.{Bool, true, false, not, cond}
 use Prim.Native.Nat.{ℕ, zero, suc, _+_, _-_, _*_, _≤_, _<_, min}
 use native.Mathlib.Omega.{arith}
 use native.Mathlib.Numerals.{sub-one, add-one}
@@ -12,7 +12,7 @@ use lib.Dec.{eqb}
 use borrow.Author.Tests.{eq-eqb, ne-eqb}
 use Rattle.cells.specs.Cell.{zeros, setCell}
 use Rattle.store.specs.Entry.{kind, first, many, ofKind}
-use Rattle.moves.specs.Memory.{Memory, memory, entryOf, pickMemory}
+use Rattle.moves.specs.Memory.{Memory, memory, entryOf}
 use Rattle.moves.specs.Erase.{freedOne, freed, emptied, erased, erasedAt, erasedIf, erasedFrom}
 
 -- ---- lengths stay
@@ -47,7 +47,7 @@ erased-long m i =
 pub erasedIf-long : (picture : Bool) (m : Memory) (i : ℕ) → SameLengths m (erasedIf picture m i)
 erasedIf-long picture m i = go (ofKind picture (kind (entryOf m i)))
   where
-    go : (b : Bool) → SameLengths m (pickMemory b (erased m i) m)
+    go : (b : Bool) → SameLengths m (cond b (erased m i) m)
     go true = erased-long m i
     go false = record { store = refl; links = refl; directory = refl }
 
@@ -112,15 +112,15 @@ module _ (m : Memory) (i : ℕ) where
     pub erase-no : k ≡ 0 → (false ≡ not (eqb (kind (entryOf m i)) 0)) × (m ≡ erasedAt m i)
     erase-no z =
         let f : eqb (kind (entryOf m i)) 0 ≡ true = eq-eqb (kind (entryOf m i)) 0 (sym e ∙ z) in
-        (sym (ap not f), sym (ap (λ (b : Bool). pickMemory b m (erased m i)) f))
+        (sym (ap not f), sym (ap (λ (b : Bool). cond b m (erased m i)) f))
 
     pub erase-yes : (m′ : Memory) → (k ≡ 0 → ⊥) → m′ ≡ erased m i → (true ≡ not (eqb (kind (entryOf m i)) 0)) × (m′ ≡ erasedAt m i)
     erase-yes m′ z q =
         let f : eqb (kind (entryOf m i)) 0 ≡ false = ne-eqb (kind (entryOf m i)) 0 (λ y. z (e ∙ y)) in
-        (sym (ap not f), q ∙ sym (ap (λ (b : Bool). pickMemory b m (erased m i)) f))
+        (sym (ap not f), q ∙ sym (ap (λ (b : Bool). cond b m (erased m i)) f))
 
-    pub erase-if : (picture r b : Bool) (m′ : Memory) → r ≡ ofKind picture k → r ≡ b → m′ ≡ pickMemory b (erased m i) m → m′ ≡ erasedIf picture m i
-    erase-if picture r b m′ er eb q = q ∙ ap (λ (b : Bool). pickMemory b (erased m i) m) (sym eb ∙ er ∙ ap (ofKind picture) e)
+    pub erase-if : (picture r b : Bool) (m′ : Memory) → r ≡ ofKind picture k → r ≡ b → m′ ≡ cond b (erased m i) m → m′ ≡ erasedIf picture m i
+    erase-if picture r b m′ er eb q = q ∙ ap (λ (b : Bool). cond b (erased m i) m) (sym eb ∙ er ∙ ap (ofKind picture) e)
 
 -- ---- all of a kind
 

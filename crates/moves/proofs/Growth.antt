@@ -7,10 +7,11 @@ use native.Mathlib.Omega.{arith}
 use lib.ListN.{length, getD, set, drop, length-set}
 use lib.Dec.{eqb, ltb, leb}
 use borrow.Author.Tests.{eq-eqb, ne-eqb, lt-ltb, le-ltb, ltb-true}
-use Rattle.cells.proofs.Counts.{drop-step, drop-none, and-left, and-right}
+use Rattle.cells.proofs.Counts.{drop-step, drop-none}
 use Rattle.store.specs.Chain.{walk, needed, freeCount}
 use Rattle.store.specs.Entry.{entry, kind, size}
-use Rattle.moves.specs.Memory.{Memory, memory, pickMemory}
+use Rattle.ground.proofs.Tests.{and-left, and-right}
+use Rattle.moves.specs.Memory.{Memory, memory}
 use Rattle.moves.specs.Grow.{lowestPortion, full, nextLast, nextLinks, Growing, growing, put, putAll, lastOf, withSize, grown, canGrow, appended}
 
 -- ---- the next portion
@@ -136,8 +137,8 @@ module _ (st ls dir : List ℕ) (i : ℕ) (bytes : List ℕ) where
   can-small h = ltb-true _ _ (and-left (ltb (size (entry dir i) + length bytes) 4294967296) _ (and-right (not (eqb (kind (entry dir i)) 0)) _ h))
 
   pub append-no : (r : Bool) → r ≡ canGrow ls (entry dir i) (length bytes) → r ≡ false → (false ≡ canGrow ls (entry dir i) (length bytes)) × (memory st ls dir ≡ appended (memory st ls dir) i bytes)
-  append-no r e z = (sym z ∙ e, sym (ap (λ (b : Bool). pickMemory b (grown (memory st ls dir) i bytes) (memory st ls dir)) (sym e ∙ z)))
+  append-no r e z = (sym z ∙ e, sym (ap (λ (b : Bool). cond b (grown (memory st ls dir) i bytes) (memory st ls dir)) (sym e ∙ z)))
 
   pub append-yes : (r : Bool) (m : Memory) → r ≡ canGrow ls (entry dir i) (length bytes) → r ≡ true → m ≡ grown (memory st ls dir) i bytes
       → (true ≡ canGrow ls (entry dir i) (length bytes)) × (m ≡ appended (memory st ls dir) i bytes)
-  append-yes r m e z g = (sym z ∙ e, g ∙ sym (ap (λ (b : Bool). pickMemory b (grown (memory st ls dir) i bytes) (memory st ls dir)) (sym e ∙ z)))
+  append-yes r m e z g = (sym z ∙ e, g ∙ sym (ap (λ (b : Bool). cond b (grown (memory st ls dir) i bytes) (memory st ls dir)) (sym e ∙ z)))

@@ -1,4 +1,4 @@
-pub mod Storing
 pub mod Growth
 pub mod Starting
+pub mod Clearing
 pub mod Freeing

@@ -13,8 +13,8 @@ use Rattle.cells.specs.Cell.{setCell}
 use Rattle.store.specs.declared.Found.the-variants.{At, Nothing}
 use Rattle.store.specs.Chain.{needed, freeCount}
 use Rattle.store.specs.Entry.{entries, entry, kind, size, many}
-use Rattle.store.specs.Find.{isRecording, pickFound}
-use Rattle.moves.specs.Memory.{Memory, memory, pickMemory}
+use Rattle.store.specs.Find.{isRecording}
+use Rattle.moves.specs.Memory.{Memory, memory}
 use Rattle.moves.specs.Grow.{lowestPortion, grown}
 use Rattle.moves.specs.Start.{lowestEntry, hasRoom, newEntry, begun, started, startedAt, canKeep, kept, keptAt, finished}
 
@@ -46,25 +46,25 @@ module _ (st ls dir : List ℕ) (k : ℕ) (n : List ℕ) where
 
   pub start-no : (r : Bool) → r ≡ hasRoom ls dir 0 → r ≡ false → (Nothing ≡ startedAt (memory st ls dir) 0) × (memory st ls dir ≡ started (memory st ls dir) k n)
   start-no r e z = (
-    sym (ap (λ (b : Bool). pickFound b (At (lowestEntry dir)) Nothing) (sym e ∙ z)),
-    sym (ap (λ (b : Bool). pickMemory b (begun (memory st ls dir) k n) (memory st ls dir)) (sym e ∙ z)),
+    sym (ap (λ (b : Bool). cond b (At (lowestEntry dir)) Nothing) (sym e ∙ z)),
+    sym (ap (λ (b : Bool). cond b (begun (memory st ls dir) k n) (memory st ls dir)) (sym e ∙ z)),
   )
 
   pub start-yes : (r : Bool) (i : ℕ) (m : Memory) → r ≡ hasRoom ls dir 0 → r ≡ true → i ≡ lowestEntry dir → m ≡ begun (memory st ls dir) k n
       → (At i ≡ startedAt (memory st ls dir) 0) × (m ≡ started (memory st ls dir) k n)
   start-yes r i m e z a b = (
-    ap At a ∙ sym (ap (λ (b : Bool). pickFound b (At (lowestEntry dir)) Nothing) (sym e ∙ z)),
-    b ∙ sym (ap (λ (b : Bool). pickMemory b (begun (memory st ls dir) k n) (memory st ls dir)) (sym e ∙ z)),
+    ap At a ∙ sym (ap (λ (b : Bool). cond b (At (lowestEntry dir)) Nothing) (sym e ∙ z)),
+    b ∙ sym (ap (λ (b : Bool). cond b (begun (memory st ls dir) k n) (memory st ls dir)) (sym e ∙ z)),
   )
 
   module _ (bytes : List ℕ) where
     keep-is : (b : Bool) → canKeep (memory st ls dir) (length bytes) ≡ b
-        → (keptAt (memory st ls dir) (length bytes) ≡ pickFound b (At (lowestEntry dir)) Nothing)
-        × (kept (memory st ls dir) k n bytes ≡ pickMemory b (grown (begun (memory st ls dir) k n) (lowestEntry dir) bytes) (memory st ls dir))
+        → (keptAt (memory st ls dir) (length bytes) ≡ cond b (At (lowestEntry dir)) Nothing)
+        × (kept (memory st ls dir) k n bytes ≡ cond b (grown (begun (memory st ls dir) k n) (lowestEntry dir) bytes) (memory st ls dir))
     unfolding kept
     keep-is b e = (
-      ap (λ (b : Bool). pickFound b (At (lowestEntry dir)) Nothing) e,
-      ap (λ (b : Bool). pickMemory b (grown (begun (memory st ls dir) k n) (lowestEntry dir) bytes) (memory st ls dir)) e,
+      ap (λ (b : Bool). cond b (At (lowestEntry dir)) Nothing) e,
+      ap (λ (b : Bool). cond b (grown (begun (memory st ls dir) k n) (lowestEntry dir) bytes) (memory st ls dir)) e,
     )
 
     pub keep-long : 4294967295 < length bytes → (Nothing ≡ keptAt (memory st ls dir) (length bytes)) × (memory st ls dir ≡ kept (memory st ls dir) k n bytes)

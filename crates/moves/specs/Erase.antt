@@ -1,15 +1,16 @@
--- An entry is erased: "room freed is used again, zeroed". No other entry moves.
-use mathlib.Core.Bool.{Bool}
+-- An entry is erased: "room freed is used again, zeroed". No other entry moves. And all is cleared.
+use mathlib.Core.Bool.{Bool, cond}
 use Prim.Native.Nat.{ℕ, zero, suc, min}
-use lib.ListN.{length, getD, set}
+use lib.ListN.{length, getD, set, replicate}
 use lib.Dec.{eqb}
 use Rattle.cells.specs.Cell.{zeros, setCell}
-use Rattle.store.specs.Entry.{entries, kind, first, many, ofKind}
-use Rattle.moves.specs.Memory.{Memory, memory, entryOf, pickMemory}
+use Rattle.store.specs.Chain.{bytesAPortion, freeLink}
+use Rattle.store.specs.Entry.{bytesAnEntry, entries, kind, first, many, ofKind}
+use Rattle.moves.specs.Memory.{Memory, memory, entryOf}
 
 -- portion p zeroed and marked free
 abbrev pub freedOne : Memory → ℕ → Memory
-freedOne m p = memory (setCell 256 (m .store) p (zeros 256)) (set (m .links) p 65535) (m .directory)
+freedOne m p = memory (setCell bytesAPortion (m .store) p (zeros bytesAPortion)) (set (m .links) p freeLink) (m .directory)
 
 -- n portions from p on freed, each link read before it is changed
 unfoldable pub freed : Memory → ℕ → ℕ → Memory
@@ -18,7 +19,7 @@ freed m p (suc n) = freed (freedOne m p) (getD (m .links) p 0) n
 
 -- entry i zeroed
 abbrev pub emptied : Memory → ℕ → Memory
-emptied m i = memory (m .store) (m .links) (setCell 16 (m .directory) i (zeros 16))
+emptied m i = memory (m .store) (m .links) (setCell bytesAnEntry (m .directory) i (zeros bytesAnEntry))
 
 -- entry i with its portions; on damaged memory no more links are followed than there are
 unfoldable pub erased : Memory → ℕ → Memory
@@ -26,11 +27,11 @@ erased m i = emptied (freed m (first (entryOf m i)) (min (many (entryOf m i)) (l
 
 -- entry i, if there is one
 abbrev pub erasedAt : Memory → ℕ → Memory
-erasedAt m i = pickMemory (eqb (kind (entryOf m i)) 0) m (erased m i)
+erasedAt m i = cond (eqb (kind (entryOf m i)) 0) m (erased m i)
 
 -- all entries of a kind: `"*"` erases all
 abbrev pub erasedIf : Bool → Memory → ℕ → Memory
-erasedIf picture m i = pickMemory (ofKind picture (kind (entryOf m i))) (erased m i) m
+erasedIf picture m i = cond (ofKind picture (kind (entryOf m i))) (erased m i) m
 
 unfoldable pub erasedFrom : Bool → Memory → ℕ → ℕ → Memory
 erasedFrom picture m i zero = m
@@ -38,3 +39,7 @@ erasedFrom picture m i (suc left) = erasedFrom picture (erasedIf picture m i) (s
 
 abbrev pub erasedAll : Bool → Memory → Memory
 erasedAll picture m = erasedFrom picture m 0 (entries (m .directory))
+
+-- "Opening clears all lent memory (output aside), frees all portions": what it makes of these three
+abbrev pub cleared : Memory → Memory
+cleared m = memory (zeros (length (m .store))) (replicate (length (m .links)) freeLink) (zeros (length (m .directory)))

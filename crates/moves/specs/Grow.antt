@@ -6,9 +6,9 @@ use lib.ListN.{length, set}
 use lib.Seq.{sets}
 use lib.Dec.{eqb, ltb, leb}
 use Rattle.cells.specs.Scan.{lowest}
-use Rattle.store.specs.Chain.{needed, isFree, freeCount, walk}
-use Rattle.store.specs.Entry.{kind, first, size}
-use Rattle.moves.specs.Memory.{Memory, memory, entryOf, pickMemory}
+use Rattle.store.specs.Chain.{bytesAPortion, endLink, needed, isFree, freeCount, walk}
+use Rattle.store.specs.Entry.{bytesAnEntry, kind, first, size}
+use Rattle.moves.specs.Memory.{Memory, memory, entryOf}
 
 -- the number of the lowest free portion; as many as there are where none is free
 abbrev pub lowestPortion : List ℕ → ℕ
@@ -16,14 +16,14 @@ lowestPortion links = lowest (isFree links) (length links)
 
 -- the portions are full: the size is a multiple of 256, and not 0
 abbrev pub full : ℕ → Bool
-full size = eqb (size % 256) 0 && ltb 0 size
+full size = eqb (size % bytesAPortion) 0 && ltb 0 size
 
 -- the portion that the next byte goes to, and the links then; a link has 16 bits
 unfoldable pub nextLast : List ℕ → ℕ → ℕ → ℕ
 nextLast links last size = cond (full size) (lowestPortion links) last
 
 unfoldable pub nextLinks : List ℕ → ℕ → ℕ → List ℕ
-nextLinks links last size = cond (full size) (set (set links last (lowestPortion links % 65536)) (lowestPortion links) 65534) links
+nextLinks links last size = cond (full size) (set (set links last (lowestPortion links % 65536)) (lowestPortion links) endLink) links
 
 -- the store, the links, the last portion and the size of what grows
 pub record Growing : Type 0 where
@@ -39,7 +39,7 @@ growing st ls l n = record { store = st; links = ls; last = l; size = n }
 abbrev pub put : Growing → ℕ → Growing
 put g b =
     growing
-    (set (g .store) (nextLast (g .links) (g .last) (g .size) * 256 + g .size % 256) b)
+    (set (g .store) (nextLast (g .links) (g .last) (g .size) * bytesAPortion + g .size % bytesAPortion) b)
     (nextLinks (g .links) (g .last) (g .size))
     (nextLast (g .links) (g .last) (g .size))
     (g .size + 1)
@@ -54,7 +54,7 @@ lastOf links e = walk links (first e) (min (needed (size e)) (length links) - 1)
 
 -- the directory with another size in entry i: "size (4 bytes), low byte first"
 unfoldable pub withSize : List ℕ → ℕ → ℕ → List ℕ
-withSize directory i n = sets directory (i * 16 + 12) (n % 256 ∷ n / 256 % 256 ∷ n / 65536 % 256 ∷ n / 16777216 % 256 ∷ [])
+withSize directory i n = sets directory (i * bytesAnEntry + 12) (n % 256 ∷ n / 256 % 256 ∷ n / 65536 % 256 ∷ n / 16777216 % 256 ∷ [])
 
 -- entry i with bytes put behind its own
 unfoldable pub grown : Memory → ℕ → List ℕ → Memory
@@ -70,4 +70,4 @@ canGrow links e more =
     not (eqb (kind e) 0) && (ltb (size e + more) 4294967296 && leb (needed (size e + more) - needed (size e)) (freeCount links))
 
 abbrev pub appended : Memory → ℕ → List ℕ → Memory
-appended m i bytes = pickMemory (canGrow (m .links) (entryOf m i) (length bytes)) (grown m i bytes) m
+appended m i bytes = cond (canGrow (m .links) (entryOf m i) (length bytes)) (grown m i bytes) m

@@ -1,6 +1,5 @@
 -- Store, links and directory together: what a move changes.
 use mathlib.Core.List.{List}
-use mathlib.Core.Bool.{Bool, true, false}
 use Prim.Native.Nat.{ℕ}
 use Rattle.store.specs.Entry.{entry}
 
@@ -15,7 +14,3 @@ memory store links directory = record { store = store; links = links; directory 
 -- entry i of a memory
 abbrev pub entryOf : Memory → ℕ → List ℕ
 entryOf m i = entry (m .directory) i
-
-abbrev pub pickMemory : Bool → Memory → Memory → Memory
-pickMemory true a b = a
-pickMemory false a b = b

@@ -1,6 +1,6 @@
--- An entry is started, kept whole, or finished. "New entries and portions are the lowest free. A starting form takes one portion."
+-- An entry is started, kept whole, or finished. "New entries and portions are the lowest free; room freed is used again, zeroed. A starting form takes one portion."
 use mathlib.Core.List.{List, [], _∷_}
-use mathlib.Core.Bool.{Bool, _&&_}
+use mathlib.Core.Bool.{Bool, _&&_, cond}
 use Prim.Native.Nat.{ℕ, _*_, _/_, _%_}
 use lib.ListN.{length, getD, set}
 use lib.Dec.{eqb, ltb, leb}
@@ -8,10 +8,10 @@ use Rattle.cells.specs.Cell.{setCell}
 use Rattle.cells.specs.Scan.{lowest}
 use Rattle.store.specs.declared.Found.{Found}
 use Rattle.store.specs.declared.Found.the-variants.{At, Nothing}
-use Rattle.store.specs.Chain.{needed, freeCount}
-use Rattle.store.specs.Entry.{entries}
-use Rattle.store.specs.Find.{isEmpty, isRecording, pickFound}
-use Rattle.moves.specs.Memory.{Memory, memory, pickMemory}
+use Rattle.store.specs.Chain.{endLink, needed, freeCount}
+use Rattle.store.specs.Entry.{bytesAnEntry, entries}
+use Rattle.store.specs.Find.{isEmpty, isRecording}
+use Rattle.moves.specs.Memory.{Memory, memory}
 use Rattle.moves.specs.Grow.{lowestPortion, grown}
 
 -- the number of the lowest empty entry; as many as there are where none is empty
@@ -51,25 +51,25 @@ newEntry k n q =
 unfoldable pub begun : Memory → ℕ → List ℕ → Memory
 begun m k n =
     memory (m .store)
-    (set (m .links) (lowestPortion (m .links)) 65534)
-    (setCell 16 (m .directory) (lowestEntry (m .directory)) (newEntry k n (lowestPortion (m .links))))
+    (set (m .links) (lowestPortion (m .links)) endLink)
+    (setCell bytesAnEntry (m .directory) (lowestEntry (m .directory)) (newEntry k n (lowestPortion (m .links))))
 
 abbrev pub started : Memory → ℕ → List ℕ → Memory
-started m k n = pickMemory (hasRoom (m .links) (m .directory) 0) (begun m k n) m
+started m k n = cond (hasRoom (m .links) (m .directory) 0) (begun m k n) m
 
 abbrev pub startedAt : Memory → ℕ → Found
-startedAt m size = pickFound (hasRoom (m .links) (m .directory) size) (At (lowestEntry (m .directory))) Nothing
+startedAt m size = cond (hasRoom (m .links) (m .directory) size) (At (lowestEntry (m .directory))) Nothing
 
 -- a new entry of a kind with all its bytes; its size must be one that can be written
 abbrev pub canKeep : Memory → ℕ → Bool
 canKeep m size = ltb size 4294967296 && hasRoom (m .links) (m .directory) size
 
 unfoldable pub kept : Memory → ℕ → List ℕ → List ℕ → Memory
-kept m k n bytes = pickMemory (canKeep m (length bytes)) (grown (begun m k n) (lowestEntry (m .directory)) bytes) m
+kept m k n bytes = cond (canKeep m (length bytes)) (grown (begun m k n) (lowestEntry (m .directory)) bytes) m
 
 abbrev pub keptAt : Memory → ℕ → Found
-keptAt m size = pickFound (canKeep m size) (At (lowestEntry (m .directory))) Nothing
+keptAt m size = cond (canKeep m size) (At (lowestEntry (m .directory))) Nothing
 
 -- a form that was being recorded is one: kind 3 to 1
 unfoldable pub finished : List ℕ → ℕ → List ℕ
-finished directory i = mathlib.Core.Bool.cond (isRecording directory i) (set directory (i * 16) 1) directory
+finished directory i = cond (isRecording directory i) (set directory (i * bytesAnEntry) 1) directory

@@ -1,19 +1,26 @@
-// How store, links and directory change (paper 01): an entry is started with one portion, grown, kept whole, finished or erased. Each move is one
-// equation over the three lists, on any memory; where there is no room or no entry it answers so and changes nothing. That the moves keep the memory
-// sound, and change one place of the shelf, is proved in `shelf`.
+// How store, links and directory change (paper 01): an entry is started with one portion, grown, kept whole, finished or erased, and opening clears all.
+// Each move is one equation over the three lists, on any memory; where there is no room or no entry it answers so and changes nothing. That the moves keep
+// the memory sound, and change one place of the shelf, is proved in `store_sound`.
 ghost use mathlib.Core.Path.{_≡_};
 ghost use mathlib.Core.Bool.{not};
-ghost use Prim.Native.Nat.{_+_, _*_, _<_, min};
-ghost use lib.ListN.{length, set};
+ghost use Prim.Native.Nat.{_+_, _*_, _<_};
+ghost use lib.ListN.{length, set, replicate};
 ghost use lib.Seq.{sets};
 ghost use lib.Dec.{eqb};
 ghost use Rattle.cells.specs.Cell.{zeros, setCell};
-ghost use Rattle.store.specs.Entry.{entry, kind, first, size, many};
+ghost use Rattle.store.specs.Chain.{bytesAPortion, endLink, freeLink};
+ghost use Rattle.store.specs.Entry.{bytesAnEntry, entry, kind, first, size, many};
 ghost use Rattle.store.specs.Find.{isRecording};
 ghost use Rattle.moves.specs.Memory.{Memory, memory, entryOf};
 ghost use Rattle.moves.specs.Grow.{lowestPortion, nextLast, nextLinks, growing, putAll, lastOf, withSize, grown, canGrow, appended};
 ghost use Rattle.moves.specs.Start.{lowestEntry, hasRoom, nameEnd, newEntry, begun, started, startedAt, kept, keptAt, finished};
-ghost use Rattle.moves.specs.Erase.{freed, erased, erasedAt, erasedIf, erasedAll};
+ghost use Rattle.moves.specs.Erase.{freed, erased, erasedAt, erasedIf, erasedAll, cleared};
+use ground::least;
+use ground::put;
+use store::BYTES_A_PORTION;
+use store::BYTES_AN_ENTRY;
+use store::END_LINK;
+use store::FREE_LINK;
 use store::Found;
 
 // ---- stores that do nothing past the end
@@ -26,41 +33,25 @@ fn put_link(links: &mut [u16], p: usize, v: u16)
     }
 }
 
-// Stores bytes over those from a place on.
-fn put_all(into: &mut [u8], at: usize, bytes: &[u8])
-    ensures { λ _. ⌜ now (into .exit) ≡ sets (now (into .entry)) at (now (bytes .entry)) ⌝ }
-{
-    let mut a = at;
-    let mut k = 0;
-    while k < bytes.len() {
-        if into.len() <= a {
-            return;
-        }
-        into[a] = bytes[k];
-        a += 1;
-        k += 1;
-    }
-}
-
 // Stores bytes in entry i, from place o on.
 fn put_entry(directory: &mut [u8], i: usize, o: usize, bytes: &[u8])
-    requires { ⌜ o < 16 ⌝ }
-    ensures { λ _. ⌜ now (directory .exit) ≡ sets (now (directory .entry)) (i * 16 + o) (now (bytes .entry)) ⌝ }
+    requires { ⌜ o < bytesAnEntry ⌝ }
+    ensures { λ _. ⌜ now (directory .exit) ≡ sets (now (directory .entry)) (i * bytesAnEntry + o) (now (bytes .entry)) ⌝ }
 {
-    if directory.len() / 16 < i {
+    if directory.len() / BYTES_AN_ENTRY < i {
         return;
     }
-    put_all(directory, i * 16 + o, bytes);
+    put(directory, i * BYTES_AN_ENTRY + o, bytes);
 }
 
 fn wipe(store: &mut [u8], p: usize)
-    ensures { λ _. ⌜ now (store .exit) ≡ setCell 256 (now (store .entry)) p (zeros 256) ⌝ }
+    ensures { λ _. ⌜ now (store .exit) ≡ setCell bytesAPortion (now (store .entry)) p (zeros bytesAPortion) ⌝ }
 {
-    if store.len() / 256 < p {
+    if store.len() / BYTES_A_PORTION < p {
         return;
     }
-    let blank = [0u8; 256];
-    put_all(store, p * 256, &blank);
+    let blank = [0u8; BYTES_A_PORTION];
+    put(store, p * BYTES_A_PORTION, &blank);
 }
 
 // ---- growing
@@ -79,7 +70,7 @@ fn place(links: &mut [u16], last: usize, size: usize) -> usize
     ensures last { λ r. ⌜ r ≡ nextLast (now (links .entry)) last size ⌝ }
     ensures links { λ r. ⌜ now (links .exit) ≡ nextLinks (now (links .entry)) last size ⌝ }
 {
-    if size % 256 != 0 {
+    if size % BYTES_A_PORTION != 0 {
         return last;
     }
     if size == 0 {
@@ -87,18 +78,18 @@ fn place(links: &mut [u16], last: usize, size: usize) -> usize
     }
     let q = lowest_portion(links);
     put_link(links, last, (q % 65536) as u16);
-    put_link(links, q, 65534);
+    put_link(links, q, END_LINK);
     q
 }
 
 // Stores a byte at a place of portion p.
 fn put_in(store: &mut [u8], p: usize, at: usize, b: u8)
-    ensures { λ _. ⌜ now (store .exit) ≡ set (now (store .entry)) (p * 256 + at) b ⌝ }
+    ensures { λ _. ⌜ now (store .exit) ≡ set (now (store .entry)) (p * bytesAPortion + at) b ⌝ }
 {
-    if store.len() / 256 < p {
+    if store.len() / BYTES_A_PORTION < p {
         return;
     }
-    let from = p * 256;
+    let from = p * BYTES_A_PORTION;
     if store.len() - from <= at {
         return;
     }
@@ -115,7 +106,7 @@ fn fill(store: &mut [u8], links: &mut [u16], last: usize, size: usize, bytes: &[
     let mut i = 0;
     while i < bytes.len() {
         at = place(links, at, n);
-        put_in(store, at, n % 256, bytes[i]);
+        put_in(store, at, n % BYTES_A_PORTION, bytes[i]);
         n += 1;
         i += 1;
     }
@@ -132,12 +123,6 @@ pub fn last_at(links: &[u16], directory: &[u8], i: usize) -> usize
         k -= 1;
     }
     p
-}
-
-fn least(a: usize, b: usize) -> usize
-    ensures { λ r. ⌜ r ≡ min a b ⌝ }
-{
-    if a < b { a } else { b }
 }
 
 fn put_size(directory: &mut [u8], i: usize, n: usize)
@@ -201,7 +186,7 @@ fn lowest_entry(directory: &[u8]) -> usize
 {
     match store::lowest_empty(directory) {
         Found::At(i) => i,
-        Found::Nothing => directory.len() / 16,
+        Found::Nothing => directory.len() / BYTES_AN_ENTRY,
     }
 }
 
@@ -209,7 +194,7 @@ fn lowest_entry(directory: &[u8]) -> usize
 pub fn has_room(links: &[u16], directory: &[u8], size: usize) -> bool
     ensures { λ r. ⌜ r ≡ hasRoom (now (links .entry)) (now (directory .entry)) size ⌝ }
 {
-    if directory.len() / 16 <= lowest_entry(directory) {
+    if directory.len() / BYTES_AN_ENTRY <= lowest_entry(directory) {
         return false;
     }
     store::needed_for(size) <= store::free_count(links)
@@ -228,7 +213,7 @@ fn name_end(title: [u8; 8]) -> u8
     8
 }
 
-fn new_entry(kind: u8, title: [u8; 8], q: usize) -> [u8; 16]
+fn new_entry(kind: u8, title: [u8; 8], q: usize) -> [u8; BYTES_AN_ENTRY]
     ensures { λ r. ⌜ r ≡ newEntry kind title q ⌝ }
 {
     let end = name_end(title);
@@ -257,12 +242,12 @@ fn new_entry(kind: u8, title: [u8; 8], q: usize) -> [u8; 16]
 // The new entry's number. The store does not change: its free portions are zero already.
 fn begin(links: &mut [u16], directory: &mut [u8], kind: u8, title: [u8; 8]) -> usize
     ensures at { λ r. ⌜ r ≡ lowestEntry (now (directory .entry)) ⌝ }
-    ensures links { λ r. ⌜ now (links .exit) ≡ set (now (links .entry)) (lowestPortion (now (links .entry))) 65534 ⌝ }
-    ensures directory { λ r. ⌜ now (directory .exit) ≡ setCell 16 (now (directory .entry)) (lowestEntry (now (directory .entry))) (newEntry kind title (lowestPortion (now (links .entry)))) ⌝ }
+    ensures links { λ r. ⌜ now (links .exit) ≡ set (now (links .entry)) (lowestPortion (now (links .entry))) endLink ⌝ }
+    ensures directory { λ r. ⌜ now (directory .exit) ≡ setCell bytesAnEntry (now (directory .entry)) (lowestEntry (now (directory .entry))) (newEntry kind title (lowestPortion (now (links .entry)))) ⌝ }
 {
     let q = lowest_portion(links);
     let i = lowest_entry(directory);
-    put_link(links, q, 65534);
+    put_link(links, q, END_LINK);
     let e = new_entry(kind, title, q);
     put_entry(directory, i, 0, &e);
     i
@@ -333,7 +318,7 @@ fn free_chain(store: &mut [u8], links: &mut [u16], directory: &mut [u8], first: 
     while 0 < k {
         wipe(store, p);
         let next = store::link_at(links, p);
-        put_link(links, p, 65535);
+        put_link(links, p, FREE_LINK);
         p = next;
         k -= 1;
     }
@@ -355,7 +340,7 @@ fn drop_entry(store: &mut [u8], links: &mut [u16], directory: &mut [u8], i: usiz
     let p = store::first_at(directory, i);
     let n = least(many_at(directory, i), links.len());
     free_chain(store, links, directory, p, n);
-    let blank = [0u8; 16];
+    let blank = [0u8; BYTES_AN_ENTRY];
     put_entry(directory, i, 0, &blank);
 }
 
@@ -383,10 +368,38 @@ fn erase_if(store: &mut [u8], links: &mut [u16], directory: &mut [u8], picture: 
 pub fn erase_all(store: &mut [u8], links: &mut [u16], directory: &mut [u8], picture: bool)
     ensures { λ _. ⌜ memory (now (store .exit)) (now (links .exit)) (now (directory .exit)) ≡ erasedAll picture (memory (now (store .entry)) (now (links .entry)) (now (directory .entry))) ⌝ }
 {
-    let n = directory.len() / 16;
+    let n = directory.len() / BYTES_AN_ENTRY;
     let mut i = 0;
     while i < n {
         erase_if(store, links, directory, picture, i);
         i += 1;
     }
+}
+
+// ---- clearing
+
+fn free_all(links: &mut [u16])
+    ensures { λ _. ⌜ now (links .exit) ≡ replicate (length (now (links .entry))) freeLink ⌝ }
+{
+    let mut i = 0;
+    while i < links.len() {
+        links[i] = FREE_LINK;
+        i += 1;
+    }
+}
+
+fn zero(bytes: &mut [u8])
+    ensures { λ _. ⌜ now (bytes .exit) ≡ zeros (length (now (bytes .entry))) ⌝ }
+{
+    let n = bytes.len();
+    ground::fill(bytes, 0, n, 0);
+}
+
+// Opening clears the store and the directory, and frees all portions.
+pub fn clear(store: &mut [u8], links: &mut [u16], directory: &mut [u8])
+    ensures { λ _. ⌜ memory (now (store .exit)) (now (links .exit)) (now (directory .exit)) ≡ cleared (memory (now (store .entry)) (now (links .entry)) (now (directory .entry))) ⌝ }
+{
+    zero(store);
+    free_all(links);
+    zero(directory);
 }

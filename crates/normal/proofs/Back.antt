@@ -18,7 +18,7 @@ use Rattle.fields.specs.declared.Field.the-variants.{Is, Not}
 use Rattle.fields.specs.Bytes.{inClass, run, digitOf, valueFrom}
 use Rattle.fields.specs.Field.{runAt, numberAt, textAt, textFault, signedAt, plus, minus, letterAt, byteAt, nought, Small}
 use Rattle.fields.proofs.Laws.{in-range, above-range, number-is, number-small, text-is, inside, and-T}
-use Rattle.read.specs.Names.{capital}
+use Rattle.parts.specs.Names.{capital}
 use Rattle.normal.specs.Written.{digits, decimal, signed, kept, cased}
 use Rattle.normal.proofs.Writes.{digits-room, digits-less, cased-append}
 

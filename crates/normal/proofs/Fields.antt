@@ -18,8 +18,8 @@ use Rattle.fields.specs.Bytes.{inClass}
 use Rattle.fields.specs.Field.{runAt, textAt, typeAt, byteAt}
 use Rattle.fields.specs.Data.{elements}
 use Rattle.fields.proofs.Laws.{inside}
-use Rattle.read.specs.Grammar.{fieldAt, named, starred, beyond, fieldLimits}
-use Rattle.read.specs.Names.{capital}
+use Rattle.read.specs.Grammar.{fieldAt, named, starred, meets, fieldLimits}
+use Rattle.parts.specs.Names.{capital}
 use Rattle.normal.specs.Written.{kept, cased, dataWritten, writtenField}
 use Rattle.normal.specs.Contents.{held}
 use Rattle.normal.proofs.Writes.{cased-kept}
@@ -364,7 +364,7 @@ module _ {f : ℕ} (p : Plain f) where
 -- ---- each letter
 pub field-moved : {f : ℕ} (x : Letter f) (s : List ℕ) (at v e : ℕ) (pre rest : List ℕ) → fieldAt f s at ≡ Is v e → After x rest
     → Moved f s v at (pre ++ (writtenField f s v at ++ rest)) (length pre)
-unfolding fieldAt writtenField fieldLimits beyond held line outer
+unfolding fieldAt writtenField fieldLimits meets held line outer
 field-moved a-number s at v e pre rest h a =
     record {
       read = number-back pre rest v (number-fits s at v e h) a;

@@ -5,12 +5,12 @@ use mathlib.Core.List.{List, [], _∷_}
 use Prim.Native.Nat.{ℕ, _≤_, _<_}
 use lib.ListN.{length, getD, take}
 use borrow.Author.Tests.{le-leb, lt-leb}
-use Rattle.read.specs.Grammar.{rowOf, headOf, find, fieldsFrom, Filled}
+use Rattle.read.specs.Grammar.{rowOf, headOf, headBy, find, fieldsFrom, Filled}
 use Rattle.read.specs.Commands.{readOf, headed, judged, withinLimits}
 use Rattle.read.specs.declared.Fault.the-variants.{Form as form}
 use Rattle.read.specs.declared.Fields.{Fields}
 use Rattle.read.specs.declared.Fields.the-variants.{All, Bad}
-use Rattle.read.specs.declared.Head.the-variants.{Row, Unknown}
+use Rattle.grammar.specs.declared.Head.the-variants.{Row, Unknown}
 use Rattle.read.specs.declared.Read.the-variants.{Refused}
 use Rattle.read.proofs.Rows.{zeros, judged-good}
 use Rattle.normal.specs.Written.{Wrote, writtenFrom, writtenOf, headWritten, normal, equal, isOwn, ownRead}
@@ -27,7 +27,7 @@ unfolding ownRead isOwn
 own-not s h = rw (h, and-false)
 
 own-empty : Refused (form 0) ≡ ownRead []
-unfolding ownRead isOwn readOf headed headOf find headWritten equal
+unfolding ownRead isOwn readOf headed headOf headBy find headWritten equal
 own-empty = refl
 
 own-none : (s : List ℕ) → normal s ≡ [] → Refused (form 0) ≡ ownRead s
@@ -35,7 +35,7 @@ unfolding equal
 own-none [] h = own-empty
 own-none (x ∷ xs) h = own-not (x ∷ xs) (ap (λ (l : List ℕ). equal l (x ∷ xs)) h)
 
-pub own-unknown : (s : List ℕ) → headOf (getD s 0 0) (getD s 1 0) ≡ Unknown → Refused (form 0) ≡ ownRead s
+pub own-unknown : (s : List ℕ) → headOf s ≡ Unknown → Refused (form 0) ≡ ownRead s
 unfolding headWritten
 own-unknown s h = own-none s (rw h)
 
@@ -44,7 +44,7 @@ unfolding ownRead isOwn
 own-is s l h = rw (le-leb _ 255 l, h)
 
 -- ---- a line of a row
-module _ (s : List ℕ) (row : ℕ) (h : headOf (getD s 0 0) (getD s 1 0) ≡ Row row) where
+module _ (s : List ℕ) (row : ℕ) (h : headOf s ≡ Row row) where
   normal-row : normal s ≡ writtenOf row s (fieldsFrom (rowOf row .fields) s 0)
   unfolding headWritten
   normal-row = rw h

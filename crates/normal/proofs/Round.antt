@@ -1,6 +1,6 @@
 -- Reading the normal form of a line gives the same command with the same contents, and its normal form is itself.
 use mathlib.Core.Path.{_≡_, _∙_, refl, sym, ap}
-use mathlib.Core.Bool.{Bool, true, false, cond, _&&_, _||_, false≢true, and-false}
+use mathlib.Core.Bool.{Bool, true, false, cond, _&&_, _||_, true≢false, false≢true, and-false}
 use mathlib.Core.List.{List, [], _∷_, _++_, append-assoc}
 use Prim.Native.Nat.{ℕ, zero, suc, _+_, _-_, _≤_, _<_}
 use native.Mathlib.Nat.{zero-add}
@@ -24,6 +24,7 @@ use Rattle.read.specs.Grammar.{
   rowOf,
   boundsOf,
   headOf,
+  headBy,
   find,
   fieldAt,
   fieldsFrom,
@@ -37,35 +38,40 @@ use Rattle.read.specs.Grammar.{
   limitsFrom,
   spread,
 }
-use Rattle.read.specs.Commands.{readOf, headed as headRead, judged, decided, commandOf, itemOf, orderOf, isItem, namedAt, sideOf, inkOf, isMinus, stepOf}
+use Rattle.read.specs.Commands.{
+  readOf,
+  headed as headRead,
+  judged,
+  decided,
+  commandOf,
+  itemOf,
+  pageOf,
+  formOf,
+  pictureOf,
+  valueOf,
+  listingOf,
+  orderOf,
+  isItem,
+  isForm,
+  isPicture,
+  isValue,
+  isListing,
+  namedAt,
+  sideOf,
+  inkOf,
+  isMinus,
+  stepOf,
+}
 use Rattle.read.specs.declared.Item.{Item}
 use Rattle.read.specs.declared.Item.the-variants.{Origin, Variable, Counter, Text, Bars, Box, Frame, Picture}
-use Rattle.read.specs.declared.Command.the-variants.{
-  Item as item,
-  Length,
-  Width,
-  Turn,
-  Start,
-  End,
-  Retrieve,
-  EraseForm,
-  ListForms,
-  PrintForm,
-  Store,
-  ListPictures,
-  ErasePicture,
-  SetVariable,
-  SetCounter,
-  Clear,
-  Print,
-  White as Whiten,
-}
+use Rattle.read.specs.declared.Command.the-variants.{Item as item, End, Page, Forms, Pictures, Values, Listing}
 use Rattle.read.specs.declared.Read.the-variants.{Taken}
-use Rattle.read.specs.declared.Head.{Head}
-use Rattle.read.specs.declared.Head.the-variants.{Row, Unknown}
+use Rattle.grammar.specs.declared.Head.{Head}
+use Rattle.grammar.specs.declared.Head.the-variants.{Row, Unknown}
 use Rattle.read.proofs.Rows.{Split, fields-split}
-use Rattle.normal.specs.Written.{decimal, writtenField, writtenFrom, writtenOf, headWritten, normal}
+use Rattle.normal.specs.Written.{decimal, writtenField, writtenFrom, writtenOf, headWritten, normal, isItem as isItemCommand}
 use Rattle.normal.specs.Contents.{unplaced, heldBy, contentsOf, headContents, contents}
+use Rattle.normal.specs.Promise.{Normal}
 use Rattle.normal.proofs.Back.{allIn, T-true, number-fits, digits-class, digits-count}
 use Rattle.normal.proofs.Fields.{Letter, letter-of, a-number, a-wide, a-step, a-prompt, a-text, a-name, a-star, a-mode, a-side, a-type, some-data, itself, After, Moved, field-moved, Plain, plain-written}
 
@@ -127,7 +133,7 @@ kept-end : (s : List ℕ) (at : ℕ) (vs ps pre : List ℕ) → fieldsFrom [] s 
 unfolding fieldsFrom writtenFrom limitsFrom heldBy
 kept-end s at vs ps pre h = go (eqb at (length s)) h
   where
-    go : (t : Bool) → cond t (good [] []) (bad at) ≡ good vs ps → Kept [] s vs ps (pre ++ []) (length pre)
+    go : (t : Bool) → cond t (good [] []) (bad [] [] at) ≡ good vs ps → Kept [] s vs ps (pre ++ []) (length pre)
     go true k =
         let v : [] ≡ vs = cc in
         let l : length pre ≡ length (pre ++ []) = (let z = length-append pre [] in omega arith) in
@@ -208,10 +214,10 @@ abbrev isRow : Head → ℕ → Bool
 isRow (Row k) row = eqb k row
 isRow Unknown row = false
 
--- the second byte of a written line: a letter, the first digit of a number, or nothing
-abbrev digitsNamed : ℕ → ℕ → ℕ → ℕ → Bool
-digitsNamed row a b zero = true
-digitsNamed row a b (suc n) = isRow (headOf a b) row && digitsNamed row a (suc b) n
+-- the second byte of a written line: a letter, the first digit of a number, or nothing; the third may be any
+abbrev digitsNamed : ℕ → ℕ → ℕ → ℕ → ℕ → Bool
+digitsNamed c row a b zero = true
+digitsNamed c row a b (suc n) = isRow (headBy a b c) row && digitsNamed c row a (suc b) n
 
 abbrev isCapital : ℕ → Bool
 isCapital b = between 65 90 b
@@ -219,14 +225,14 @@ isCapital b = between 65 90 b
 abbrev isHead : ℕ → Bool
 isHead a = isCapital a || (eqb a 63 || eqb a 113)
 
-abbrev headed : ℕ → List ℕ → Bool
-headed row [] = true
-headed row (a ∷ []) = isHead a && isRow (headOf a 0) row
-headed row (a ∷ (b ∷ fs)) = isHead a && cond (eqb b 110) (digitsNamed row a 48 10) (isCapital b && isRow (headOf a b) row)
+abbrev headed : ℕ → ℕ → List ℕ → Bool
+headed c row [] = true
+headed c row (a ∷ []) = isHead a && isRow (headBy a 0 c) row
+headed c row (a ∷ (b ∷ fs)) = isHead a && cond (eqb b 110) (digitsNamed c row a 48 10) (isCapital b && isRow (headBy a b c) row)
 
-row-headed : (row : ℕ) → T (headed row (rowOf row .fields))
-unfolding headOf find between
-row-headed row = let q = zero-add row in rw q at (every-row headed forms 0 tt (λ k. tt) row)
+row-headed : (c row : ℕ) → T (headed c row (rowOf row .fields))
+unfolding headBy find between
+row-headed c row = let q = zero-add row in rw q at (every-row (headed c) forms 0 tt (λ k. tt) row)
 
 head-plain : {a : ℕ} → Letter a → T (isHead a) → Plain a
 unfolding between
@@ -254,16 +260,16 @@ row-is : (h : Head) (row : ℕ) → T (isRow h row) → h ≡ Row row
 row-is (Row k) row t = ap Row (eqb-true k row (T-true (eqb k row) t))
 row-is Unknown row t = absurd t
 
-digit-named : (row a n b c : ℕ) → T (digitsNamed row a b n) → b ≤ c → c < b + n → headOf a c ≡ Row row
-digit-named row a zero b c h k l = absurd (omega arith)
-digit-named row a (suc n) b c h k l =
-    go (decLt b c) (digit-named row a n (suc b) c (and-T (isRow (headOf a b) row) (digitsNamed row a (suc b) n) h .1))
+digit-named : (c row a n b x : ℕ) → T (digitsNamed c row a b n) → b ≤ x → x < b + n → headBy a x c ≡ Row row
+digit-named c row a zero b x h k l = absurd (omega arith)
+digit-named c row a (suc n) b x h k l =
+    go (decLt b x) (digit-named c row a n (suc b) x (and-T (isRow (headBy a b c) row) (digitsNamed c row a (suc b) n) h .1))
   where
-    go : Dec (b < c) → (suc b ≤ c → c < suc b + n → headOf a c ≡ Row row) → headOf a c ≡ Row row
+    go : Dec (b < x) → (suc b ≤ x → x < suc b + n → headBy a x c ≡ Row row) → headBy a x c ≡ Row row
     go (yes m) r = r (omega arith) (omega arith)
     go (no m) r =
-        let e : b ≡ c = omega arith in
-        rw e at (row-is (headOf a b) row (and-T (isRow (headOf a b) row) (digitsNamed row a (suc b) n) h .0))
+        let e : b ≡ x = omega arith in
+        rw e at (row-is (headBy a b c) row (and-T (isRow (headBy a b c) row) (digitsNamed c row a (suc b) n) h .0))
 
 -- the first byte of a number
 digit-bounds : (x : ℕ) → inClass Digit x ≡ true → (48 ≤ x) × (x < 48 + 10)
@@ -285,66 +291,66 @@ decimal-front v rest h =
     front-digit (decimal v) rest (digits-class 19 v [] (omega arith) (unfold allIn in tt)) (digits-count 19 8 v [] h .0)
 
 -- the second byte, after a letter of the first
-second-digit : (row a b : ℕ) (fs s : List ℕ) (at : ℕ) (vs ps : List ℕ) → Split b fs s at vs ps → b ≡ 110 → T (digitsNamed row a 48 10)
-    → headOf a (getD (writtenFrom (b ∷ fs) s vs ps) 0 0) ≡ Row row
+second-digit : (c row a b : ℕ) (fs s : List ℕ) (at : ℕ) (vs ps : List ℕ) → Split b fs s at vs ps → b ≡ 110 → T (digitsNamed c row a 48 10)
+    → headBy a (getD (writtenFrom (b ∷ fs) s vs ps) 0 0) c ≡ Row row
 unfolding writtenFrom writtenField fieldAt
-second-digit row a b fs s at vs ps x e h =
+second-digit c row a b fs s at vs ps x e h =
     let f : numberAt s at ≡ Is (x .v) (x .e) = rw e at (x .first) in
     let d = decimal-front (x .v) (writtenFrom fs s (x .vs) (drop 1 ps)) (number-fits s at (x .v) (x .e) f) in
-    rw (e, x .values) (digit-named row a 10 48 (getD (decimal (x .v) ++ writtenFrom fs s (x .vs) (drop 1 ps)) 0 0) h (d .0) (d .1))
+    rw (e, x .values) (digit-named c row a 10 48 (getD (decimal (x .v) ++ writtenFrom fs s (x .vs) (drop 1 ps)) 0 0) h (d .0) (d .1))
 
-second-letter : (row a b : ℕ) (fs s vs ps : List ℕ) → T (isCapital b && isRow (headOf a b) row)
-    → headOf a (getD (writtenFrom (b ∷ fs) s vs ps) 0 0) ≡ Row row
+second-letter : (c row a b : ℕ) (fs s vs ps : List ℕ) → T (isCapital b && isRow (headBy a b c) row)
+    → headBy a (getD (writtenFrom (b ∷ fs) s vs ps) 0 0) c ≡ Row row
 unfolding writtenFrom
-second-letter row a b fs s vs ps h =
-    let o = and-T (isCapital b) (isRow (headOf a b) row) h in
+second-letter c row a b fs s vs ps h =
+    let o = and-T (isCapital b) (isRow (headBy a b c) row) h in
     let p = head-plain (letter-of b) (capital-head b (o .0)) in
-    rw (plain-written p s (getD vs 0 0) (getD ps 0 0)) (row-is (headOf a b) row (o .1))
+    rw (plain-written p s (getD vs 0 0) (getD ps 0 0)) (row-is (headBy a b c) row (o .1))
 
-first-alone : (row a : ℕ) (s vs ps : List ℕ) → Plain a → headOf a 0 ≡ Row row
-    → headOf (getD (writtenFrom (a ∷ []) s vs ps) 0 0) (getD (writtenFrom (a ∷ []) s vs ps) 1 0) ≡ Row row
-unfolding writtenFrom
+first-alone : (row a : ℕ) (s vs ps : List ℕ) → Plain a → headBy a 0 0 ≡ Row row → headOf (writtenFrom (a ∷ []) s vs ps) ≡ Row row
+unfolding writtenFrom headOf
 first-alone row a s vs ps p h = rw (plain-written p s (getD vs 0 0) (getD ps 0 0)) h
 
 first-then : (row a : ℕ) (fs s : List ℕ) (at : ℕ) (vs ps : List ℕ) (x : Split a fs s at vs ps) → Plain a
-    → headOf a (getD (writtenFrom fs s (x .vs) (x .ps)) 0 0) ≡ Row row
-    → headOf (getD (writtenFrom (a ∷ fs) s vs ps) 0 0) (getD (writtenFrom (a ∷ fs) s vs ps) 1 0) ≡ Row row
-unfolding writtenFrom
+    → headBy a (getD (writtenFrom fs s (x .vs) (x .ps)) 0 0) (getD (writtenFrom fs s (x .vs) (x .ps)) 1 0) ≡ Row row
+    → headOf (writtenFrom (a ∷ fs) s vs ps) ≡ Row row
+unfolding writtenFrom headOf
 first-then row a fs s at vs ps x p h =
     rw (plain-written p s (getD vs 0 0) (getD ps 0 0))
     (let e : writtenFrom fs s (drop 1 vs) (drop 1 ps) ≡ writtenFrom fs s (x .vs) (x .ps) =
     ap (λ (l : List ℕ). writtenFrom fs s (drop 1 l) (drop 1 ps)) (x .values) ∙ ap (λ (l : List ℕ). writtenFrom fs s (x .vs) (drop 1 l)) (x .places) in
     rw e h)
 
-second-back : (row a b : ℕ) (fs s : List ℕ) (at : ℕ) (vs ps : List ℕ)
-    → T (cond (eqb b 110) (digitsNamed row a 48 10) (isCapital b && isRow (headOf a b) row)) → fieldsFrom (b ∷ fs) s at ≡ good vs ps
-    → headOf a (getD (writtenFrom (b ∷ fs) s vs ps) 0 0) ≡ Row row
-second-back row a b fs s at vs ps h k = go (ℕ-discrete b 110)
+second-back : (c row a b : ℕ) (fs s : List ℕ) (at : ℕ) (vs ps : List ℕ)
+    → T (cond (eqb b 110) (digitsNamed c row a 48 10) (isCapital b && isRow (headBy a b c) row)) → fieldsFrom (b ∷ fs) s at ≡ good vs ps
+    → headBy a (getD (writtenFrom (b ∷ fs) s vs ps) 0 0) c ≡ Row row
+second-back c row a b fs s at vs ps h k = go (ℕ-discrete b 110)
   where
     x : Split b fs s at vs ps
     x = fields-split b fs s at vs ps k
 
-    go : Dec (b ≡ 110) → headOf a (getD (writtenFrom (b ∷ fs) s vs ps) 0 0) ≡ Row row
-    go (yes e) = second-digit row a b fs s at vs ps x e (rw (eq-eqb b 110 e) at h)
-    go (no n) = second-letter row a b fs s vs ps (rw (ne-eqb b 110 n) at h)
+    go : Dec (b ≡ 110) → headBy a (getD (writtenFrom (b ∷ fs) s vs ps) 0 0) c ≡ Row row
+    go (yes e) = second-digit c row a b fs s at vs ps x e (rw (eq-eqb b 110 e) at h)
+    go (no n) = second-letter c row a b fs s vs ps (rw (ne-eqb b 110 n) at h)
 
-head-back : (row : ℕ) (fs s vs ps : List ℕ) → T (headed row fs) → 0 < length fs → fieldsFrom fs s 0 ≡ good vs ps
-    → headOf (getD (writtenFrom fs s vs ps) 0 0) (getD (writtenFrom fs s vs ps) 1 0) ≡ Row row
+head-back : (row : ℕ) (fs s vs ps : List ℕ) → ((c : ℕ) → T (headed c row fs)) → 0 < length fs → fieldsFrom fs s 0 ≡ good vs ps
+    → headOf (writtenFrom fs s vs ps) ≡ Row row
 head-back row [] s vs ps h l k = absurd (omega arith)
 head-back row (a ∷ []) s vs ps h l k =
-    let o = and-T (isHead a) (isRow (headOf a 0) row) h in
+    let o = and-T (isHead a) (isRow (headBy a 0 0) row) (h 0) in
     let p = head-plain (letter-of a) (o .0) in
-    first-alone row a s vs ps p (row-is (headOf a 0) row (o .1))
+    first-alone row a s vs ps p (row-is (headBy a 0 0) row (o .1))
 head-back row (a ∷ (b ∷ fs)) s vs ps h l k =
-    let o = and-T (isHead a) (cond (eqb b 110) (digitsNamed row a 48 10) (isCapital b && isRow (headOf a b) row)) h in
-    let p = head-plain (letter-of a) (o .0) in
     let x = fields-split a (b ∷ fs) s 0 vs ps k in
-    let r = second-back row a b fs s (x .e) (x .vs) (x .ps) (o .1) (x .others) in
+    let c = getD (writtenFrom (b ∷ fs) s (x .vs) (x .ps)) 1 0 in
+    let o = and-T (isHead a) (cond (eqb b 110) (digitsNamed c row a 48 10) (isCapital b && isRow (headBy a b c) row)) (h c) in
+    let p = head-plain (letter-of a) (o .0) in
+    let r = second-back c row a b fs s (x .e) (x .vs) (x .ps) (o .1) (x .others) in
     first-then row a (b ∷ fs) s 0 vs ps x p r
 
 -- ---- lines
 
-module _ (s : List ℕ) (row : ℕ) (vs ps : List ℕ) (h : headOf (getD s 0 0) (getD s 1 0) ≡ Row row)
+module _ (s : List ℕ) (row : ℕ) (vs ps : List ℕ) (h : headOf s ≡ Row row)
     (k : fieldsFrom (rowOf row .fields) s 0 ≡ good vs ps) where
   pub normal-is : normal s ≡ writtenFrom (rowOf row .fields) s vs ps
   unfolding headWritten writtenOf
@@ -358,24 +364,24 @@ module _ (s : List ℕ) (row : ℕ) (vs ps : List ℕ) (h : headOf (getD s 0 0) 
   unfolding readOf headRead judged
   read-is rows = rw (h, k)
 
-empty-unknown : (row : ℕ) → headOf 0 0 ≡ Row row → ⊥
-unfolding headOf find between
+empty-unknown : (row : ℕ) → headOf [] ≡ Row row → ⊥
+unfolding headOf headBy find between
 empty-unknown row h = let z : _≡_ {A = ℕ} 0 1 = cc in omega arith
 
 some-unread : (x : ℕ) (xs vs ps : List ℕ) → fieldsFrom [] (x ∷ xs) 0 ≡ good vs ps → ⊥
 unfolding fieldsFrom
 some-unread x xs vs ps h =
     let e : eqb 0 (length (x ∷ xs)) ≡ false = ne-eqb 0 (length (x ∷ xs)) (λ q. omega arith) in
-    let k : bad 0 ≡ good vs ps = rw e at h in
+    let k : bad [] [] 0 ≡ good vs ps = rw e at h in
     let z : _≡_ {A = ℕ} 0 1 = cc in
     omega arith
 
 -- a line that is read is not empty
-row-some : (s : List ℕ) (row : ℕ) (vs ps : List ℕ) → headOf (getD s 0 0) (getD s 1 0) ≡ Row row → fieldsFrom (rowOf row .fields) s 0 ≡ good vs ps
+row-some : (s : List ℕ) (row : ℕ) (vs ps : List ℕ) → headOf s ≡ Row row → fieldsFrom (rowOf row .fields) s 0 ≡ good vs ps
     → 0 < length (rowOf row .fields)
 row-some s row vs ps h k = go (rowOf row .fields) k
   where
-    none-read : (s : List ℕ) → headOf (getD s 0 0) (getD s 1 0) ≡ Row row → fieldsFrom [] s 0 ≡ good vs ps → ⊥
+    none-read : (s : List ℕ) → headOf s ≡ Row row → fieldsFrom [] s 0 ≡ good vs ps → ⊥
     none-read [] h k = empty-unknown row h
     none-read (x ∷ xs) h k = some-unread x xs vs ps k
 
@@ -383,57 +389,27 @@ row-some s row vs ps h k = go (rowOf row .fields) k
     go [] q = absurd (none-read s h q)
     go (f ∷ fs) q = omega arith
 
--- an item's row
+-- an item's row: what the other rows make is no item
 order-no-item : (row : ℕ) (s vs ps : List ℕ) (i : Item) → orderOf row s vs ps ≡ item i → ⊥
 unfolding orderOf
 order-no-item row s vs ps i h =
-    go (eqb row 0) (eqb row 1) (eqb row 3) (eqb row 4) (eqb row 12) (eqb row 13) (eqb row 14) (eqb row 15) (eqb row 16) (eqb row 17) (eqb row 18)
-    (eqb row 19)
-    (eqb row 20)
-    (eqb row 21)
-    (eqb row 24)
-    (eqb row 25)
-    (eqb row 26)
-    h
+    go (eqb row 13) (isValue row) (isForm row) (isPicture row) (isListing row) (sym (ap isItemCommand h))
   where
-    go : (a b c d e f g j k l m n o p q r t : Bool)
-        → cond a (Length (record { m = getD vs 1 0; g = getD vs 3 0 }))
-        (cond b (Width (record { m = getD vs 1 0 }))
-        (cond c (Turn (record { half = false }))
-        (cond d (Turn (record { half = true }))
-        (cond e (Start (namedAt s vs ps 2))
-        (cond f End
-        (cond g (Retrieve (namedAt s vs ps 2))
-        (cond j (EraseForm (namedAt s vs ps 2))
-        (cond k (ErasePicture (namedAt s vs ps 2))
-        (cond l ListForms
-        (cond m ListPictures
-        (cond n (PrintForm (namedAt s vs ps 2))
-        (cond o (Store (record { at = getD ps 2 0; length = getD vs 2 0; n = getD vs 4 0 }))
-        (cond p Clear
-        (cond q (SetVariable (record { n = getD vs 2 0; at = getD ps 4 0; length = getD vs 4 0 }))
-        (cond r (SetCounter (record { n = getD vs 2 0; value = getD vs 4 0 }))
-        (cond t (Print (record { k = getD vs 1 0 }))
-        Whiten)))))))))))))))) ≡ item i
+    go : (a b c d e : Bool)
+        → true ≡ isItemCommand
+        (cond a End
+        (cond b (Values (valueOf row vs ps))
+        (cond c (Forms (formOf row (namedAt s vs ps 2)))
+        (cond d (Pictures (pictureOf row (namedAt s vs ps 2) (getD vs 4 0)))
+        (cond e (Listing (listingOf row (namedAt s vs ps 2)))
+        (Page (pageOf row vs)))))))
         → ⊥
-    go true b c d e f g j k l m n o p q r t h = let z : _≡_ {A = ℕ} 0 1 = cc in omega arith
-    go false true c d e f g j k l m n o p q r t h = let z : _≡_ {A = ℕ} 0 1 = cc in omega arith
-    go false false true d e f g j k l m n o p q r t h = let z : _≡_ {A = ℕ} 0 1 = cc in omega arith
-    go false false false true e f g j k l m n o p q r t h = let z : _≡_ {A = ℕ} 0 1 = cc in omega arith
-    go false false false false true f g j k l m n o p q r t h = let z : _≡_ {A = ℕ} 0 1 = cc in omega arith
-    go false false false false false true g j k l m n o p q r t h = let z : _≡_ {A = ℕ} 0 1 = cc in omega arith
-    go false false false false false false true j k l m n o p q r t h = let z : _≡_ {A = ℕ} 0 1 = cc in omega arith
-    go false false false false false false false true k l m n o p q r t h = let z : _≡_ {A = ℕ} 0 1 = cc in omega arith
-    go false false false false false false false false true l m n o p q r t h = let z : _≡_ {A = ℕ} 0 1 = cc in omega arith
-    go false false false false false false false false false true m n o p q r t h = let z : _≡_ {A = ℕ} 0 1 = cc in omega arith
-    go false false false false false false false false false false true n o p q r t h = let z : _≡_ {A = ℕ} 0 1 = cc in omega arith
-    go false false false false false false false false false false false true o p q r t h = let z : _≡_ {A = ℕ} 0 1 = cc in omega arith
-    go false false false false false false false false false false false false true p q r t h = let z : _≡_ {A = ℕ} 0 1 = cc in omega arith
-    go false false false false false false false false false false false false false true q r t h = let z : _≡_ {A = ℕ} 0 1 = cc in omega arith
-    go false false false false false false false false false false false false false false true r t h = let z : _≡_ {A = ℕ} 0 1 = cc in omega arith
-    go false false false false false false false false false false false false false false false true t h = let z : _≡_ {A = ℕ} 0 1 = cc in omega arith
-    go false false false false false false false false false false false false false false false false true h = let z : _≡_ {A = ℕ} 0 1 = cc in omega arith
-    go false false false false false false false false false false false false false false false false false h = let z : _≡_ {A = ℕ} 0 1 = cc in omega arith
+    go true b c d e k = true≢false k
+    go false true c d e k = true≢false k
+    go false false true d e k = true≢false k
+    go false false false true e k = true≢false k
+    go false false false false true k = true≢false k
+    go false false false false false k = true≢false k
 
 item-row : (row : ℕ) (s vs ps : List ℕ) (i : Item) → commandOf row s vs ps ≡ item i → (isItem row ≡ true) × (itemOf row vs ps ≡ i)
 item-row row s vs ps i h = go (isItem row) h
@@ -498,22 +474,14 @@ unplaced-same row vs ps qs = go (eqb row 2) (eqb row 8) (eqb row 9) (eqb row 10)
     go false false false false false false true = refl
     go false false false false false false false = refl
 
--- THE NORMAL FORM: the same command, the same contents, and itself when it is written again
-pub record Normal (rows : ℕ) (s : List ℕ) (i : Item) : Type 0 where
-  pub back : Item
-  pub read : readOf rows (normal s) ≡ Taken (item back)
-  pub same : unplaced back ≡ unplaced i
-  pub content : contents (normal s) ≡ contents s
-  pub again : normal (normal s) ≡ normal s
-
-normal-row : (rows : ℕ) (s : List ℕ) (i : Item) (row : ℕ) (vs ps : List ℕ) → headOf (getD s 0 0) (getD s 1 0) ≡ Row row
+normal-row : (rows : ℕ) (s : List ℕ) (i : Item) (row : ℕ) (vs ps : List ℕ) → headOf s ≡ Row row
     → fieldsFrom (rowOf row .fields) s 0 ≡ good vs ps → limitsFrom (rowOf row .fields) (boundsOf row rows) s 0 vs ps ≡ Within
     → commandOf row s vs ps ≡ item i → Normal rows s i
 normal-row rows s i row vs ps h k l c =
     let fs : List ℕ = rowOf row .fields in
     let w : List ℕ = writtenFrom fs s vs ps in
     let m : Kept fs s vs ps w 0 = fields-kept fs s 0 vs ps [] (row-sound row) k in
-    let b : headOf (getD w 0 0) (getD w 1 0) ≡ Row row = head-back row fs s vs ps (row-headed row) (row-some s row vs ps h k) k in
+    let b : headOf w ≡ Row row = head-back row fs s vs ps (λ c. row-headed c row) (row-some s row vs ps h k) k in
     let n : normal s ≡ w = normal-is s row vs ps h k in
     let o = item-row row s vs ps i c in
     let r : readOf rows w ≡ Taken (item (itemOf row vs (m .places))) =
@@ -533,26 +501,26 @@ pub record Parted (rows : ℕ) (s : List ℕ) (i : Item) : Type 0 where
   pub row : ℕ
   pub vs : List ℕ
   pub ps : List ℕ
-  pub head : headOf (getD s 0 0) (getD s 1 0) ≡ Row row
+  pub head : headOf s ≡ Row row
   pub read : fieldsFrom (rowOf row .fields) s 0 ≡ good vs ps
   pub within : limitsFrom (rowOf row .fields) (boundsOf row rows) s 0 vs ps ≡ Within
   pub command : commandOf row s vs ps ≡ item i
 
 pub item-parted : (rows : ℕ) (s : List ℕ) (i : Item) → readOf rows s ≡ Taken (item i) → Parted rows s i
 unfolding readOf headRead judged
-item-parted rows s i h = go (headOf (getD s 0 0) (getD s 1 0)) refl h
+item-parted rows s i h = go (headOf s) refl h
   where
-    within : (row : ℕ) (vs ps : List ℕ) (l : Limits) → headOf (getD s 0 0) (getD s 1 0) ≡ Row row → fieldsFrom (rowOf row .fields) s 0 ≡ good vs ps
+    within : (row : ℕ) (vs ps : List ℕ) (l : Limits) → headOf s ≡ Row row → fieldsFrom (rowOf row .fields) s 0 ≡ good vs ps
         → limitsFrom (rowOf row .fields) (boundsOf row rows) s 0 vs ps ≡ l → decided l (commandOf row s vs ps) ≡ Taken (item i) → Parted rows s i
     within row vs ps Within a b c d = record { row = row; vs = vs; ps = ps; head = a; read = b; within = c; command = cc }
     within row vs ps (Outside p) a b c d = absurd (let z : _≡_ {A = ℕ} 0 1 = cc in omega arith)
 
-    fields : (row : ℕ) (g : Got) → headOf (getD s 0 0) (getD s 1 0) ≡ Row row → fieldsFrom (rowOf row .fields) s 0 ≡ g
+    fields : (row : ℕ) (g : Got) → headOf s ≡ Row row → fieldsFrom (rowOf row .fields) s 0 ≡ g
         → judged row rows s g ≡ Taken (item i) → Parted rows s i
     fields row (good vs ps) a b c = within row vs ps (limitsFrom (rowOf row .fields) (boundsOf row rows) s 0 vs ps) a b refl c
-    fields row (bad p) a b c = absurd (let z : _≡_ {A = ℕ} 0 1 = cc in omega arith)
+    fields row (bad vs ps p) a b c = absurd (let z : _≡_ {A = ℕ} 0 1 = cc in omega arith)
 
-    go : (x : Head) → headOf (getD s 0 0) (getD s 1 0) ≡ x → headRead x rows s ≡ Taken (item i) → Parted rows s i
+    go : (x : Head) → headOf s ≡ x → headRead x rows s ≡ Taken (item i) → Parted rows s i
     go (Row row) a c = fields row (fieldsFrom (rowOf row .fields) s 0) a refl c
     go Unknown a c = absurd (let z : _≡_ {A = ℕ} 0 1 = cc in omega arith)
 

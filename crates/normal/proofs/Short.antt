@@ -26,7 +26,7 @@ use Rattle.fields.specs.Bytes.{inClass, digitOf, valueFrom}
 use Rattle.fields.specs.Field.{part, runAt, numberAt, textAt, signedAt, plus, minus, letterAt, typeAt, byteAt, nought, Small}
 use Rattle.fields.specs.Data.{first, last, middle, middle-dot, middle-n, modifierAt, quotedFrom, modified, heldAt, elementAt, pointed, after, follow, elementsFrom, elements, total, stopped, dataAt}
 use Rattle.fields.proofs.Laws.{digit-small, value-fits, number-small, and-T}
-use Rattle.read.specs.Grammar.{forms, rowOf, boundsOf, spread, free, isNumber, fieldAt, fieldsFrom, good, bad, beyond, fieldLimits, firstOf, limitsFrom}
+use Rattle.read.specs.Grammar.{forms, rowOf, boundsOf, spread, free, isNumber, fieldAt, fieldsFrom, good, bad, meets, fieldLimits, firstOf, limitsFrom}
 use Rattle.read.specs.Commands.{readOf}
 use Rattle.read.specs.declared.Item.{Item}
 use Rattle.read.specs.declared.Command.the-variants.{Item as item}
@@ -295,7 +295,7 @@ fields-end : (s : List ℕ) (at : ℕ) (vs ps : List ℕ) → fieldsFrom [] s at
 unfolding fieldsFrom
 fields-end s at vs ps h = go (eqb at (length s)) refl h
   where
-    go : (t : Bool) → eqb at (length s) ≡ t → cond t (good [] []) (bad at) ≡ good vs ps → at ≡ length s
+    go : (t : Bool) → eqb at (length s) ≡ t → cond t (good [] []) (bad [] [] at) ≡ good vs ps → at ≡ length s
     go true q k = eqb-true at (length s) q
     go false q k = absurd (let z : _≡_ {A = ℕ} 0 1 = cc in omega arith)
 
@@ -346,7 +346,7 @@ signed-narrow v h k = go (decLt v nought)
 field-narrow : {f : ℕ} (x : Letter f) (s : List ℕ) (at v e : ℕ) (l : ℕ × ℕ) (u : ℕ) → T (narrow f) → fieldAt f s at ≡ Is v e
     → fieldLimits f l s u v at ≡ Within
     → length (writtenField f s v at) ≤ widest f l
-unfolding fieldAt writtenField fieldLimits beyond
+unfolding fieldAt writtenField fieldLimits meets
 field-narrow a-number s at v e l u t h k = decimal-narrow v (number-fits s at v e h)
 field-narrow a-wide s at v e l u t h k = decimal-narrow v (number-fits s at v e h)
 field-narrow a-step s at v e l u t h k = let q = signed-fits s at v e h in signed-narrow v (q .0) (q .1)

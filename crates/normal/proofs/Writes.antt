@@ -17,10 +17,11 @@ use Rattle.fields.specs.declared.Element.{Element}
 use Rattle.fields.specs.declared.Step.the-variants.{Next, Stop}
 use Rattle.fields.proofs.Steps.{elements-next, elements-stop}
 use Rattle.read.specs.Grammar.{Got, good, bad, rowOf, fieldsFrom, Filled}
-use Rattle.read.specs.Names.{capital}
+use Rattle.parts.specs.Names.{capital}
 use Rattle.read.specs.declared.Fields.{Fields}
 use Rattle.read.specs.declared.Fields.the-variants.{All, Bad}
-use Rattle.read.proofs.Rows.{Same, same-drop, zeros, padded, fields-count, row-short}
+use Rattle.grammar.proofs.Rows.{row-short}
+use Rattle.read.proofs.Rows.{Same, same-drop, zeros, padded, fields-count}
 use Rattle.normal.specs.Written.{Wrote, digits, cased, kept, writtenField, writtenFrom, writtenOf, elementWritten, dataWritten, equal}
 
 -- ---- storing one list after another
@@ -187,13 +188,13 @@ module _ (fs s vs ps : List ℕ) (i : ℕ) where
 pub written-bad : (row : ℕ) (s : List ℕ) (g : Got) (r : Fields) (vs₀ ps₀ vs ps : List ℕ) (p : ℕ) → Filled g vs₀ ps₀ r vs ps → r ≡ Bad p
     → writtenOf row s g ≡ []
 unfolding writtenOf
-written-bad row s (bad q) r vs₀ ps₀ vs ps p h e = refl
+written-bad row s (bad ws qs q) r vs₀ ps₀ vs ps p h e = refl
 written-bad row s (good ws qs) r vs₀ ps₀ vs ps p h e = absurd (let z : _≡_ {A = ℕ} 0 1 = cc in omega arith)
 
 written-fields : (row : ℕ) (s : List ℕ) (g : Got) (r : Fields) (vs ps : List ℕ) → fieldsFrom (rowOf row .fields) s 0 ≡ g
     → Filled g zeros zeros r vs ps → r ≡ All → writtenOf row s g ≡ writtenFrom (rowOf row .fields) s vs ps
 unfolding writtenOf
-written-fields row s (bad q) r vs ps k h e = absurd (let z : _≡_ {A = ℕ} 0 1 = cc in omega arith)
+written-fields row s (bad ws qs q) r vs ps k h e = absurd (let a = h .0 in let z : _≡_ {A = ℕ} 0 1 = cc in omega arith)
 written-fields row s (good ws qs) r vs ps k h e =
     let n = fields-count (rowOf row .fields) s 0 ws qs k in
     let l = row-short row in

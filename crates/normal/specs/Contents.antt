@@ -10,8 +10,8 @@ use Rattle.fields.specs.declared.What.{What}
 use Rattle.fields.specs.declared.What.the-variants.{Text as Quote}
 use Rattle.fields.specs.declared.Element.{Element}
 use Rattle.read.specs.Grammar.{Got, good, bad, rowOf, headOf, fieldsFrom}
-use Rattle.read.specs.declared.Head.{Head}
-use Rattle.read.specs.declared.Head.the-variants.{Row, Unknown}
+use Rattle.grammar.specs.declared.Head.{Head}
+use Rattle.grammar.specs.declared.Head.the-variants.{Row, Unknown}
 use Rattle.read.specs.declared.Item.{Item}
 use Rattle.read.specs.declared.Item.the-variants.{Origin, Variable, Counter, Text, Bars, Box, Frame, Picture}
 use Rattle.normal.specs.Written.{kept, cased, elementWritten}
@@ -46,7 +46,7 @@ heldBy (f ∷ fs) s vs ps = held f s (getD vs 0 0) (getD ps 0 0) ++ heldBy fs s 
 
 unfoldable pub contentsOf : ℕ → List ℕ → Got → List (What × List ℕ)
 contentsOf row s (good vs ps) = heldBy (rowOf row .fields) s vs ps
-contentsOf row s (bad p) = []
+contentsOf row s (bad vs ps p) = []
 
 unfoldable pub headContents : Head → List ℕ → List (What × List ℕ)
 headContents (Row row) s = contentsOf row s (fieldsFrom (rowOf row .fields) s 0)
@@ -54,4 +54,4 @@ headContents Unknown s = []
 
 -- the contents of a line: its name, prompt, text or data
 abbrev pub contents : List ℕ → List (What × List ℕ)
-contents s = headContents (headOf (getD s 0 0) (getD s 1 0)) s
+contents s = headContents (headOf s) s

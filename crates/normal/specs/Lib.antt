@@ -1,2 +1,3 @@
 pub mod Written
 pub mod Contents
+pub mod Promise

@@ -16,34 +16,15 @@ use Rattle.fields.specs.declared.What.{What}
 use Rattle.fields.specs.declared.What.the-variants.{Text, Variable, Counter}
 use Rattle.fields.specs.declared.Element.{Element}
 use Rattle.read.specs.Grammar.{Got, good, bad, rowOf, headOf, fieldsFrom}
-use Rattle.read.specs.Names.{capital}
+use Rattle.parts.specs.Names.{capital}
 use Rattle.read.specs.Commands.{readOf}
 use Rattle.read.specs.declared.Command.{Command}
-use Rattle.read.specs.declared.Command.the-variants.{
-  Item as item,
-  Length,
-  Width,
-  Turn,
-  Start,
-  End,
-  Retrieve,
-  EraseForm,
-  ListForms,
-  PrintForm,
-  Store,
-  ListPictures,
-  ErasePicture,
-  SetVariable,
-  SetCounter,
-  Clear,
-  Print,
-  White as Whiten,
-}
+use Rattle.read.specs.declared.Command.the-variants.{Item as item, End, Page, Forms, Pictures, Values, Listing}
 use Rattle.read.specs.declared.Fault.the-variants.{Form as form}
 use Rattle.read.specs.declared.Read.{Read}
 use Rattle.read.specs.declared.Read.the-variants.{Taken, Refused}
-use Rattle.read.specs.declared.Head.{Head}
-use Rattle.read.specs.declared.Head.the-variants.{Row, Unknown}
+use Rattle.grammar.specs.declared.Head.{Head}
+use Rattle.grammar.specs.declared.Head.the-variants.{Row, Unknown}
 
 -- "leading zeros dropped": the digits of n before those of acc, at most f + 1 of them
 unfoldable pub digits : ℕ → ℕ → List ℕ → List ℕ
@@ -106,14 +87,14 @@ writtenFrom (f ∷ fs) s vs ps = writtenField f s (getD vs 0 0) (getD ps 0 0) ++
 -- the normal form of a line; of what is no line of the language, nothing
 unfoldable pub writtenOf : ℕ → List ℕ → Got → List ℕ
 writtenOf row s (good vs ps) = writtenFrom (rowOf row .fields) s vs ps
-writtenOf row s (bad p) = []
+writtenOf row s (bad vs ps p) = []
 
 unfoldable pub headWritten : Head → List ℕ → List ℕ
 headWritten (Row row) s = writtenOf row s (fieldsFrom (rowOf row .fields) s 0)
 headWritten Unknown s = []
 
 abbrev pub normal : List ℕ → List ℕ
-normal s = headWritten (headOf (getD s 0 0) (getD s 1 0)) s
+normal s = headWritten (headOf s) s
 
 -- o is out with xs stored from at on, as far as it fits, and r the place after them
 pub record Wrote (out : List ℕ) (at : ℕ) (xs : List ℕ) (r : ℕ) (o : List ℕ) : Type 0 where
@@ -124,23 +105,12 @@ pub record Wrote (out : List ℕ) (at : ℕ) (xs : List ℕ) (r : ℕ) (o : List
 
 abbrev pub isItem : Command → Bool
 isItem (item i) = true
-isItem (Length x) = false
-isItem (Width x) = false
-isItem (Turn x) = false
-isItem (Start x) = false
 isItem End = false
-isItem (Retrieve x) = false
-isItem (EraseForm x) = false
-isItem ListForms = false
-isItem (PrintForm x) = false
-isItem (Store x) = false
-isItem ListPictures = false
-isItem (ErasePicture x) = false
-isItem (SetVariable x) = false
-isItem (SetCounter x) = false
-isItem Clear = false
-isItem (Print x) = false
-isItem Whiten = false
+isItem (Page c) = false
+isItem (Forms c) = false
+isItem (Pictures c) = false
+isItem (Values c) = false
+isItem (Listing c) = false
 
 abbrev pub takenItem : Read → Bool
 takenItem (Taken c) = isItem c

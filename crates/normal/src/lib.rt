@@ -11,24 +11,25 @@ ghost use Prim.Native.Nat.{_+_, _≤_, _<_, min};
 ghost use lib.ListN.{length, getD};
 ghost use lib.Dec.{eqb};
 ghost use Rattle.fields.specs.Data.{elements};
-ghost use Rattle.read.specs.Names.{capital};
+ghost use Rattle.parts.specs.Names.{capital};
 ghost use Rattle.read.specs.Grammar.{rowOf, Form};
 ghost use Rattle.normal.specs.Written.{Wrote, decimal, digits, signed, cased, kept, partWritten, whatWritten, elementWritten, dataWritten, writtenField, writtenFrom, normal, equal, ownRead};
 use fields::Part;
 use fields::Step;
 use fields::What;
 use fields::element_at;
+use grammar::Head;
+use grammar::heads::head_of;
+use grammar::table::line_up;
+use ground::least;
+use parts::first;
+use parts::folded;
+use parts::rest;
 use read::Fault;
 use read::Fields;
-use read::Head;
 use read::Read;
-use read::heads::head_of;
-use read::input::first;
-use read::input::rest;
 use read::lines::read_fields;
 use read::lines::within;
-use read::names::folded;
-use read::table::line_up;
 
 // Stores a byte, if there is room, and answers the place after it.
 fn put(out: &mut [u8], at: usize, b: u8) -> usize
@@ -46,12 +47,6 @@ fn case(fold: bool, b: u8) -> u8
     ensures { λ r. ⌜ r ≡ cond fold (capital b) b ⌝ }
 {
     if fold { folded(b) } else { b }
-}
-
-fn least(a: usize, b: usize) -> usize
-    ensures { λ r. ⌜ r ≡ min a b ⌝ }
-{
-    if a < b { a } else { b }
 }
 
 // Copies bytes, in capitals or as they are, as far as there is room.
@@ -264,7 +259,7 @@ pub fn put_decimal(n: usize, out: &mut [u8], at: usize) -> usize
 pub fn write(line: &[u8], out: &mut [u8]) -> usize
     ensures { λ r. ⌜ Wrote (now (out .entry)) 0 (normal (now (line .entry))) r (now (out .exit)) ⌝ }
 {
-    let Head::Row(row) = head_of(fields::byte(line, 0), fields::byte(line, 1)) else {
+    let Head::Row(row) = head_of(line) else {
         return 0;
     };
     let mut vs = [0usize; 18];
@@ -281,8 +276,8 @@ fn differs(x: u8, y: u8) -> u8
     if x == y { 0 } else { 1 }
 }
 
-// No early exit, so that many bytes go at once.
-fn same(a: &[u8], b: &[u8]) -> bool
+// Whether two slices hold the same bytes. No early exit, so that many bytes go at once.
+pub fn same(a: &[u8], b: &[u8]) -> bool
     ensures { λ r. ⌜ r ≡ equal (now (a .entry)) (now (b .entry)) ⌝ }
 {
     if a.len() != b.len() {
@@ -305,7 +300,7 @@ pub fn own_line(line: &[u8]) -> Read
     if 255 < line.len() {
         return Read::Refused(Fault::Form(0));
     }
-    let Head::Row(row) = head_of(fields::byte(line, 0), fields::byte(line, 1)) else {
+    let Head::Row(row) = head_of(line) else {
         return Read::Refused(Fault::Form(0));
     };
     let mut vs = [0usize; 18];

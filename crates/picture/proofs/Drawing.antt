@@ -12,9 +12,9 @@ use lib.Dec.{ltb}
 use borrow.Author.Tests.{ltb-true, lt-ltb, not-true}
 use Rattle.dots.specs.declared.Ink.the-variants.{Black}
 use Rattle.dots.specs.Dots.{drawn, box, cut, bitOf, rows}
-use Rattle.dots.proofs.Bits.{is-false, and-true}
 use Rattle.dots.proofs.Pages.{Bytes, drawn-ext, drawn-off}
 use Rattle.dots.proofs.Shapes.{In, in-box, box-in, same-test}
+use Rattle.ground.proofs.Tests.{is-false, and-true}
 use Rattle.picture.specs.Rules as rules
 use Rattle.picture.specs.Rules.{times, next, given, decoded, legal, lineByte, lineBytes}
 use Rattle.picture.specs.declared.inking.Spot.{Spot}

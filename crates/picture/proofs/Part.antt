@@ -11,14 +11,16 @@ use native.Mathlib.Omega.{arith}
 use lib.Dec.{leb, ltb}
 use borrow.Author.Tests.{leb-true, ltb-true, le-leb, lt-ltb, not-true}
 use Rattle.dots.specs.declared.Ink.the-variants.{Black}
-use Rattle.dots.specs.Dots.{drawn, box, bitOf, within}
-use Rattle.dots.proofs.Bits.{bit-of-byte, is-false, and-true}
+use Rattle.dots.specs.Dots.{drawn, box, bitOf, eights, within}
+use Rattle.dots.proofs.Bits.{bit-of-byte}
+use Rattle.dots.proofs.EightDots.{eights-says, says-eights}
 use Rattle.dots.proofs.Pages.{Bytes, drawn-ext, drawn-off}
 use Rattle.dots.proofs.Shapes.{In, in-box, box-in, same-test}
+use Rattle.ground.proofs.Tests.{is-false, and-true}
 use Rattle.picture.specs.declared.inking.Spot.{Spot}
-use Rattle.picture.specs.Steps.{eight, darkByte, indexAt, part, Fits}
+use Rattle.picture.specs.Steps.{darkByte, indexAt, part, Fits}
 use Rattle.picture.proofs.Bits.{white-bit}
-use Rattle.picture.proofs.Shape.{eight-says, says-eight, either-test, then-drawn}
+use Rattle.picture.proofs.Shape.{either-test, then-drawn}
 
 -- ---- lines of n bytes: byte c of line v
 pub lines-below : (v h n c : ℕ) → c < n → v < h → v * n + c < h * n
@@ -111,10 +113,10 @@ module _ (p : Spot) (q v row col : ℕ) (at : row * p .line + col ≡ q) (cl : c
       omega (arith, found (λ k. v) a b h .1, i .right, i .left))
 
   given-part : (x n : ℕ) → x ≡ p .x + col * 8 → n ≡ min 8 (p .right - x) → p .y + row < p .bottom
-      → (a b : ℕ) → eight x (p .y + row) (darkByte v n) a b ≡ part p (λ k. v) q (q + 1) a b
+      → (a b : ℕ) → eights x (p .y + row) (p .y + row + 1) (darkByte v n) a b ≡ part p (λ k. v) q (q + 1) a b
   given-part x n hx hn hr a b =
-      same-test (eight x (p .y + row) (darkByte v n) a b) (part p (λ k. v) q (q + 1) a b)
-      (λ e. let h = eight-says x (p .y + row) (darkByte v n) a b e in
+      same-test (eights x (p .y + row) (p .y + row + 1) (darkByte v n) a b) (part p (λ k. v) q (q + 1) a b)
+      (λ e. let h = eights-says x (p .y + row) (p .y + row + 1) (darkByte v n) a b e in
       let w = h .there in
       let k = and-true (ltb (a - x) n) (not (bitOf v (a - x))) (sym (bit-of-byte (λ k. ltb k n && not (bitOf v k)) (a - x) (omega arith)) ∙ h .bit) in
       let s = ltb-true (a - x) n (k .0) in
@@ -137,7 +139,7 @@ module _ (p : Spot) (q v row col : ℕ) (at : row * p .line + col ≡ q) (cl : c
       let dot : a - x ≡ (a - p .x) % 8 = omega (arith, w .left) in
       let small : a - x < n = omega (arith, w .left, w .right) in
       let dark : bitOf v (a - x) ≡ false = rw dot (h .bit) in
-      says-eight x (p .y + row) (darkByte v n) a b
+      says-eights x (p .y + row) (p .y + row + 1) (darkByte v n) a b
       (record {
         there = record { left = omega (arith, w .left); right = omega (arith, w .left); top = omega (arith, w .top); bottom = omega (arith, w .top) };
         bit = bit-of-byte (λ k. ltb k n && not (bitOf v k)) (a - x) (omega arith) ∙ rw (lt-ltb (a - x) n small, dark);
@@ -154,10 +156,10 @@ module _ (p : Spot) (q : ℕ) (page : List ℕ) (fits : Fits p q page) where
       omega arith
 
   pub then-given : (v m n x y : ℕ) (r : List ℕ) → q < p .last → x ≡ p .x + q % p .line * 8 → y ≡ p .y + q / p .line
-      → n ≡ min 8 (p .right - x) → m ≡ darkByte v n → r ≡ drawn Black (eight x y m) page → r ≡ drawn Black (part p (λ k. v) q (q + 1)) page
+      → n ≡ min 8 (p .right - x) → m ≡ darkByte v n → r ≡ drawn Black (eights x y (y + 1) m) page → r ≡ drawn Black (part p (λ k. v) q (q + 1)) page
   then-given v m n x y r h hx hy hn hm e =
-      e ∙ (λ i. drawn Black (eight x (hy i) (hm i)) page)
-      ∙ drawn-ext Black (eight x (p .y + q / p .line) (darkByte v n)) (part p (λ k. v) q (q + 1)) page
+      e ∙ (λ i. drawn Black (eights x (hy i) (hy i + 1) (hm i)) page)
+      ∙ drawn-ext Black (eights x (p .y + q / p .line) (p .y + q / p .line + 1) (darkByte v n)) (part p (λ k. v) q (q + 1)) page
       (λ a b s t. given-part p q v (q / p .line) (q % p .line) line-of (mod-lt q (fits .some)) (fits .holds) x n hx hn (row-drawn h) a b)
 
   pub nothing-given : (v : ℕ) → Bytes page → p .right ≤ p .x + q % p .line * 8 → page ≡ drawn Black (part p (λ k. v) q (q + 1)) page

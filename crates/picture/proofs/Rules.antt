@@ -10,7 +10,7 @@ use native.Mathlib.Omega.{arith}
 use borrow.Author.Tests.{leb-true, eqb-true}
 use lib.ListN.{length, getD, List·getD-eq-default}
 use lib.Dec.{leb, eqb}
-use Rattle.dots.proofs.Bits.{and-true}
+use Rattle.ground.proofs.Tests.{and-true}
 use Rattle.picture.specs.Rules.{emptyRun, noEmptyRun, waiting, sized, ten, version, ones, ordered, measured, lined, width, height, lineBytes, headed, filled, legal, body, decoded}
 use Rattle.picture.proofs.Runs.{passing-start, passing-stop}
 

@@ -11,6 +11,10 @@ abbrev pub word : List ℕ → ℕ → ℕ
 word bytes at = getD bytes at 0 + getD bytes (at + 1) 0 * 256
 
 -- ---- the header
+-- the bytes before the runs: "From byte 128"
+abbrev pub headerBytes : ℕ
+headerBytes = 128
+
 -- "129 to 32,768 bytes"
 abbrev pub sized : List ℕ → Bool
 sized bytes = leb 129 (length bytes) && leb (length bytes) 32768
@@ -84,7 +88,7 @@ waiting n [] = n
 waiting n (b ∷ bs) = waiting (next n b) bs
 
 abbrev pub body : List ℕ → List ℕ
-body bytes = drop 128 bytes
+body bytes = drop headerBytes bytes
 
 -- "Runs give exactly line bytes times height and end the file": none waits for its value there. A run across lines is as any other
 unfoldable pub filled : List ℕ → ℕ → Bool

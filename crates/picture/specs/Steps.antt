@@ -1,4 +1,4 @@
--- What the functions within this crate draw at a time. Nothing of what the crate promises is said with these.
+-- Serves the code alone: what the functions within this crate draw at a time. Nothing of what the crate promises is said with these.
 -- Assumes nothing.
 use Prim.Native.Nat.{ℕ, _+_, _-_, _*_, _/_, _%_, _≤_, _<_, min}
 use mathlib.Core.Path.{_≡_}
@@ -6,13 +6,9 @@ use mathlib.Core.Bool.{Bool, not, _&&_}
 use mathlib.Core.List.{List}
 use lib.ListN.{length}
 use lib.Dec.{ltb}
-use Rattle.dots.specs.Dots.{box, bitOf, byteOf, within}
+use Rattle.dots.specs.Dots.{bytesARow, dotsARow, box, bitOf, byteOf, within}
 use Rattle.picture.specs.Rules as rules
 use Rattle.picture.specs.declared.inking.Spot.{Spot}
-
--- the eight dots of the byte m, from x, y on
-unfoldable pub eight : ℕ → ℕ → ℕ → ℕ → ℕ → Bool
-eight x y m a b = box x y (x + 8) (y + 1) a b && bitOf m (a - x)
 
 -- the first n dots of a byte, turned over
 abbrev pub darkByte : ℕ → ℕ → ℕ
@@ -29,8 +25,8 @@ part p f lo hi a b =
 
 -- a place that a page's numbers have room for, and a picture's byte number that is not too large
 pub record Fits (p : Spot) (q : ℕ) (page : List ℕ) : Type 0 where
-  pub left : p .x < 608
-  pub top : p .y < length page / 76
+  pub left : p .x < dotsARow
+  pub top : p .y < length page / bytesARow
   pub some : 0 < p .line
   pub holds : p .right ≤ p .x + p .line * 8
   pub ends : p .last ≡ (p .bottom - p .y) * p .line

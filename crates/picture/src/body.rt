@@ -1,9 +1,12 @@
 // The body, from byte 128 on: runs, read one byte at a time. n is the run that waits for its value, and 0 where none waits.
-use crate::numbers::both;
+use ground::both;
 ghost use mathlib.Core.Path.{_≡_};
 ghost use Prim.Native.Nat.{_≤_};
 ghost use lib.ListN.{length, drop};
-ghost use Rattle.picture.specs.Rules.{times, next, emptyRun, filled};
+ghost use Rattle.picture.specs.Rules.{headerBytes, times, next, emptyRun, filled};
+
+// "From byte 128".
+pub(crate) const HEADER_BYTES: usize = 128;
 
 pub(crate) fn times_of(n: usize, b: u8) -> usize
     ensures { λ r. ⌜ r ≡ times n b ⌝ }
@@ -34,9 +37,9 @@ fn empty_run(n: usize, b: u8) -> bool
 // One pass, in which the bytes that the runs give are counted and not kept.
 pub(crate) fn filled_ok(bytes: &[u8], total: usize) -> bool
     requires { ⌜ length (now bytes) ≤ 32768 ⌝ }
-    ensures { λ r. ⌜ r ≡ filled (drop 128 (now (bytes .entry))) total ⌝ }
+    ensures { λ r. ⌜ r ≡ filled (drop headerBytes (now (bytes .entry))) total ⌝ }
 {
-    let mut i: usize = 128;
+    let mut i: usize = HEADER_BYTES;
     let mut n: usize = 0;
     let mut count: usize = 0;
     while i < bytes.len() {

@@ -1,23 +1,13 @@
 // The header, bytes 0 to 127: the numbers that it holds, and one function for each of its rules.
-use crate::numbers::both;
-use crate::numbers::less;
+use ground::both;
+use ground::byte_at;
+use ground::less;
 ghost use mathlib.Core.Path.{_≡_};
 ghost use Prim.Native.Nat.{_≤_, _<_};
-ghost use lib.ListN.{getD};
-ghost use Rattle.picture.specs.Rules.{word, width, height, lineBytes, sized, ten, version, ones, ordered, measured, lined, headed};
-
-pub(crate) fn byte_at(bytes: &[u8], at: usize) -> usize
-    ensures { λ r. ⌜ (r ≡ getD (now (bytes .entry)) at 0) × (r < 256) ⌝ }
-{
-    if at < bytes.len() {
-        bytes[at] as usize
-    } else {
-        0
-    }
-}
+ghost use Rattle.picture.specs.Rules.{headerBytes, word, width, height, lineBytes, sized, ten, version, ones, ordered, measured, lined, headed};
 
 pub(crate) fn word_at(bytes: &[u8], at: usize) -> usize
-    requires { ⌜ at < 128 ⌝ }
+    requires { ⌜ at < headerBytes ⌝ }
     ensures { λ r. ⌜ (r ≡ word (now (bytes .entry)) at) × (r < 65536) ⌝ }
 {
     byte_at(bytes, at) + byte_at(bytes, at + 1) * 256

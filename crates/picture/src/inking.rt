@@ -1,19 +1,20 @@
-// A picture drawn: eight dots at a time in one byte of the page or two, each run at once, rows outside the page passed over.
+// A picture drawn: eight dots at a time, each run at once, rows outside the page passed over.
+use crate::body::HEADER_BYTES;
 use crate::body::next_of;
 use crate::body::times_of;
 use crate::header::height_of;
 use crate::header::line_bytes;
 use crate::header::width_of;
-use crate::numbers::least;
-use crate::numbers::less;
+use dots::Ink;
+use ground::least;
+use ground::less;
 ghost use mathlib.Core.Path.{_≡_};
-ghost use Prim.Native.Nat.{ℕ, _+_, _*_, _^_, _≤_, _<_};
-ghost use lib.Bits.{bitOr};
+ghost use Prim.Native.Nat.{_+_, _*_, _^_, _≤_, _<_};
 ghost use lib.ListN.{length, getD};
-ghost use Rattle.dots.specs.Dots.{drawn};
+ghost use Rattle.dots.specs.Dots.{dotsARow, drawn};
 ghost use Rattle.dots.specs.declared.Ink.the-variants.{Black};
 ghost use Rattle.picture.specs.Rules.{decoded};
-ghost use Rattle.picture.specs.Steps.{eight, darkByte, part, Fits, spotOf};
+ghost use Rattle.picture.specs.Steps.{darkByte, part, Fits, spotOf};
 
 // Where a picture stands on a page: its corner, the column and the row at which it ends or is cut, the bytes of its lines, and how many of its bytes
 // stand above that row.
@@ -24,36 +25,6 @@ pub(crate) struct Spot {
     pub(crate) bottom: usize,
     pub(crate) line: usize,
     pub(crate) last: usize,
-}
-
-fn either(b: u8, m: u8) -> u8
-    ensures { λ r. ⌜ r ≡ bitOr b m ⌝ }
-{
-    b | m
-}
-
-// Blackens the dots of the mask m in byte i of row y, where the page has it.
-fn ink_at(page: &mut [u8], i: usize, y: usize, m: u8)
-    ensures { λ _. ⌜ now (page .exit) ≡ drawn Black (eight (i * 8) y m) (now (page .entry)) ⌝ }
-{
-    if 76 <= i {
-        return;
-    }
-    if page.len() / 76 <= y {
-        return;
-    }
-    let at = y * 76 + i;
-    page[at] = either(page[at], m);
-}
-
-// Blackens the dots of the mask m from x, y on: they stand in one byte of the page or two.
-fn ink_eight(page: &mut [u8], x: usize, y: usize, m: u8)
-    ensures { λ _. ⌜ now (page .exit) ≡ drawn Black (eight x y m) (now (page .entry)) ⌝ }
-{
-    let i = x / 8;
-    let pair = (m as u32 * 256) >> (x % 8);
-    ink_at(page, i, y, (pair / 256) as u8);
-    ink_at(page, i + 1, y, (pair % 256) as u8);
 }
 
 // The mask of the black dots among the first n of a picture's byte.
@@ -76,7 +47,8 @@ fn ink_given(page: &mut [u8], p: Spot, q: usize, v: u8)
         return;
     }
     let n = least(8, p.right - x);
-    ink_eight(page, x, p.y + q / line, dark_byte(v, n));
+    let y = p.y + q / line;
+    dots::ink_eights(page, Ink::Black, x, y, y + 1, dark_byte(v, n));
 }
 
 // Draws a picture's bytes number q up to end, each of which is v. Where v is white, and below the last row, no dot is touched.
@@ -100,7 +72,7 @@ pub(crate) fn ink_runs(page: &mut [u8], p: Spot, bytes: &[u8])
     requires { ⌜ Fits p (length (decoded (now bytes))) (now page) ⌝ }
     ensures { λ _. ⌜ now (page .exit) ≡ drawn Black (part p (λ k. getD (decoded (now (bytes .entry))) k 0) 0 (length (decoded (now (bytes .entry))))) (now (page .entry)) ⌝ }
 {
-    let mut i: usize = 128;
+    let mut i: usize = HEADER_BYTES;
     let mut n: usize = 0;
     let mut q: usize = 0;
     while i < bytes.len() {
@@ -122,7 +94,7 @@ pub(crate) fn spot_on(
     y: usize,
     bytes: &[u8],
 ) -> Spot
-    requires { ⌜ (x < 608) × (y < rows) × (rows < 2 ^ 60) ⌝ }
+    requires { ⌜ (x < dotsARow) × (y < rows) × (rows < 2 ^ 60) ⌝ }
     ensures { λ r. ⌜ r ≡ spotOf rows width length x y (now (bytes .entry)) ⌝ }
 {
     let right = least(x + width_of(bytes), width);

@@ -4,7 +4,6 @@
 // length: a picture is judged in one pass and drawn in one pass, byte by byte and with no room for what its runs give, and the page afterwards is the page
 // before with the picture's black dots set, as far as they stand within the label's width and length. Bytes that are no legal picture draw nothing.
 // Where a picture is stored and what its name is, is left to others.
-mod numbers; // numbers.rt: tests and numbers put together
 mod header; // header.rt: the header's numbers and rules
 mod body; // body.rt: the runs, judged
 mod inking; // inking.rt: the runs, drawn
@@ -15,6 +14,8 @@ ghost use Rattle.dots.specs.Dots.{drawn, cut};
 ghost use Rattle.dots.specs.declared.Ink.the-variants.{Black};
 ghost use Rattle.picture.specs.Rules.{legal};
 ghost use Rattle.picture.specs.Shape.{pictured};
+use dots::BYTES_A_ROW;
+use dots::DOTS_A_ROW;
 
 // Whether the bytes are a legal picture.
 pub fn is_legal(bytes: &[u8]) -> bool
@@ -31,8 +32,8 @@ pub fn is_legal(bytes: &[u8]) -> bool
 pub fn draw(page: &mut [u8], width: usize, length: usize, x: usize, y: usize, bytes: &[u8])
     ensures { λ _. ⌜ now (page .exit) ≡ drawn Black (cut width length (pictured (now (bytes .entry)) x y)) (now (page .entry)) ⌝ }
 {
-    let rows = page.len() / 76;
-    if 608 <= x {
+    let rows = page.len() / BYTES_A_ROW;
+    if DOTS_A_ROW <= x {
         return;
     }
     if rows <= y {

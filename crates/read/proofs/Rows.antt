@@ -1,159 +1,27 @@
--- Laws on the rows of the grammar, and on what reading a row's fields leaves in two arrays.
+-- Laws on the fields of a row, and on what reading them leaves in two arrays.
 use mathlib.Core.Path.{_≡_, _∙_, refl, sym, ap}
-use mathlib.Core.Bool.{Bool, true, false, cond, _&&_}
+use mathlib.Core.Bool.{Bool, true, false, cond}
 use mathlib.Core.List.{List, [], _∷_, _++_}
-use Prim.Native.Nat.{ℕ, zero, suc, _+_, _-_, _≤_, _<_}
+use Prim.Native.Nat.{ℕ, zero, suc, _+_, _≤_, _<_}
 use native.Mathlib.Nat.{add-zero}
 use native.Mathlib.Numerals.{add-one}
 use native.Mathlib.Omega.{arith}
-use native.Mathlib.Decide.{decLt}
-use lib.Dec.{T, leb, ltb, eqb, leb→le, ltb→lt}
-use lib.ListN.{length, getD, set, take, drop, replicate, length-append, length-take, length-drop, drop-of-length-le, List·getD-append, List·getD-eq-default}
-use lib.Seq.{take-all, drop-cons, drop-drop, getD-drop, sets, sets-eq}
+use lib.Dec.{eqb}
+use lib.ListN.{length, getD, set, drop, replicate, drop-of-length-le}
+use lib.Seq.{drop-cons, drop-drop, getD-drop, sets, sets-eq}
 use Rattle.kinds.specs.Bytes.{between}
 use Rattle.fields.specs.declared.Field.{Field}
 use Rattle.fields.specs.declared.Field.the-variants.{Is, Not}
 use Rattle.fields.specs.declared.Limits.the-variants.{Within, Outside}
-use Rattle.fields.proofs.Laws.{and-T}
-use Rattle.read.specs.Grammar.{Form, forms, none, rowOf, boundsOf, spread, free, fieldAt, fieldsFrom, Got, good, bad, next, ahead, Filled, fieldLimits, firstOf, limitsFrom, isNumber}
+use Rattle.grammar.specs.Named.{GM}
+use Rattle.grammar.proofs.Rows.{row-short}
+use Rattle.read.specs.Grammar.{rowOf, boundsOf, free, fieldAt, fieldsFrom, Got, good, bad, next, ahead, Filled, fieldLimits, firstOf, limitsFrom, isNumber}
 use Rattle.read.specs.Front.{sizeOf}
-use Rattle.read.specs.Codes.{bound, boundBy, codes, codeAt, filledUp, lineUp}
-use Rattle.read.specs.Commands.{judged, withinLimits, commandOf, itemOf, orderOf}
-use Rattle.read.specs.declared.Bounds.{Bounds}
+use Rattle.read.specs.Commands.{judged, withinLimits, commandOf, itemOf, pageOf, valueOf, orderOf}
 use Rattle.read.specs.declared.Fields.{Fields}
 use Rattle.read.specs.declared.Fields.the-variants.{All, Bad}
 use Rattle.read.specs.declared.Fault.the-variants.{Form as form}
 use Rattle.read.specs.declared.Read.the-variants.{Refused}
-
--- ---- tables
-
--- past the last row there is none
-pub no-row : (row : ℕ) → 28 ≤ row → rowOf row ≡ none
-no-row row h = List·getD-eq-default forms none h
-
-abbrev mapped : {A B : Type 0} → (A → B) → List A → List B
-mapped g [] = []
-mapped g (x ∷ xs) = g x ∷ mapped g xs
-
-mapped-at : {A B : Type 0} (g : A → B) (l : List A) (k : ℕ) (d : A) → getD (mapped g l) k (g d) ≡ g (getD l k d)
-mapped-at g [] k d = refl
-mapped-at g (x ∷ xs) zero d = refl
-mapped-at g (x ∷ xs) (suc k) d = mapped-at g xs k d
-
--- what a row is filled up with stands wherever it has ended
-pub filled-up : (b d : ℕ) (l : List ℕ) (n m k : ℕ) → k < n → n ≤ length l + m → getD (take n (l ++ replicate m b)) k d ≡ getD l k b
-filled-up b d l zero m k h e = absurd (omega arith)
-filled-up b d [] (suc n) zero k h e = absurd (omega arith)
-filled-up b d [] (suc n) (suc m) zero h e = refl
-filled-up b d [] (suc n) (suc m) (suc k) h e = filled-up b d [] n m k (omega arith) (omega arith)
-filled-up b d (x ∷ xs) (suc n) m zero h e = refl
-filled-up b d (x ∷ xs) (suc n) m (suc k) h e = filled-up b d xs n m k (omega arith) (omega arith)
-
-filled-long : (b : ℕ) (l : List ℕ) → length (filledUp b l) ≡ 18
-filled-long b l = let h = length-take 18 (l ++ replicate 18 b) in let k = length-append l (replicate 18 b) in omega arith
-
-behind : (n k : ℕ) (a r : List ℕ) → length a ≡ n → getD (a ++ r) (n + k) 0 ≡ getD r k 0
-behind n k [] r h = let e : n + k ≡ k = omega arith in rw e
-behind n k (x ∷ xs) r h = let e : n + k ≡ suc (length xs + k) = omega arith in rw e (behind (length xs) k xs r refl)
-
--- the form stands in front, the letters behind it
-pub form-at : (row k : ℕ) (l : List ℕ) → l ≡ lineUp row → k < 18 → getD l k 0 ≡ getD (rowOf row .fields) k 32
-unfolding lineUp
-form-at row k l e h =
-    let n = filled-long 32 (rowOf row .fields) in
-    rw (e, List·getD-append (filledUp 32 (rowOf row .fields)) (filledUp 45 (getD codes row [])) 0 k (omega arith))
-    (filled-up 32 0 (rowOf row .fields) 18 18 k h (omega arith))
-
-code-at : (row k : ℕ) (l : List ℕ) → l ≡ lineUp row → k < 18 → getD l (18 + k) 0 ≡ codeAt row k
-unfolding lineUp
-code-at row k l e h =
-    rw e (behind 18 k (filledUp 32 (rowOf row .fields)) (filledUp 45 (getD codes row [])) (filled-long 32 (rowOf row .fields)))
-    ∙ filled-up 45 0 (getD codes row []) 18 18 k h (omega arith)
-
--- past the last row there is no form and no bounds
-pub above : (row n : ℕ) → n ≤ row → (row ≡ n → ⊥) → suc n ≤ row
-above row n h k = go (decLt n row)
-  where
-    go : Dec (n < row) → suc n ≤ row
-    go (yes j) = omega arith
-    go (no j) = absurd (k (omega arith))
-
-pub no-line : (row : ℕ) → 28 ≤ row → lineUp row ≡ replicate 18 32 ++ replicate 18 45
-unfolding lineUp
-no-line row h = rw (no-row row h, List·getD-eq-default codes [] h)
-
--- what holds of each form and of none holds of each row
-every : (Form → Bool) → List Form → Bool
-every p [] = true
-every p (f ∷ fs) = p f && every p fs
-
-every-at : (p : Form → Bool) (fs : List Form) → T (every p fs) → T (p none) → (row : ℕ) → T (p (getD fs row none))
-unfolding every
-every-at p [] h k row = k
-every-at p (f ∷ fs) h k zero = and-T (p f) (every p fs) h .0
-every-at p (f ∷ fs) h k (suc row) = every-at p fs (and-T (p f) (every p fs) h .1) k row
-
--- a form's bytes are above the space, which ends a row, and there are at most eighteen in a row
-fine : List ℕ → Bool
-fine [] = true
-fine (f ∷ fs) = ltb 32 f && fine fs
-
-fine-at : (l : List ℕ) → T (fine l) → (i : ℕ) → i < length l → 32 < getD l i 32
-unfolding fine
-fine-at [] h i k = absurd (omega arith)
-fine-at (f ∷ fs) h zero k = ltb→lt 32 f (and-T (ltb 32 f) (fine fs) h .0)
-fine-at (f ∷ fs) h (suc i) k = fine-at fs (and-T (ltb 32 f) (fine fs) h .1) i (omega arith)
-
-row-fine : (row i : ℕ) → i < length (rowOf row .fields) → 32 < getD (rowOf row .fields) i 32
-unfolding every fine
-row-fine row i h = fine-at (rowOf row .fields) (every-at (λ f. fine (f .fields)) forms tt tt row) i h
-
-pub row-short : (row : ℕ) → length (rowOf row .fields) ≤ 18
-unfolding every
-row-short row = leb→le (length (rowOf row .fields)) 18 (every-at (λ f. leb (length (f .fields)) 18) forms tt tt row)
-
--- where a row's byte is no space the row goes on, and where it is the row has ended
-pub out-row : (row i f : ℕ) → f ≡ getD (rowOf row .fields) i 32 → f ≡ 32 → length (rowOf row .fields) ≤ i
-out-row row i f h e = go (decLt i (length (rowOf row .fields)))
-  where
-    go : Dec (i < length (rowOf row .fields)) → length (rowOf row .fields) ≤ i
-    go (yes k) = let z = row-fine row i k in absurd (omega arith)
-    go (no k) = omega arith
-
-pub in-row : (row i f : ℕ) → f ≡ getD (rowOf row .fields) i 32 → (f ≡ 32 → ⊥) → i < length (rowOf row .fields)
-in-row row i f h e = go (decLt i (length (rowOf row .fields)))
-  where
-    go : Dec (i < length (rowOf row .fields)) → i < length (rowOf row .fields)
-    go (yes k) = k
-    go (no k) = absurd (e (h ∙ List·getD-eq-default (rowOf row .fields) 32 (omega arith)))
-
--- ---- bounds
-
-abbrev boundOf : ℕ × ℕ → Bounds
-boundOf l = bound (l .0) (l .1)
-
-abbrev boundsBy : ℕ → Form → List Bounds
-boundsBy rows f = mapped boundOf (spread (f .fields) (f .bounds rows))
-
-codes-right : (rows : ℕ) → mapped (mapped (λ c. boundBy c rows)) codes ≡ mapped (boundsBy rows) forms
-unfolding boundBy spread
-codes-right rows = refl
-
-bound-right : (row i rows : ℕ) → boundBy (codeAt row i) rows ≡ boundOf (getD (boundsOf row rows) i free)
-unfolding boundBy spread
-bound-right row i rows =
-    sym (mapped-at (λ c. boundBy c rows) (getD codes row []) i 45)
-    ∙ ap (λ (l : List Bounds). getD l i (bound 0 0)) (sym (mapped-at (mapped (λ c. boundBy c rows)) codes row [])
-    ∙ ap (λ (t : List (List Bounds)). getD t row []) (codes-right rows)
-    ∙ mapped-at (boundsBy rows) forms row none)
-    ∙ mapped-at boundOf (boundsOf row rows) i free
-
--- the bounds that the letters of a row give
-pub bounds-at : (row i rows : ℕ) (l : List ℕ) (b : Bounds) → l ≡ lineUp row → i < 18 → b ≡ boundBy (getD l (18 + i) 0) rows
-    → (b .low ≡ getD (boundsOf row rows) i free .0) × (b .high ≡ getD (boundsOf row rows) i free .1)
-bounds-at row i rows l b e h k =
-    let m = k ∙ ap (λ c. boundBy c rows) (code-at row i l e h) ∙ bound-right row i rows in
-    (ap (λ (x : Bounds). x .low) m, ap (λ (x : Bounds). x .high) m)
 
 -- ---- the fields of a row, one at a time
 
@@ -174,7 +42,7 @@ fields-split f fs s at ws qs h = go (fieldAt f s at) refl h
   where
     more : (v e : ℕ) (g : Got) → fieldAt f s at ≡ Is v e → fieldsFrom fs s e ≡ g → ahead v at g ≡ good ws qs → Split f fs s at ws qs
     more v e (good vs ps) a b k = record { v = v; e = e; vs = vs; ps = ps; first = a; others = b; values = cc; places = cc }
-    more v e (bad q) a b k = absurd (let z : _≡_ {A = ℕ} 0 1 = cc in omega arith)
+    more v e (bad vs ps q) a b k = absurd (let z : _≡_ {A = ℕ} 0 1 = cc in omega arith)
 
     go : (x : Field) → fieldAt f s at ≡ x → next x (λ v e. ahead v at (fieldsFrom fs s e)) ≡ good ws qs → Split f fs s at ws qs
     go (Is v e) a k = more v e (fieldsFrom fs s e) a refl k
@@ -185,7 +53,7 @@ pub fields-count : (fs s : List ℕ) (at : ℕ) (ws qs : List ℕ) → fieldsFro
     → (length ws ≡ length fs) × (length qs ≡ length fs)
 fields-count [] s at ws qs h = go (eqb at (length s)) (unfold fieldsFrom in h)
   where
-    go : (t : Bool) → cond t (good [] []) (bad at) ≡ good ws qs → (length ws ≡ 0) × (length qs ≡ 0)
+    go : (t : Bool) → cond t (good [] []) (bad [] [] at) ≡ good ws qs → (length ws ≡ 0) × (length qs ≡ 0)
     go true k = (let e : [] ≡ ws = cc in rw (← e), let e : [] ≡ qs = cc in rw (← e))
     go false k = absurd (let z : _≡_ {A = ℕ} 0 1 = cc in omega arith)
 fields-count (f ∷ fs) s at ws qs h =
@@ -194,30 +62,34 @@ fields-count (f ∷ fs) s at ws qs h =
     (rw (x .values) (ap suc (r .0)), rw (x .places) (ap suc (r .1)))
 
 -- the same, stored into arrays from i on
+abbrev pub onward : List ℕ → List ℕ → Field → (ℕ → ℕ → Got) → Got
+onward vs ps (Is v e) k = k v e
+onward vs ps (Not p) k = bad vs ps p
+
 unfoldable pub filled : List ℕ → List ℕ → ℕ → ℕ → List ℕ → List ℕ → Got
-filled [] s at i vs ps = cond (eqb at (length s)) (good vs ps) (bad at)
-filled (f ∷ fs) s at i vs ps = next (fieldAt f s at) (λ v e. filled fs s e (suc i) (set vs i v) (set ps i at))
+filled [] s at i vs ps = cond (eqb at (length s)) (good vs ps) (bad vs ps at)
+filled (f ∷ fs) s at i vs ps = onward vs ps (fieldAt f s at) (λ v e. filled fs s e (suc i) (set vs i v) (set ps i at))
 
 abbrev pub stored : ℕ → List ℕ → List ℕ → Got → Got
 stored i vs ps (good ws qs) = good (sets vs i ws) (sets ps i qs)
-stored i vs ps (bad q) = bad q
+stored i vs ps (bad ws qs q) = bad (sets vs i ws) (sets ps i qs) q
 
 filled-stored : (fs s : List ℕ) (at i : ℕ) (vs ps : List ℕ) → filled fs s at i vs ps ≡ stored i vs ps (fieldsFrom fs s at)
 unfolding filled fieldsFrom
 filled-stored [] s at i vs ps = go (eqb at (length s))
   where
-    go : (t : Bool) → cond t (good vs ps) (bad at) ≡ stored i vs ps (cond t (good [] []) (bad at))
+    go : (t : Bool) → cond t (good vs ps) (bad vs ps at) ≡ stored i vs ps (cond t (good [] []) (bad [] [] at))
     go true = refl
     go false = refl
 filled-stored (f ∷ fs) s at i vs ps = go (fieldAt f s at) (λ v e. filled-stored fs s e (suc i) (set vs i v) (set ps i at))
   where
     more : (v : ℕ) (g : Got) → stored (suc i) (set vs i v) (set ps i at) g ≡ stored i vs ps (ahead v at g)
     more v (good ws qs) = refl
-    more v (bad q) = refl
+    more v (bad ws qs q) = refl
 
     go : (x : Field)
         → ((v e : ℕ) → filled fs s e (suc i) (set vs i v) (set ps i at) ≡ stored (suc i) (set vs i v) (set ps i at) (fieldsFrom fs s e))
-        → next x (λ v e. filled fs s e (suc i) (set vs i v) (set ps i at)) ≡ stored i vs ps (next x (λ v e. ahead v at (fieldsFrom fs s e)))
+        → onward vs ps x (λ v e. filled fs s e (suc i) (set vs i v) (set ps i at)) ≡ stored i vs ps (next x (λ v e. ahead v at (fieldsFrom fs s e)))
     go (Is v e) r = r v e ∙ more v (fieldsFrom fs s e)
     go (Not p) r = refl
 
@@ -228,11 +100,11 @@ module _ (l s : List ℕ) (at i : ℕ) (vs ps : List ℕ) where
   unfolding filled
   filled-more v e h k = rw (add-one, drop-cons l i 32 h, k)
 
-  pub filled-stop : (p : ℕ) → i < length l → fieldAt (getD l i 32) s at ≡ Not p → filled (drop i l) s at i vs ps ≡ bad p
+  pub filled-stop : (p : ℕ) → i < length l → fieldAt (getD l i 32) s at ≡ Not p → filled (drop i l) s at i vs ps ≡ bad vs ps p
   unfolding filled
   filled-stop p h k = rw (drop-cons l i 32 h, k)
 
-  pub filled-done : length l ≤ i → filled (drop i l) s at i vs ps ≡ cond (eqb at (length s)) (good vs ps) (bad at)
+  pub filled-done : length l ≤ i → filled (drop i l) s at i vs ps ≡ cond (eqb at (length s)) (good vs ps) (bad vs ps at)
   unfolding filled
   filled-done h = rw (drop-of-length-le l h)
 
@@ -240,16 +112,16 @@ module _ (l s : List ℕ) (at i : ℕ) (vs ps : List ℕ) where
 module _ (fs s : List ℕ) (vs₀ ps₀ vs ps : List ℕ) where
   from-good : (g : Got) → stored 0 vs₀ ps₀ g ≡ good vs ps → Filled g vs₀ ps₀ All vs ps
   from-good (good ws qs) h = (refl, cc, cc)
-  from-good (bad q) h = absurd (let z : _≡_ {A = ℕ} 0 1 = cc in omega arith)
+  from-good (bad ws qs q) h = absurd (let z : _≡_ {A = ℕ} 0 1 = cc in omega arith)
 
-  from-bad : (p : ℕ) (g : Got) → stored 0 vs₀ ps₀ g ≡ bad p → Filled g vs₀ ps₀ (Bad p) vs ps
+  from-bad : (p : ℕ) (g : Got) → stored 0 vs₀ ps₀ g ≡ bad vs ps p → Filled g vs₀ ps₀ (Bad p) vs ps
   from-bad p (good ws qs) h = absurd (let z : _≡_ {A = ℕ} 0 1 = cc in omega arith)
-  from-bad p (bad q) h = let z : q ≡ p = cc in rw z
+  from-bad p (bad ws qs q) h = (let z : q ≡ p = cc in rw z, cc, cc)
 
   pub filled-good : filled fs s 0 0 vs₀ ps₀ ≡ good vs ps → Filled (fieldsFrom fs s 0) vs₀ ps₀ All vs ps
   filled-good h = from-good (fieldsFrom fs s 0) (sym (filled-stored fs s 0 0 vs₀ ps₀) ∙ h)
 
-  pub filled-bad : (p : ℕ) → filled fs s 0 0 vs₀ ps₀ ≡ bad p → Filled (fieldsFrom fs s 0) vs₀ ps₀ (Bad p) vs ps
+  pub filled-bad : (p : ℕ) → filled fs s 0 0 vs₀ ps₀ ≡ bad vs ps p → Filled (fieldsFrom fs s 0) vs₀ ps₀ (Bad p) vs ps
   filled-bad p h = from-bad p (fieldsFrom fs s 0) (sym (filled-stored fs s 0 0 vs₀ ps₀) ∙ h)
 
 -- ---- slots that hold the same
@@ -293,7 +165,7 @@ unfolding itemOf
 item-same row vs ws ps qs h k = simp (h, k)
 
 order-same : (row : ℕ) (s vs ws ps qs : List ℕ) → Same vs ws → Same ps qs → orderOf row s vs ps ≡ orderOf row s ws qs
-unfolding orderOf
+unfolding orderOf pageOf valueOf
 order-same row s vs ws ps qs h k = simp (h, k)
 
 command-same : (row : ℕ) (s vs ws ps qs : List ℕ) → Same vs ws → Same ps qs → commandOf row s vs ps ≡ commandOf row s ws qs
@@ -303,14 +175,14 @@ command-same row s vs ws ps qs h k = rw (item-same row vs ws ps qs h k, order-sa
 pub judged-bad : (row rows : ℕ) (s : List ℕ) (g : Got) (r : Fields) (vs₀ ps₀ vs ps : List ℕ) (p : ℕ) → Filled g vs₀ ps₀ r vs ps → r ≡ Bad p
     → judged row rows s g ≡ Refused (form p)
 unfolding judged
-judged-bad row rows s (bad q) r vs₀ ps₀ vs ps p h e = let z : q ≡ p = cc in rw z
+judged-bad row rows s (bad ws qs q) r vs₀ ps₀ vs ps p h e = let a = h .0 in let z : q ≡ p = cc in rw z
 judged-bad row rows s (good ws qs) r vs₀ ps₀ vs ps p h e = absurd (let z : _≡_ {A = ℕ} 0 1 = cc in omega arith)
 
 judged-fields : (row rows : ℕ) (s : List ℕ) (g : Got) (r : Fields) (vs ps : List ℕ) → fieldsFrom (rowOf row .fields) s 0 ≡ g
     → Filled g zeros zeros r vs ps → r ≡ All
     → judged row rows s g ≡ withinLimits row rows s vs ps
 unfolding judged
-judged-fields row rows s (bad q) r vs ps k h e = absurd (let z : _≡_ {A = ℕ} 0 1 = cc in omega arith)
+judged-fields row rows s (bad ws qs q) r vs ps k h e = absurd (let a = h .0 in let z : _≡_ {A = ℕ} 0 1 = cc in omega arith)
 judged-fields row rows s (good ws qs) r vs ps k h e =
     let n = fields-count (rowOf row .fields) s 0 ws qs k in
     let l = row-short row in
@@ -346,25 +218,18 @@ limits-done fs ls s u vs ps i h = rw (drop-of-length-le fs h)
 -- ---- how many bytes a GM asks for
 pub size-bad : (g : Got) (r : Fields) (vs₀ ps₀ vs ps : List ℕ) (p : ℕ) → Filled g vs₀ ps₀ r vs ps → r ≡ Bad p → sizeOf g ≡ 0
 unfolding sizeOf
-size-bad (bad q) r vs₀ ps₀ vs ps p h e = refl
+size-bad (bad ws qs q) r vs₀ ps₀ vs ps p h e = refl
 size-bad (good ws qs) r vs₀ ps₀ vs ps p h e = absurd (let z : _≡_ {A = ℕ} 0 1 = cc in omega arith)
 
-size-fields : (s : List ℕ) (g : Got) (r : Fields) (vs ps : List ℕ) → fieldsFrom (rowOf 20 .fields) s 0 ≡ g → Filled g zeros zeros r vs ps → r ≡ All
+size-fields : (s : List ℕ) (g : Got) (r : Fields) (vs ps : List ℕ) → fieldsFrom (rowOf GM .fields) s 0 ≡ g → Filled g zeros zeros r vs ps → r ≡ All
     → sizeOf g ≡ cond (between 1 32768 (getD vs 4 0)) (getD vs 4 0) 0
 unfolding sizeOf
-size-fields s (bad q) r vs ps k h e = absurd (let z : _≡_ {A = ℕ} 0 1 = cc in omega arith)
+size-fields s (bad ws qs q) r vs ps k h e = absurd (let a = h .0 in let z : _≡_ {A = ℕ} 0 1 = cc in omega arith)
 size-fields s (good ws qs) r vs ps k h e =
-    let n = fields-count (rowOf 20 .fields) s 0 ws qs k in
+    let n = fields-count (rowOf GM .fields) s 0 ws qs k in
     let a : getD vs 4 0 ≡ getD ws 4 0 = rw (h .1) (padded ws (omega arith) 4) in
     rw a
 
-pub size-good : (s : List ℕ) (r : Fields) (vs ps : List ℕ) → Filled (fieldsFrom (rowOf 20 .fields) s 0) zeros zeros r vs ps → r ≡ All
-    → sizeOf (fieldsFrom (rowOf 20 .fields) s 0) ≡ cond (between 1 32768 (getD vs 4 0)) (getD vs 4 0) 0
-size-good s r vs ps h e = size-fields s (fieldsFrom (rowOf 20 .fields) s 0) r vs ps refl h e
-
--- ---- parts of a slice
-pub tail-all : (l : List ℕ) (a : ℕ) → take (length l - a) (drop a l) ≡ drop a l
-tail-all l a = take-all (length l - a) (drop a l) (omega (arith, length-drop a l))
-
-pub tail-none : (l : List ℕ) (a : ℕ) → length l ≤ a → take (length l - length l) (drop (length l) l) ≡ drop a l
-tail-none l a h = tail-all l (length l) ∙ (drop-of-length-le l (let e : length l ≤ length l = omega arith in e) ∙ sym (drop-of-length-le l h))
+pub size-good : (s : List ℕ) (r : Fields) (vs ps : List ℕ) → Filled (fieldsFrom (rowOf GM .fields) s 0) zeros zeros r vs ps → r ≡ All
+    → sizeOf (fieldsFrom (rowOf GM .fields) s 0) ≡ cond (between 1 32768 (getD vs 4 0)) (getD vs 4 0) 0
+size-good s r vs ps h e = size-fields s (fieldsFrom (rowOf GM .fields) s 0) r vs ps refl h e

@@ -1,6 +1,7 @@
 -- Paper 01, "Reading a command": the line at the front of the input, and how much of the input a call reads.
 -- Assumes nothing.
 use Prim.Native.Nat.{ℕ, _+_}
+use Prim.Native.Char.{code}
 use mathlib.Core.Bool.{cond, _||_}
 use mathlib.Core.List.{List}
 use lib.ListN.{length, getD, take}
@@ -9,27 +10,28 @@ use Rattle.kinds.specs.Bytes.{between}
 use Rattle.fields.specs.Bytes.{run}
 use Rattle.fields.specs.declared.Class.the-variants.{Inside}
 use Rattle.read.specs.Grammar.{Got, good, bad, rowOf, headOf, fieldsFrom}
-use Rattle.read.specs.declared.Head.{Head}
-use Rattle.read.specs.declared.Head.the-variants.{Row, Unknown}
+use Rattle.grammar.specs.Named.{GM}
+use Rattle.grammar.specs.declared.Head.{Head}
+use Rattle.grammar.specs.declared.Head.the-variants.{Row, Unknown}
 use Rattle.read.specs.declared.Front.{Front}
 use Rattle.read.specs.declared.Front.the-variants.{Short, Long, Idle, Line}
 
 -- "A GM is well-formed when it has the written form and its n is 1 to 32768, good name or not": its n, and 0 of another line
 unfoldable pub sizeOf : Got → ℕ
 sizeOf (good vs ps) = cond (between 1 32768 (getD vs 4 0)) (getD vs 4 0) 0
-sizeOf (bad p) = 0
+sizeOf (bad vs ps p) = 0
 
 unfoldable pub askedBy : Head → List ℕ → ℕ
-askedBy (Row row) l = cond (eqb row 20) (sizeOf (fieldsFrom (rowOf 20 .fields) l 0)) 0
+askedBy (Row row) l = cond (eqb row GM) (sizeOf (fieldsFrom (rowOf GM .fields) l 0)) 0
 askedBy Unknown l = 0
 
 abbrev pub asked : List ℕ → ℕ
-asked l = askedBy (headOf (getD l 0 0) (getD l 1 0)) l
+asked l = askedBy (headOf l) l
 
 -- a line of n bytes: "An empty line or one starting with `;` does nothing"; "a well-formed GM lacks its bytes" is 4
 unfoldable pub lineFront : List ℕ → ℕ → Front
 lineFront s n =
-    cond (eqb n 0 || eqb (getD s 0 0) 59) (Idle (n + 1))
+    cond (eqb n 0 || eqb (getD s 0 0) (code ";")) (Idle (n + 1))
     (cond (leb (n + 1 + asked (take n s)) (length s)) (Line n (n + 1 + asked (take n s))) Short)
 
 -- "A line is up to 255 bytes, then LF". 4: "fewer than 256 bytes and no LF". 5: "no LF in the first 256 bytes", which "reads through the

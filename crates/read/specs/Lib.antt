@@ -1,8 +1,4 @@
 pub mod Grammar
-pub mod Codes
 pub mod Commands
 pub mod Front
-pub mod Names
 pub mod Cases
-pub mod Reading
-pub mod Listed

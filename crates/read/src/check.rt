@@ -2,11 +2,11 @@
 ghost use mathlib.Core.Path.{_≡_};
 ghost use mathlib.Core.Bool.{_||_, cond};
 ghost use Rattle.kinds.specs.Bytes.{between};
-ghost use Rattle.read.specs.Grammar.{rowOf, Form, boundsOf, named, starred, limited, isNumber, beyond, fieldLimits, limitsFrom};
-use crate::table::bound_by;
-use crate::table::line_up;
+ghost use Rattle.read.specs.Grammar.{rowOf, Form, boundsOf, named, starred, limited, isNumber, meets, fieldLimits, limitsFrom};
 use fields::Class;
 use fields::Limits;
+use grammar::table::bound_by;
+use grammar::table::line_up;
 
 // Whether the n bytes of the text at p are those of a name.
 fn is_name(line: &[u8], p: usize, n: usize) -> bool
@@ -42,8 +42,9 @@ fn is_either(line: &[u8], p: usize, n: usize) -> bool
     is_star(line, p, n)
 }
 
-fn is_beyond(line: &[u8], f: u8, before: usize, v: usize, p: usize) -> bool
-    ensures { λ r. ⌜ r ≡ beyond f (now (line .entry)) before v p ⌝ }
+// Whether a field meets what is asked of it beside its bounds.
+fn is_met(line: &[u8], f: u8, before: usize, v: usize, p: usize) -> bool
+    ensures { λ r. ⌜ r ≡ meets f (now (line .entry)) before v p ⌝ }
 {
     match f {
         b'w' => before < v,
@@ -92,7 +93,7 @@ fn field_limits(
     }
     if is_limited(f) {
         if is_within(low, high, v) {
-            if is_beyond(line, f, before, v, p) {
+            if is_met(line, f, before, v, p) {
                 return Limits::Within;
             }
             return Limits::Outside(p);

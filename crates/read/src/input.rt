@@ -1,23 +1,25 @@
-// The front of the input: the line that a call reads, how much of the input it reads, and what is left.
+// The front of the input: the line that a call reads, and how much of the input it reads.
 ghost use mathlib.Core.Path.{_≡_};
 ghost use Prim.Native.Nat.{_≤_, _<_};
-ghost use lib.ListN.{length, take, drop};
+ghost use lib.ListN.{length};
+ghost use Rattle.grammar.specs.Named.{GM};
 ghost use Rattle.read.specs.Grammar.{rowOf, Form, fieldsFrom};
 ghost use Rattle.read.specs.Front.{sizeOf, asked, lineFront, frontOf};
 use crate::Fields;
 use crate::Front;
-use crate::Head;
-use crate::heads::head_of;
 use crate::lines::read_fields;
 use fields::Class;
+use grammar::Head;
+use grammar::heads::head_of;
+use grammar::row;
 
 // How many bytes a line of the form of GM asks for.
 fn size(line: &[u8]) -> usize
-    ensures { λ r. ⌜ (r ≡ sizeOf (fieldsFrom (rowOf 20 .fields) (now (line .entry)) 0)) × (r ≤ 32768) ⌝ }
+    ensures { λ r. ⌜ (r ≡ sizeOf (fieldsFrom (rowOf GM .fields) (now (line .entry)) 0)) × (r ≤ 32768) ⌝ }
 {
     let mut vs = [0usize; 18];
     let mut ps = [0usize; 18];
-    if let Fields::Bad(_) = read_fields(line, 20, &mut vs, &mut ps) {
+    if let Fields::Bad(_) = read_fields(line, row::GM, &mut vs, &mut ps) {
         return 0;
     }
     let n = vs[4];
@@ -34,10 +36,10 @@ fn size(line: &[u8]) -> usize
 fn wanted(line: &[u8]) -> usize
     ensures { λ r. ⌜ (r ≡ asked (now (line .entry))) × (r ≤ 32768) ⌝ }
 {
-    let Head::Row(row) = head_of(fields::byte(line, 0), fields::byte(line, 1)) else {
+    let Head::Row(row) = head_of(line) else {
         return 0;
     };
-    if row != 20 {
+    if row != row::GM {
         return 0;
     }
     size(line)
@@ -77,23 +79,5 @@ pub fn front(input: &[u8]) -> Front
         Front::Short
     } else {
         Front::Long(input.len())
-    }
-}
-
-// The first n bytes of the input, or what there is.
-pub fn first<'a>(input: &'a [u8], n: usize) -> &'a [u8]
-    ensures { λ r. ⌜ now r ≡ take n (now (input .entry)) ⌝ }
-{
-    if n < input.len() { &input[..n] } else { input }
-}
-
-// The input after the n bytes that a call read; nothing past its end.
-pub fn rest<'a>(input: &'a [u8], n: usize) -> &'a [u8]
-    ensures { λ r. ⌜ now r ≡ drop n (now (input .entry)) ⌝ }
-{
-    if n < input.len() {
-        &input[n..]
-    } else {
-        &input[input.len()..]
     }
 }

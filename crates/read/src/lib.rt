@@ -1,35 +1,19 @@
 // Reads one line of the label station's language.
 //
-// Paper 01 lists the commands under "Commands" and says under "Reading a command" what a line is. The table `forms` (specs/Grammar.antt) has
-// each command as the paper writes it, with its limits, and `read_line` answers by it: a command by value, or 6 where the line has not the
-// written form, or 7 where a number, name or prompt is outside its limits. `front` finds the line at the front of any input and how much a call
-// reads of it (answers 4 and 5), `rest` is what is left unread, and `packed` a name in capitals as a directory entry keeps it. `reader` holds a line
-// and a place in it for whoever reads one field after another.
+// Paper 01 says under "Reading a command" what a line is. `read_line` holds a line to the row of the grammar that its letters name and answers a
+// command by value, or 6 where the line has not the written form, or 7 where a number, name or prompt is outside its limits. `front` finds the line at the front of any input and how much a call
+// reads of it (answers 4 and 5).
 // What a command does, and whether it has a place here, is said in the crates above.
 mod check;
-pub mod heads;
 pub mod input;
 pub mod lines;
-pub mod names;
 mod orders;
-pub mod reader;
-pub mod table;
 
 ghost use mathlib.Core.Path.{_≡_};
 ghost use Rattle.read.specs.Commands.{readOf};
+use grammar::Head;
+use grammar::heads::head_of;
 use kinds::Kind;
-
-// The row of the grammar that a line's letters name.
-pub enum Head {
-    Row(usize),
-    Unknown,
-}
-
-// The least and the greatest value of a field.
-pub struct Bounds {
-    pub low: usize,
-    pub high: usize,
-}
 
 // Whether every field of a row is there, or the place where the line has not the row's form.
 pub enum Fields {
@@ -178,25 +162,51 @@ pub struct Print {
     pub k: usize,
 }
 
-pub enum Command {
-    Item(Item),
+// Q, q, ZT and ZB, N: the page.
+pub enum PageCommand {
     Length(Length),
     Width(Width),
     Turn(Turn),
+    White,
+}
+
+// FS, FR, FK: a form is started, retrieved or erased.
+pub enum FormCommand {
     Start(Named),
-    End,
     Retrieve(Named),
-    EraseForm(Named),
-    ListForms,
-    PrintForm(Named),
+    Erase(Named),
+}
+
+// GM, GK: a picture is stored or erased.
+pub enum PictureCommand {
     Store(StorePicture),
-    ListPictures,
-    ErasePicture(Named),
-    SetVariable(SetVariable),
-    SetCounter(SetCounter),
+    Erase(Named),
+}
+
+// ?V, ?C, VC, P: values are entered and cleared, and labels of them are printed.
+pub enum ValueCommand {
+    Variable(SetVariable),
+    Counter(SetCounter),
     Clear,
     Print(Print),
-    White,
+}
+
+// FI, GI, FP: the names of forms or of pictures are listed, or a form's lines.
+pub enum ListingCommand {
+    Forms,
+    Pictures,
+    Form(Named),
+}
+
+// A command: a line that may stand in a form; FE, the end of a form; or one of a group.
+pub enum Command {
+    Item(Item),
+    End,
+    Page(PageCommand),
+    Forms(FormCommand),
+    Pictures(PictureCommand),
+    Values(ValueCommand),
+    Listing(ListingCommand),
 }
 
 // What stands at the front of the input: too little (answer 4); too long a line (answer 5), and how many bytes a call reads then; an empty
@@ -223,7 +233,7 @@ pub enum Read {
 pub fn read_line(line: &[u8], rows: usize) -> Read
     ensures { λ r. ⌜ r ≡ readOf rows (now (line .entry)) ⌝ }
 {
-    let Head::Row(row) = heads::head_of(fields::byte(line, 0), fields::byte(line, 1)) else {
+    let Head::Row(row) = head_of(line) else {
         return Read::Refused(Fault::Form(0));
     };
     lines::judge(line, row, rows)

@@ -1,38 +1,19 @@
 // The fields of a line, one after another, and the judgement of the whole line.
 ghost use mathlib.Core.Path.{_≡_};
-ghost use Rattle.read.specs.Grammar.{rowOf, Form, fieldAt, fieldsFrom, Filled};
+ghost use Rattle.read.specs.Grammar.{rowOf, Form, fieldsFrom, Filled};
 ghost use Rattle.read.specs.Commands.{judged, withinLimits};
 use crate::Fault;
 use crate::Fields;
 use crate::Read;
 use crate::check::row_limits;
 use crate::orders::command_of;
-use crate::table::line_up;
-use fields::Class;
 use fields::Field;
 use fields::Limits;
+use fields::stop;
+use grammar::table::line_up;
+use reader::read_field;
 
-// The field that a byte of a form stands for.
-fn field_at(line: &[u8], f: u8, at: usize) -> Field
-    ensures { λ r. ⌜ r ≡ fieldAt f (now (line .entry)) at ⌝ }
-{
-    match f {
-        b'n' => fields::number(line, at),
-        b'w' => fields::number(line, at),
-        b't' => fields::text(line, at),
-        b'a' => fields::text(line, at),
-        b'z' => fields::text(line, at),
-        b'u' => fields::text(line, at),
-        b's' => fields::signed(line, at),
-        b'm' => fields::letter(line, Class::Mode, at),
-        b'j' => fields::letter(line, Class::Side, at),
-        b'k' => fields::bar_type(line, at),
-        b'd' => fields::data_form(line, at),
-        _ => fields::literal(line, f, at),
-    }
-}
-
-// Reads the fields of a row: a value and a place for each byte of its form.
+// Reads the fields of a row, one after another: a value and a place for each byte of its form, up to the first that is not there.
 pub fn read_fields(line: &[u8], row: usize, vs: &mut [usize; 18], ps: &mut [usize; 18]) -> Fields
     ensures { λ r. ⌜ Filled (fieldsFrom (rowOf row .fields) (now (line .entry)) 0) (now (vs .entry)) (now (ps .entry)) r (now (vs .exit)) (now (ps .exit)) ⌝ }
 {
@@ -44,17 +25,14 @@ pub fn read_fields(line: &[u8], row: usize, vs: &mut [usize; 18], ps: &mut [usiz
         if f == 32 {
             break;
         }
-        match field_at(line, f, at) {
-            Field::Is(v, end) => {
-                vs[i] = v;
-                ps[i] = at;
-                at = end;
-                i += 1;
-            }
-            Field::Not(fault) => {
-                return Fields::Bad(fault);
-            }
-        }
+        let found = read_field(line, f, at);
+        let Field::Is(v, end) = found else {
+            return Fields::Bad(stop(found));
+        };
+        vs[i] = v;
+        ps[i] = at;
+        at = end;
+        i += 1;
     }
     if at == line.len() {
         Fields::All

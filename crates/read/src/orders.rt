@@ -1,16 +1,20 @@
 // What the values and places of a row's fields make: a command.
 ghost use mathlib.Core.Path.{_≡_};
-ghost use Rattle.read.specs.Commands.{namedFrom, inkOf, sideOf, isMinus, stepOf, itemOf, orderOf, isItem, commandOf};
+ghost use Rattle.read.specs.Commands.{namedFrom, inkOf, sideOf, isMinus, stepOf, itemOf, pageOf, formOf, pictureOf, valueOf, listingOf, isItem, isForm, isPicture, isValue, isListing, orderOf, commandOf};
 use crate::Bars;
 use crate::Command;
 use crate::Counter;
+use crate::FormCommand;
 use crate::Frame;
 use crate::Ink;
 use crate::Item;
 use crate::Length;
+use crate::ListingCommand;
 use crate::Named;
 use crate::Origin;
+use crate::PageCommand;
 use crate::Picture;
+use crate::PictureCommand;
 use crate::Print;
 use crate::Rectangle;
 use crate::SetCounter;
@@ -18,10 +22,12 @@ use crate::SetVariable;
 use crate::StorePicture;
 use crate::Text;
 use crate::Turn;
+use crate::ValueCommand;
 use crate::Variable;
 use crate::Width;
 use crate::check::is_star;
 use fields::kind_from;
+use grammar::row;
 
 // The step of a counter without its sign.
 fn step_of(v: usize) -> usize
@@ -50,8 +56,8 @@ fn ink_of(row: usize) -> Ink
     ensures { λ r. ⌜ r ≡ inkOf row ⌝ }
 {
     match row {
-        5 => Ink::Black,
-        6 => Ink::Inverted,
+        row::LO => Ink::Black,
+        row::LE => Ink::Inverted,
         _ => Ink::White,
     }
 }
@@ -71,15 +77,15 @@ fn item_of(row: usize, v: [usize; 18], p: [usize; 18]) -> Item
     ensures { λ r. ⌜ r ≡ itemOf row v p ⌝ }
 {
     match row {
-        2 => Item::Origin(Origin { x: v[1], y: v[3] }),
-        8 => Item::Frame(Frame {
+        row::ORIGIN => Item::Origin(Origin { x: v[1], y: v[3] }),
+        row::FRAME => Item::Frame(Frame {
             a: v[1],
             b: v[3],
             c: v[5],
             d: v[7],
             e: v[9],
         }),
-        9 => Item::Text(Text {
+        row::TEXT => Item::Text(Text {
             x: v[1],
             y: v[3],
             r: v[5],
@@ -88,7 +94,7 @@ fn item_of(row: usize, v: [usize; 18], p: [usize; 18]) -> Item
             reverse: v[11] == 82,
             at: p[13],
         }),
-        10 => Item::Bars(Bars {
+        row::BARS => Item::Bars(Bars {
             x: v[1],
             y: v[3],
             r: v[5],
@@ -98,20 +104,20 @@ fn item_of(row: usize, v: [usize; 18], p: [usize; 18]) -> Item
             g: v[13],
             at: p[17],
         }),
-        11 => Item::Picture(Picture {
+        row::GG => Item::Picture(Picture {
             a: v[2],
             b: v[4],
             at: p[6],
             length: v[6],
         }),
-        22 => Item::Variable(Variable {
+        row::VARIABLE => Item::Variable(Variable {
             n: v[1],
             m: v[3],
             j: side_of(v[5]),
             at: p[7],
             length: v[7],
         }),
-        23 => Item::Counter(Counter {
+        row::COUNTER => Item::Counter(Counter {
             n: v[1],
             w: v[3],
             minus: v[5] < 1000000000,
@@ -129,52 +135,147 @@ fn item_of(row: usize, v: [usize; 18], p: [usize; 18]) -> Item
     }
 }
 
-// The other lines.
-fn order_of(line: &[u8], row: usize, v: [usize; 18], p: [usize; 18]) -> Command
-    ensures { λ r. ⌜ r ≡ orderOf row (now (line .entry)) v p ⌝ }
+// The page.
+fn page_of(row: usize, v: [usize; 18]) -> PageCommand
+    ensures { λ r. ⌜ r ≡ pageOf row v ⌝ }
 {
     match row {
-        0 => Command::Length(Length { m: v[1], g: v[3] }),
-        1 => Command::Width(Width { m: v[1] }),
-        3 => Command::Turn(Turn { half: false }),
-        4 => Command::Turn(Turn { half: true }),
-        12 => Command::Start(named_at(line, p[2], v[2])),
-        13 => Command::End,
-        14 => Command::Retrieve(named_at(line, p[2], v[2])),
-        15 => Command::EraseForm(named_at(line, p[2], v[2])),
-        16 => Command::ErasePicture(named_at(line, p[2], v[2])),
-        17 => Command::ListForms,
-        18 => Command::ListPictures,
-        19 => Command::PrintForm(named_at(line, p[2], v[2])),
-        20 => Command::Store(StorePicture {
-            at: p[2],
-            length: v[2],
-            n: v[4],
-        }),
-        21 => Command::Clear,
-        24 => Command::SetVariable(SetVariable {
+        row::LENGTH => PageCommand::Length(Length { m: v[1], g: v[3] }),
+        row::WIDTH => PageCommand::Width(Width { m: v[1] }),
+        row::ZT => PageCommand::Turn(Turn { half: false }),
+        row::ZB => PageCommand::Turn(Turn { half: true }),
+        _ => PageCommand::White,
+    }
+}
+
+fn form_of(row: usize, n: Named) -> FormCommand
+    ensures { λ r. ⌜ r ≡ formOf row n ⌝ }
+{
+    match row {
+        row::FS => FormCommand::Start(n),
+        row::FR => FormCommand::Retrieve(n),
+        _ => FormCommand::Erase(n),
+    }
+}
+
+fn picture_of(row: usize, n: Named, size: usize) -> PictureCommand
+    ensures { λ r. ⌜ r ≡ pictureOf row n size ⌝ }
+{
+    if row == 16 {
+        return PictureCommand::Erase(n);
+    }
+    PictureCommand::Store(StorePicture {
+        at: n.at,
+        length: n.length,
+        n: size,
+    })
+}
+
+fn value_of(row: usize, v: [usize; 18], p: [usize; 18]) -> ValueCommand
+    ensures { λ r. ⌜ r ≡ valueOf row v p ⌝ }
+{
+    match row {
+        row::SET_VARIABLE => ValueCommand::Variable(SetVariable {
             n: v[2],
             at: p[4],
             length: v[4],
         }),
-        25 => Command::SetCounter(SetCounter {
+        row::SET_COUNTER => ValueCommand::Counter(SetCounter {
             n: v[2],
             value: v[4],
         }),
-        26 => Command::Print(Print { k: v[1] }),
-        _ => Command::White,
+        row::PRINT => ValueCommand::Print(Print { k: v[1] }),
+        _ => ValueCommand::Clear,
     }
 }
 
+fn listing_of(row: usize, n: Named) -> ListingCommand
+    ensures { λ r. ⌜ r ≡ listingOf row n ⌝ }
+{
+    match row {
+        row::FI => ListingCommand::Forms,
+        row::GI => ListingCommand::Pictures,
+        _ => ListingCommand::Form(n),
+    }
+}
+
+// Which rows make a group.
 fn is_item(row: usize) -> bool
     ensures { λ r. ⌜ r ≡ isItem row ⌝ }
 {
     match row {
-        2 => true,
-        5..=11 => true,
-        22..=23 => true,
+        row::ORIGIN => true,
+        row::LO..=row::GG => true,
+        row::VARIABLE..=row::COUNTER => true,
         _ => false,
     }
+}
+
+fn is_form(row: usize) -> bool
+    ensures { λ r. ⌜ r ≡ isForm row ⌝ }
+{
+    match row {
+        row::FS => true,
+        row::FR => true,
+        row::FK => true,
+        _ => false,
+    }
+}
+
+fn is_picture(row: usize) -> bool
+    ensures { λ r. ⌜ r ≡ isPicture row ⌝ }
+{
+    match row {
+        row::GK => true,
+        row::GM => true,
+        _ => false,
+    }
+}
+
+fn is_value(row: usize) -> bool
+    ensures { λ r. ⌜ r ≡ isValue row ⌝ }
+{
+    match row {
+        row::VC => true,
+        row::SET_VARIABLE => true,
+        row::SET_COUNTER => true,
+        row::PRINT => true,
+        _ => false,
+    }
+}
+
+fn is_listing(row: usize) -> bool
+    ensures { λ r. ⌜ r ≡ isListing row ⌝ }
+{
+    match row {
+        row::FI => true,
+        row::GI => true,
+        row::FP => true,
+        _ => false,
+    }
+}
+
+// The lines that may not stand in a form, by their groups.
+fn order_of(line: &[u8], row: usize, v: [usize; 18], p: [usize; 18]) -> Command
+    ensures { λ r. ⌜ r ≡ orderOf row (now (line .entry)) v p ⌝ }
+{
+    if row == 13 {
+        return Command::End;
+    }
+    if is_value(row) {
+        return Command::Values(value_of(row, v, p));
+    }
+    let n = named_at(line, p[2], v[2]);
+    if is_form(row) {
+        return Command::Forms(form_of(row, n));
+    }
+    if is_picture(row) {
+        return Command::Pictures(picture_of(row, n, v[4]));
+    }
+    if is_listing(row) {
+        return Command::Listing(listing_of(row, n));
+    }
+    Command::Page(page_of(row, v))
 }
 
 pub fn command_of(line: &[u8], row: usize, v: [usize; 18], p: [usize; 18]) -> Command

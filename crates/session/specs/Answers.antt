@@ -1,9 +1,11 @@
 -- Paper 01's table: "No. | Given exactly when".
 -- Assumes nothing.
 use Prim.Native.Nat.{ℕ}
-use mathlib.Core.Bool.{Bool, true, false}
+use mathlib.Core.Bool.{Bool, true, false, cond}
 use mathlib.Core.List.{List, [], _∷_}
 use lib.Dec.{eqb}
+use Rattle.session.specs.declared.Session.{Session}
+use Rattle.session.specs.declared.answers.Labelled.{Labelled}
 use Rattle.session.specs.declared.answers.Answer.{Answer}
 use Rattle.session.specs.declared.answers.Answer.the-variants.{
   Taken,
@@ -66,11 +68,11 @@ pub record Row : Type 0 where
 abbrev pub row : Answer → Bool → Row
 row a b = record { answer = a; applies = b }
 
-abbrev pub pickAnswer : Bool → Answer → Answer → Answer
-pickAnswer true a b = a
-pickAnswer false a b = b
-
 -- "The lowest number that applies is given": the rows stand in the table's order, and the first that applies is the answer
 unfoldable pub answerOf : List Row → Answer
 answerOf [] = Taken
-answerOf (r ∷ rs) = pickAnswer (r .applies) (r .answer) (answerOf rs)
+answerOf (r ∷ rs) = cond (r .applies) (r .answer) (answerOf rs)
+
+-- what opening and a label call answer
+abbrev pub labelled : Answer → Session → Labelled
+labelled a s = record { answer = a; session = s }

@@ -5,6 +5,10 @@ use mathlib.Core.Bool.{Bool, not, _||_}
 use mathlib.Core.List.{List}
 use lib.ListN.{length}
 use lib.Dec.{eqb, ltb}
+use Rattle.dots.specs.Dots.{bytesARow}
+use Rattle.values.specs.Stored.{bytesAField}
+use Rattle.store.specs.Chain.{bytesAPortion}
+use Rattle.store.specs.Entry.{bytesAnEntry}
 
 -- the lists that every call is lent beside the font
 pub record World : Type 0 where
@@ -17,25 +21,37 @@ pub record World : Type 0 where
 abbrev pub world : List ℕ → List ℕ → List ℕ → List ℕ → List ℕ → World
 world b s l d v = record { background = b; store = s; links = l; directory = d; values = v }
 
+-- "76 bytes a row, N rows, 1 to 4,000"
+abbrev pub mostRows : ℕ
+mostRows = 4000
+
 -- N, the rows of a background
 abbrev pub rowsOf : World → ℕ
-rowsOf w = length (w .background) / 76
+rowsOf w = length (w .background) / bytesARow
 
--- "76 bytes a row, N rows, 1 to 4,000"
 unfoldable pub pageWrong : ℕ → Bool
-pageWrong n = not (eqb (n % 76) 0) || (ltb n 76 || ltb 304000 n)
+pageWrong n = not (eqb (n % bytesARow) 0) || (ltb n bytesARow || ltb (mostRows * bytesARow) n)
 
 -- "1 to 2,024 portions of 256 bytes", "one" link "for each portion"
+abbrev pub mostPortions : ℕ
+mostPortions = 2024
+
 unfoldable pub storeWrong : ℕ → ℕ → Bool
-storeWrong store links = ltb 2024 links || (eqb links 0 || not (eqb store (links * 256)))
+storeWrong store links = ltb mostPortions links || (eqb links 0 || not (eqb store (links * bytesAPortion)))
 
 -- "1 to 512 entries of 16 bytes"
+abbrev pub mostEntries : ℕ
+mostEntries = 512
+
 unfoldable pub directoryWrong : ℕ → Bool
-directoryWrong n = not (eqb (n % 16) 0) || (ltb n 16 || ltb 8192 n)
+directoryWrong n = not (eqb (n % bytesAnEntry) 0) || (ltb n bytesAnEntry || ltb (mostEntries * bytesAnEntry) n)
 
 -- "10 fields of 34 bytes"
+abbrev pub bytesOfValues : ℕ
+bytesOfValues = 10 * bytesAField
+
 abbrev pub valuesWrong : ℕ → Bool
-valuesWrong n = not (eqb n 340)
+valuesWrong n = not (eqb n bytesOfValues)
 
 -- [1] "a lent length is wrong"
 unfoldable pub lengthsWrong : ℕ → ℕ → ℕ → ℕ → ℕ → Bool

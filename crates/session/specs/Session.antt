@@ -4,8 +4,32 @@ use Prim.Native.Nat.{ℕ, _+_, _-_}
 use mathlib.Core.Bool.{cond, _||_}
 use mathlib.Core.List.{[], _∷_}
 use lib.Dec.{eqb}
+use Rattle.values.specs.declared.declarations.Declared.{Declared}
 use Rattle.values.specs.declared.counters.Counters.{Counters}
+use Rattle.values.specs.Counters.{movedAll}
 use Rattle.session.specs.declared.Session.{Session}
+
+-- "width 80 to 608"
+abbrev pub leastWidth : ℕ
+leastWidth = 80
+
+abbrev pub mostWidth : ℕ
+mostWidth = 608
+
+-- "origin 0..2048, 0..4096"
+abbrev pub mostX : ℕ
+mostX = 2048
+
+abbrev pub mostY : ℕ
+mostY = 4096
+
+-- the active form is an entry of the directory; this number says that there is none
+abbrev pub noForm : ℕ
+noForm = 65535
+
+-- "owed plus drawn at most 65,535"
+abbrev pub mostLabels : ℕ
+mostLabels = 65535
 
 -- no counter is set
 abbrev pub blank : Counters
@@ -15,13 +39,7 @@ abbrev pub session : ℕ → ℕ → ℕ → ℕ → ℕ → ℕ → ℕ → ℕ
 session width length turn x y active owed drawn counters =
     record { width = width; length = length; turn = turn; x = x; y = y; active = active; owed = owed; drawn = drawn; counters = counters }
 
--- "Opening .. sets width 608, length N, origin 0,0, ZT, nothing owed": N rows. No form is active (65535)
-abbrev pub fresh : ℕ → Session
-fresh rows = session 608 rows 0 0 0 65535 0 0 blank
-
--- "a refused opening returns zeros"
-abbrev pub none : Session
-none = session 0 0 0 0 0 0 0 0 blank
+-- ---- the setters: all else stays
 
 -- `Qm,g`, `qm`
 abbrev pub sized : Session → ℕ → ℕ → Session
@@ -35,21 +53,40 @@ turning s turn = session (s .width) (s .length) turn (s .x) (s .y) (s .active) (
 abbrev pub based : Session → ℕ → ℕ → Session
 based s x y = session (s .width) (s .length) (s .turn) x y (s .active) (s .owed) (s .drawn) (s .counters)
 
--- "FR unsets all values; so does the end of activity, by N or FK"
-abbrev pub activated : Session → ℕ → Session
-activated s active = session (s .width) (s .length) (s .turn) (s .x) (s .y) active (s .owed) (s .drawn) blank
+-- the active form
+abbrev pub withActive : Session → ℕ → Session
+withActive s active = session (s .width) (s .length) (s .turn) (s .x) (s .y) active (s .owed) (s .drawn) (s .counters)
+
+-- labels owed and drawn
+abbrev pub withLabels : Session → ℕ → ℕ → Session
+withLabels s owed drawn = session (s .width) (s .length) (s .turn) (s .x) (s .y) (s .active) owed drawn (s .counters)
 
 -- `?Cn,value`
 abbrev pub counting : Session → Counters → Session
 counting s counters = session (s .width) (s .length) (s .turn) (s .x) (s .y) (s .active) (s .owed) (s .drawn) counters
 
+-- ---- what is made of them
+
+-- "a refused opening returns zeros"
+abbrev pub none : Session
+none = session 0 0 0 0 0 0 0 0 blank
+
+-- "Opening .. sets width 608, length N, origin 0,0, ZT, nothing owed": N rows. No form is active
+abbrev pub fresh : ℕ → Session
+fresh rows = withActive (sized none mostWidth rows) noForm
+
+-- "FR unsets all values; so does the end of activity, by N or FK"
+abbrev pub activated : Session → ℕ → Session
+activated s active = counting (withActive s active) blank
+
 -- `Pk`: k labels are owed, none is drawn
 abbrev pub owing : Session → ℕ → Session
-owing s k = session (s .width) (s .length) (s .turn) (s .x) (s .y) (s .active) k 0 (s .counters)
+owing s k = withLabels s k 0
 
--- a label call "moves counters, and counts one drawn". A sound session that owes a label has drawn fewer than 65,535
-abbrev pub counted : Session → Counters → Session
-counted s counters =
-    cond (eqb (s .owed) 0 || eqb (s .drawn) 65535)
-    (counting s counters)
-    (session (s .width) (s .length) (s .turn) (s .x) (s .y) (s .active) (s .owed - 1) (s .drawn + 1) counters)
+-- a label call "moves counters", those that the active form declares
+abbrev pub moved : Session → Declared → Session
+moved s declared = counting s (movedAll declared (s .counters))
+
+-- "and counts one drawn". A sound session that owes a label has drawn fewer than 65,535
+abbrev pub counted : Session → Session
+counted s = cond (eqb (s .owed) 0 || eqb (s .drawn) mostLabels) s (withLabels s (s .owed - 1) (s .drawn + 1))

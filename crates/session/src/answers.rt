@@ -1,6 +1,7 @@
 // The table of answers.
 ghost use mathlib.Core.Path.{_≡_};
 ghost use Rattle.session.specs.Answers.{numberOf, isTaken};
+use crate::Session;
 
 // One case a row of paper 01's table, in its order.
 pub enum Answer {
@@ -63,4 +64,10 @@ pub fn is_taken(a: Answer) -> bool
     ensures { λ r. ⌜ r ≡ isTaken a ⌝ }
 {
     number(a) == 0
+}
+
+// What opening and a label call answer.
+pub struct Labelled {
+    pub answer: Answer,
+    pub session: Session,
 }

@@ -2,19 +2,42 @@
 //
 // Paper 01, "What is lent": "The session holds width, length, turn, origin, counters with set or unset (then 0), active form, labels owed
 // and drawn." It is plain unsigned numbers by value, so that any bytes are some session and sound alone judges it; what changes it is a
-// method that takes the session and hands the next one back. The table of answers is an enum whose numbers stand in one definition.
-// Whether a session is sound with the memory beside it is left to crate `sound`, and when a method is called to crate `station`.
+// method that takes the session and hands the next one back: the origin replaced, the counters moved, a label drawn (`labels`). The table of
+// answers is an enum whose numbers stand in one definition. Whether a session is sound with the memory beside it is left to crate `sound`, and when
+// a method is called to crate `station`.
 ghost use mathlib.Core.Path.{_≡_};
-ghost use Rattle.session.specs.Session.{fresh, none, blank, sized, turning, based, activated, counting, owing, counted};
-ghost use mathlib.Core.Bool.{_||_};
-ghost use Rattle.session.specs.Lent.{pageWrong, storeWrong, directoryWrong, lengthsWrong};
+ghost use Rattle.session.specs.Session.{fresh, none, blank, sized, turning, based, activated, counting, owing, moved, counted};
 use values::Counters;
+use values::Declared;
 
+mod active; // the active form
 pub mod answers; // the table's answers
+mod labels; // one label drawn
+mod lent; // what is lent
 
+pub use active::active_declared;
+pub use active::active_pictures;
 pub use answers::Answer;
+pub use answers::Labelled;
+pub use lent::BYTES_OF_VALUES;
+pub use lent::lengths_wrong;
 
-// Numbers as they stand in the image of a session: active is an entry of the directory, 65535 none.
+// "width 80 to 608", "origin 0..2048, 0..4096".
+pub const LEAST_WIDTH: u16 = 80;
+
+pub const MOST_WIDTH: u16 = 608;
+
+pub const MOST_X: u16 = 2048;
+
+pub const MOST_Y: u16 = 4096;
+
+// The active form is an entry of the directory; this number says that there is none.
+pub const NO_FORM: u16 = 65535;
+
+// "owed plus drawn at most 65,535."
+pub const MOST_LABELS: u16 = 65535;
+
+// Numbers as they stand in the image of a session.
 pub struct Session {
     pub width: u16,
     pub length: u16,
@@ -44,12 +67,12 @@ impl Session {
     {
         let counters = unset();
         Session {
-            width: 608,
+            width: MOST_WIDTH,
             length: rows,
             turn: 0,
             x: 0,
             y: 0,
-            active: 65535,
+            active: NO_FORM,
             owed: 0,
             drawn: 0,
             counters: counters,
@@ -132,67 +155,27 @@ impl Session {
         s
     }
 
-    // A label call "moves counters, and counts one drawn": one is taken from owed. With none owed, or 65,535 drawn, neither number moves.
-    pub fn counted(self, counters: Counters) -> Session
-        ensures { λ r. ⌜ r ≡ counted self counters ⌝ }
+    // A label call "moves counters", those that the active form declares.
+    pub fn moved(self, declared: Declared) -> Session
+        ensures { λ r. ⌜ r ≡ moved self declared ⌝ }
+    {
+        let counters = self.counters;
+        self.counting(values::counters::move_all(declared, counters))
+    }
+
+    // "and counts one drawn": one is taken from owed. With none owed, or 65,535 drawn, neither number moves.
+    pub fn counted(self) -> Session
+        ensures { λ r. ⌜ r ≡ counted self ⌝ }
     {
         let mut s = self;
-        s.counters = counters;
         if s.owed == 0 {
             return s;
         }
-        if s.drawn == 65535 {
+        if s.drawn == MOST_LABELS {
             return s;
         }
         s.owed -= 1;
         s.drawn += 1;
         s
     }
-}
-
-// a or b, without a branch.
-fn either(a: bool, b: bool) -> bool
-    ensures { λ r. ⌜ r ≡ (a || b) ⌝ }
-{
-    if a { true } else { b }
-}
-
-// Whether a page or background may not have n bytes.
-fn page_wrong(n: usize) -> bool
-    ensures { λ r. ⌜ r ≡ pageWrong n ⌝ }
-{
-    either(n % 76 != 0, either(n < 76, 304000 < n))
-}
-
-// Whether a store may not have so many bytes beside so many links.
-fn store_wrong(store: usize, links: usize) -> bool
-    ensures { λ r. ⌜ r ≡ storeWrong store links ⌝ }
-{
-    if 2024 < links {
-        return true;
-    }
-    either(links == 0, store != links * 256)
-}
-
-// Whether a directory may not have n bytes.
-fn directory_wrong(n: usize) -> bool
-    ensures { λ r. ⌜ r ≡ directoryWrong n ⌝ }
-{
-    either(n % 16 != 0, either(n < 16, 8192 < n))
-}
-
-// "a lent length is wrong": of the background, the store, the links, the directory and the values, in elements.
-pub fn lengths_wrong(
-    background: usize,
-    store: usize,
-    links: usize,
-    directory: usize,
-    values: usize,
-) -> bool
-    ensures { λ r. ⌜ r ≡ lengthsWrong background store links directory values ⌝ }
-{
-    let p = page_wrong(background);
-    let s = store_wrong(store, links);
-    let d = directory_wrong(directory);
-    either(p, either(s, either(d, values != 340)))
 }

@@ -1,3 +1,4 @@
 pub mod Active
 pub mod Entries
 pub mod Clauses
+pub mod EntryRows

@@ -1,8 +1,8 @@
 -- Paper 01: "Sound means: ..", one named test a clause, in its order and words. A test takes only what it reads.
 -- Assumes nothing.
 use Prim.Native.Nat.{ℕ, _+_}
-use mathlib.Core.Bool.{Bool, true, false, not, _&&_, _||_, cond}
-use mathlib.Core.List.{List, []}
+use mathlib.Core.Bool.{Bool, true, false, not, _&&_, _||_}
+use mathlib.Core.List.{List}
 use lib.Dec.{eqb, leb}
 use Rattle.kinds.specs.Bytes.{between}
 use Rattle.cells.specs.Count.{allTo}
@@ -17,19 +17,21 @@ use Rattle.values.specs.Stored.{valuesSound, allSet}
 use Rattle.picture.specs.Rules.{legal}
 use Rattle.forms.specs.Form.{formOk, declaredOf, picturesStored, isAt}
 use Rattle.session.specs.declared.Session.{Session}
+use Rattle.session.specs.Session.{leastWidth, mostWidth, mostX, mostY, noForm, mostLabels}
 use Rattle.session.specs.Lent.{World, rowsOf}
+unfoldable pub use Rattle.session.specs.Active.{activeBytes}
 
 -- "these numbers in their ranges; length at most N"
 unfoldable pub numbersOk : ℕ → Session → Bool
 numbersOk rows s =
-    between 80 608 (s .width) && (between 1 rows (s .length) && (leb (s .turn) 1 && (leb (s .x) 2048 && leb (s .y) 4096)))
+    between leastWidth mostWidth (s .width) && (between 1 rows (s .length) && (leb (s .turn) 1 && (leb (s .x) mostX && leb (s .y) mostY)))
 
 -- "no background dot outside width by length"
 unfoldable pub backgroundOk : ℕ → ℕ → List ℕ → Bool
 backgroundOk width length background = whiteOutside width length background
 
 -- "names upper-case, legal, unique per kind; at most one entry of kind 3; each chain of exactly size/256 rounded up, at least one, portions; no
--- portion in two chains; all others free; unused bytes zero" is `storeSound` of crate `sound`
+-- portion in two chains; all others free; unused bytes zero" is `storeSound` of crate `store_sound`
 
 -- "each form a row of normalised lines that recording would take one after another (presence of pictures aside)"
 abbrev pub formSound : List ℕ → List ℕ → List ℕ → ℕ → Bool
@@ -45,13 +47,9 @@ contentOk store links directory i = formSound store links directory i && picture
 unfoldable pub contentsOk : List ℕ → List ℕ → List ℕ → Bool
 contentsOk store links directory = allTo (contentOk store links directory) (entries directory)
 
--- "the active form a stored one": none (65535), or an entry of kind 1
+-- "the active form a stored one": none, or an entry of kind 1
 unfoldable pub activeOk : List ℕ → ℕ → Bool
-activeOk directory active = eqb active 65535 || eqb (kind (entry directory active)) 1
-
--- the bytes of the active form; none without one
-unfoldable pub activeBytes : List ℕ → List ℕ → List ℕ → ℕ → List ℕ
-activeBytes store links directory active = cond (eqb active 65535) [] (content store links directory active)
+activeOk directory active = eqb active noForm || eqb (kind (entry directory active)) 1
 
 -- "set values fit its declarations, undeclared ones unset"
 abbrev pub valuesOk : List ℕ → List ℕ → Counters → Bool
@@ -59,7 +57,7 @@ valuesOk bytes values counters = valuesSound (declaredOf bytes) values counters
 
 -- "owed plus drawn at most 65,535"
 abbrev pub countsOk : Session → Bool
-countsOk s = leb (s .owed + s .drawn) 65535
+countsOk s = leb (s .owed + s .drawn) mostLabels
 
 -- "labels owed only when nothing is recorded, all declared values are set and the pictures exist"; d is what the active form declares
 abbrev pub owedWith : Declared → ℕ → List ℕ → List ℕ → List ℕ → Counters → Bool

@@ -5,17 +5,19 @@ ghost use Rattle.store.specs.Content.{content};
 ghost use Rattle.picture.specs.Rules.{legal};
 ghost use Rattle.sound.specs.Sound.{contentOk, contentsOk};
 
-// A picture is at most 32,768 bytes, so that a buffer of that size holds all that can be legal. `contents_ok` makes it once for all entries.
+// A picture is "129 to 32,768 bytes", so that a buffer of that size holds all that can be legal. `contents_ok` makes it once for all entries.
+const MOST_PICTURE: usize = 32768;
+
 fn picture_legal(store: &[u8], links: &[u16], directory: &[u8], i: usize, buffer: &mut [u8]) -> bool
     requires { ⌜ length (now buffer) ≡ 32768 ⌝ }
     ensures { λ r. ⌜ r ≡ legal (content (now (store .entry)) (now (links .entry)) (now (directory .entry)) i) ⌝ }
 {
     let place = store::reader(links, directory, i);
-    if 32768 < place.left {
+    if MOST_PICTURE < place.left {
         return false;
     }
     let n = store::copy_out(store, links, directory, i, buffer);
-    picture::is_legal(values::bytes::front(buffer, n))
+    picture::is_legal(ground::front(buffer, n))
 }
 
 // The content of entry i is what its kind asks for.
@@ -53,6 +55,6 @@ fn all_ok(store: &[u8], links: &[u16], directory: &[u8], buffer: &mut [u8]) -> b
 pub fn contents_ok(store: &[u8], links: &[u16], directory: &[u8]) -> bool
     ensures { λ r. ⌜ r ≡ contentsOk (now (store .entry)) (now (links .entry)) (now (directory .entry)) ⌝ }
 {
-    let mut buffer = [0u8; 32768];
+    let mut buffer = [0u8; MOST_PICTURE];
     all_ok(store, links, directory, &mut buffer)
 }

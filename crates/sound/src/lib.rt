@@ -2,29 +2,37 @@
 //
 // Paper 01's paragraph "Sound means: .." is `sound` (specs/Sound.antt), a conjunction with one named test a clause, in the paper's order and words.
 // `is_sound` decides it exactly, for any session and any memory, in one pass over what is lent: each portion, each entry and each line of each form is
-// looked at once, and the active form's lines once more. That every call keeps it is said in crate `demands`.
+// looked at once, and the active form's lines once more. `entry_answer` is what every read and label call checks first: 1, 2 and 3. That every call
+// keeps a sound memory sound is said in crate `keeps_sound`.
 ghost use mathlib.Core.Path.{_≡_};
 ghost use mathlib.Core.Bool.{_&&_};
 ghost use Prim.Native.Nat.{_+_};
 ghost use lib.Dec.{leb};
 ghost use Rattle.kinds.specs.Bytes.{between};
 ghost use Rattle.store.specs.Find.{recorded};
-ghost use Rattle.forms.specs.Form.{isAt, declaredOf, picturesStored};
+ghost use Rattle.forms.specs.Form.{isAt};
+ghost use Rattle.session.specs.Active.{activeBytes};
 ghost use Rattle.session.specs.Lent.{world};
-ghost use Rattle.sound.specs.Sound.{backgroundOk, activeOk, activeBytes, owedWith, activitySound, sound};
+ghost use Rattle.session.specs.Session.{leastWidth, mostWidth, mostX, mostY, mostLabels};
+ghost use Rattle.sound.specs.Sound.{backgroundOk, activeOk, owedWith, activitySound, sound};
+pub use checks::entry_answer;
+use dots::BYTES_A_ROW;
+use ground::both;
+use session::LEAST_WIDTH;
+use session::MOST_LABELS;
+use session::MOST_WIDTH;
+use session::MOST_X;
+use session::MOST_Y;
+use session::NO_FORM;
 use session::Session;
+pub use session::active_declared;
+pub use session::active_pictures;
 use store::Found;
 use values::Counters;
 use values::Declared;
 
+mod checks; // 1, 2 and 3, that every read and label call checks first
 mod contents; // forms and pictures, entry by entry
-
-// a and b, without a branch.
-fn both(a: bool, b: bool) -> bool
-    ensures { λ r. ⌜ r ≡ (a && b) ⌝ }
-{
-    if a { b } else { false }
-}
 
 fn wide(x: u16) -> usize
     ensures { λ r. ⌜ r ≡ x ⌝ }
@@ -40,13 +48,13 @@ fn is_in(lo: usize, hi: usize, n: usize) -> bool
 
 // "these numbers in their ranges; length at most N"
 fn numbers_ok(width: u16, length: u16, turn: u8, x: u16, y: u16, rows: usize) -> bool
-    ensures { λ r. ⌜ r ≡ (between 80 608 width && (between 1 rows length && (leb turn 1 && (leb x 2048 && leb y 4096)))) ⌝ }
+    ensures { λ r. ⌜ r ≡ (between leastWidth mostWidth width && (between 1 rows length && (leb turn 1 && (leb x mostX && leb y mostY)))) ⌝ }
 {
-    let wide_enough = is_in(80, 608, wide(width));
+    let wide_enough = is_in(LEAST_WIDTH as usize, MOST_WIDTH as usize, wide(width));
     let long_enough = is_in(1, rows, wide(length));
     both(
         wide_enough,
-        both(long_enough, both(turn <= 1, both(x <= 2048, y <= 4096))),
+        both(long_enough, both(turn <= 1, both(x <= MOST_X, y <= MOST_Y))),
     )
 }
 
@@ -61,30 +69,10 @@ fn background_ok(background: &[u8], width: u16, length: u16) -> bool
 fn active_ok(directory: &[u8], active: u16) -> bool
     ensures { λ r. ⌜ r ≡ activeOk (now (directory .entry)) active ⌝ }
 {
-    if active == 65535 {
+    if active == NO_FORM {
         return true;
     }
     store::kind_at(directory, wide(active)) == 1
-}
-
-// What the active form declares; nothing without one.
-pub fn active_declared(store: &[u8], links: &[u16], directory: &[u8], active: u16) -> Declared
-    ensures { λ r. ⌜ r ≡ declaredOf (activeBytes (now (store .entry)) (now (links .entry)) (now (directory .entry)) active) ⌝ }
-{
-    if active == 65535 {
-        return Declared::none();
-    }
-    forms::declared_at(store, links, directory, wide(active))
-}
-
-// Whether the pictures that the active form draws are stored.
-pub fn active_pictures(store: &[u8], links: &[u16], directory: &[u8], active: u16) -> bool
-    ensures { λ r. ⌜ r ≡ picturesStored (now (directory .entry)) (activeBytes (now (store .entry)) (now (links .entry)) (now (directory .entry)) active) ⌝ }
-{
-    if active == 65535 {
-        return true;
-    }
-    forms::pictures_stored(store, links, directory, wide(active))
 }
 
 // Whether a form is being recorded.
@@ -123,9 +111,9 @@ fn owed_ok(
 
 // "owed plus drawn at most 65,535"
 fn counts_ok(owed: u16, drawn: u16) -> bool
-    ensures { λ r. ⌜ r ≡ leb (owed + drawn) 65535 ⌝ }
+    ensures { λ r. ⌜ r ≡ leb (owed + drawn) mostLabels ⌝ }
 {
-    wide(owed) + wide(drawn) <= 65535
+    wide(owed) + wide(drawn) <= MOST_LABELS as usize
 }
 
 // The clauses of the active form and the labels owed.
@@ -161,7 +149,7 @@ pub fn is_sound(
 ) -> bool
     ensures { λ r. ⌜ r ≡ sound session (world (now (background .entry)) (now (store .entry)) (now (links .entry)) (now (directory .entry)) (now (values .entry))) ⌝ }
 {
-    let rows = background.len() / 76;
+    let rows = background.len() / BYTES_A_ROW;
     if !numbers_ok(
         session.width,
         session.length,

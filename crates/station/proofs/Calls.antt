@@ -15,26 +15,11 @@ use Rattle.store.specs.declared.Found.{Found}
 use Rattle.store.specs.declared.Found.the-variants.{At, Nothing}
 use Rattle.store.specs.Find.{recorded}
 use Rattle.read.specs.declared.Command.{Command}
-use Rattle.read.specs.declared.Command.the-variants.{
-  Item as item,
-  Length,
-  Width,
-  Turn,
-  Start,
-  End,
-  Retrieve,
-  EraseForm,
-  ListForms,
-  PrintForm,
-  Store,
-  ListPictures,
-  ErasePicture,
-  SetVariable,
-  SetCounter,
-  Clear,
-  Print,
-  White,
-}
+use Rattle.read.specs.declared.Command.the-variants.{Item as item, End, Page, Forms, Pictures, Values, Listing}
+use Rattle.read.specs.declared.FormCommand.the-variants.{Start, Retrieve, Erase as EraseForm}
+use Rattle.read.specs.declared.PictureCommand.the-variants.{Store, Erase as ErasePicture}
+use Rattle.read.specs.declared.ValueCommand.the-variants.{Variable as EnterVariable, Counter as EnterCounter, Clear, Print}
+use Rattle.read.specs.declared.ListingCommand.the-variants.{Forms as ListForms, Pictures as ListPictures, Form as ListForm}
 use Rattle.read.specs.declared.Fault.the-variants.{Form as form, Limit}
 use Rattle.read.specs.declared.Read.{Read}
 use Rattle.read.specs.declared.Read.the-variants.{Taken as Reads, Refused}
@@ -46,26 +31,27 @@ use Rattle.font.specs.Rules.{legal}
 use Rattle.sound.specs.Sound.{sound}
 use Rattle.session.specs.declared.Session.{Session}
 use Rattle.session.specs.declared.answers.Answer.{Answer}
-use Rattle.session.specs.declared.answers.Answer.the-variants.{Taken, Unended, Long}
+use Rattle.session.specs.declared.answers.Answer.the-variants.{Taken}
 use Rattle.session.specs.Answers.{Row, row, answerOf, isTaken, numberOf}
 use Rattle.session.specs.Lent.{World, rowsOf, wrongLent}
-use Rattle.commands.specs.World.{State}
+use Rattle.results.specs.World.{State}
+use Rattle.results.specs.Result.{done, ran, ranBy}
 use Rattle.commands.specs.Rows.{recordRows, runRows, placedRows, lineRows}
 use Rattle.commands.specs.Does.{doesLine, listsLine}
-use Rattle.commands.specs.Running.{done, ran, ranBy, lineBy}
+use Rattle.commands.specs.Running.{lineBy}
 use Rattle.commands.proofs.Ends.{line-read}
 use Rattle.station.specs.declared.Outcome.{Outcome}
 use Rattle.station.specs.Outcomes.{After, after, outcome}
-use Rattle.station.specs.Table.{entryRows, frontRows, commandTable, lineOf, moreOf}
-use Rattle.station.specs.Station.{frontRead, readBy, doesFront, listsFront, accepted, refused, settled, readAs, commanded}
-use Rattle.station.proofs.Marked.{checked, entry-passed, entry-right}
+use Rattle.station.specs.Table.{entryRows, frontAnswer, frontRead, isLine, lineIn, frontRows, commandTable, lineOf, moreOf}
+use Rattle.station.specs.Station.{readBy, doesFront, listsFront, accepted, refused, readAs, commanded}
+use Rattle.sound.proofs.EntryRows.{checked, entry-passed, entry-right}
 
 -- ---- a command call that ends there
 
 early-call :
     (x y z : Bool) (rows : List Row) (input output : List ℕ) (s : Session) (w : World) (t : After) → isTaken (answerOf (checked x y z [])) ≡ false →
     after (outcome (answerOf (checked x y z [])) s 0 0) w output
-    ≡ settled (isTaken (answerOf (checked x y z rows))) t
+    ≡ cond (isTaken (answerOf (checked x y z rows))) t
     (refused (answerOf (checked x y z rows)) (readBy (answerOf (checked x y z rows)) input) s w output)
 unfolding answerOf isTaken numberOf readBy
 early-call true y z rows input output s w t h = refl
@@ -90,7 +76,7 @@ readFrom a f = cond (leb 1 (numberOf a) && leb (numberOf a) 4) 0 (frontRead f)
 
 abbrev answered : Session → List ℕ → World → List ℕ → List ℕ → Front → Answer → After
 answered s font w output input f a =
-    settled (isTaken a) (accepted (readFrom a f) (doesFront font w s input f) (listsFront w input f) output) (refused a (readFrom a f) s w output)
+    cond (isTaken a) (accepted (readFrom a f) (doesFront font w s input f) (listsFront w input f) output) (refused a (readFrom a f) s w output)
 
 abbrev fronted : Session → List ℕ → World → List ℕ → List ℕ → Front → After
 fronted s font w output input f = answered s font w output input f (answerOf (frontRows w s input (length output) f))
@@ -106,20 +92,20 @@ command-passed s font w output input f x a b q e g n h =
     (e ∙ ap (λ (k : Bool). answerOf (entryRows k font s w [])) q) g n)
     ∙ ap (fronted s font w output input) h
 
-front-short : (s : Session) (font : List ℕ) (w : World) (output input : List ℕ) → fronted s font w output input Short ≡ after (outcome Unended s 0 0) w output
+front-other :
+    (s : Session) (font : List ℕ) (w : World) (output input : List ℕ) (f : Front) → isLine f ≡ false →
+    fronted s font w output input f ≡ after (outcome (frontAnswer f) s (frontRead f) 0) w output
 unfolding answerOf isTaken numberOf
-front-short s font w output input = refl
+front-other s font w output input Short e = refl
+front-other s font w output input (LongLine k) e = refl
+front-other s font w output input (Idle k) e = refl
+front-other s font w output input (Line n k) e = absurd (true≢false e)
 
-front-long :
-    (s : Session) (font : List ℕ) (w : World) (output input : List ℕ) (k : ℕ) →
-    fronted s font w output input (LongLine k) ≡ after (outcome Long s k 0) w output
-unfolding answerOf isTaken numberOf
-front-long s font w output input k = refl
-
-front-idle :
-    (s : Session) (font : List ℕ) (w : World) (output input : List ℕ) (k : ℕ) → fronted s font w output input (Idle k) ≡ after (outcome Taken s k 0) w output
-unfolding answerOf isTaken numberOf
-front-idle s font w output input k = refl
+line-is : (f : Front) → isLine f ≡ true → f ≡ Line (lineIn f) (frontRead f)
+line-is Short e = absurd (true≢false (sym e))
+line-is (LongLine k) e = absurd (true≢false (sym e))
+line-is (Idle k) e = absurd (true≢false (sym e))
+line-is (Line n k) e = refl
 
 -- ---- a line: no answer from 6 on is one of 1 to 4
 
@@ -151,44 +137,30 @@ late-answer (r ∷ rs) e = late-first (r .answer) (r .applies) rs e (late-answer
 late-record : (w : World) (line : List ℕ) (i : ℕ) (c : Command) → allLate (recordRows w line i c) ≡ true
 unfolding numberOf
 late-record w line i (item it) = refl
-late-record w line i (Length l) = refl
-late-record w line i (Width m) = refl
-late-record w line i (Turn t) = refl
-late-record w line i (Start n) = refl
 late-record w line i End = refl
-late-record w line i (Retrieve n) = refl
-late-record w line i (EraseForm n) = refl
-late-record w line i ListForms = refl
-late-record w line i (PrintForm n) = refl
-late-record w line i (Store p) = refl
-late-record w line i ListPictures = refl
-late-record w line i (ErasePicture n) = refl
-late-record w line i (SetVariable v) = refl
-late-record w line i (SetCounter c) = refl
-late-record w line i Clear = refl
-late-record w line i (Print p) = refl
-late-record w line i White = refl
+late-record w line i (Page c) = refl
+late-record w line i (Forms c) = refl
+late-record w line i (Pictures c) = refl
+late-record w line i (Values c) = refl
+late-record w line i (Listing c) = refl
 
 late-run : (w : World) (s : Session) (line more : List ℕ) (room : ℕ) (c : Command) → allLate (runRows w s line more room c) ≡ true
 unfolding numberOf
 late-run w s line more room (item it) = refl
-late-run w s line more room (Length l) = refl
-late-run w s line more room (Width m) = refl
-late-run w s line more room (Turn t) = refl
-late-run w s line more room (Start n) = refl
 late-run w s line more room End = refl
-late-run w s line more room (Retrieve n) = refl
-late-run w s line more room (EraseForm n) = refl
-late-run w s line more room ListForms = refl
-late-run w s line more room (PrintForm n) = refl
-late-run w s line more room (Store p) = refl
-late-run w s line more room ListPictures = refl
-late-run w s line more room (ErasePicture n) = refl
-late-run w s line more room (SetVariable v) = refl
-late-run w s line more room (SetCounter c) = refl
-late-run w s line more room Clear = refl
-late-run w s line more room (Print p) = refl
-late-run w s line more room White = refl
+late-run w s line more room (Page c) = refl
+late-run w s line more room (Forms (Start n)) = refl
+late-run w s line more room (Forms (Retrieve n)) = refl
+late-run w s line more room (Forms (EraseForm n)) = refl
+late-run w s line more room (Pictures (Store p)) = refl
+late-run w s line more room (Pictures (ErasePicture n)) = refl
+late-run w s line more room (Values (EnterVariable v)) = refl
+late-run w s line more room (Values (EnterCounter c)) = refl
+late-run w s line more room (Values Clear) = refl
+late-run w s line more room (Values (Print p)) = refl
+late-run w s line more room (Listing ListForms) = refl
+late-run w s line more room (Listing ListPictures) = refl
+late-run w s line more room (Listing (ListForm n)) = refl
 
 late-placed : (w : World) (s : Session) (line more : List ℕ) (room : ℕ) (c : Command) (f : Found) → allLate (placedRows w s line more room c f) ≡ true
 late-placed w s line more room c (At i) = late-record w line i c
@@ -202,7 +174,7 @@ late-line w s line more room (Reads c) = late-placed w s line more room c (recor
 
 line-choice :
     (t e : Bool) (a : Answer) (s : Session) (w : World) (o : List ℕ) (k : ℕ) (st : State) (bytes : List ℕ) → not e ≡ true →
-    settled t (accepted (cond e 0 k) st bytes o) (refused a (cond e 0 k) s w o)
+    cond t (accepted (cond e 0 k) st bytes o) (refused a (cond e 0 k) s w o)
     ≡ readAs k (cond t (ran (done Taken (st .session) (length bytes)) (st .world) (sets o 0 bytes)) (ran (done a s 0) w o))
 line-choice true false a s w o k st bytes h = refl
 line-choice false false a s w o k st bytes h = refl
@@ -210,7 +182,7 @@ line-choice t true a s w o k st bytes h = absurd (true≢false (sym h))
 
 line-call :
     (s : Session) (font : List ℕ) (w : World) (o line more : List ℕ) (k : ℕ) (r : Read) (a : Answer) → a ≡ answerOf (lineRows w s line more (length o) r) →
-    settled (isTaken a) (accepted (cond (leb 1 (numberOf a) && leb (numberOf a) 4) 0 k) (doesLine font w s line more r) (listsLine w line r) o)
+    cond (isTaken a) (accepted (cond (leb 1 (numberOf a) && leb (numberOf a) 4) 0 k) (doesLine font w s line more r) (listsLine w line r) o)
     (refused a (cond (leb 1 (numberOf a) && leb (numberOf a) 4) 0 k) s w o)
     ≡ readAs k (ranBy a s w o (doesLine font w s line more r) (listsLine w line r))
 line-call s font w o line more k r a e =
@@ -218,18 +190,6 @@ line-call s font w o line more k r a e =
     (ap late e ∙ late-answer (lineRows w s line more (length o) r) (late-line w s line more (length o) r))
 
 -- ---- "A line is up to 255 bytes"
-
-abbrev isLine : Front → Bool
-isLine Short = false
-isLine (LongLine k) = false
-isLine (Idle k) = false
-isLine (Line n k) = true
-
-abbrev lineIn : Front → ℕ
-lineIn Short = 0
-lineIn (LongLine k) = 0
-lineIn (Idle k) = 0
-lineIn (Line n k) = n
 
 line-front : (b c : Bool) (n k : ℕ) → n < 256 → lineIn (cond b (Idle (n + 1)) (cond c (Line n k) Short)) < 256
 line-front true c n k h = omega arith
@@ -253,7 +213,7 @@ front-least s =
     front-cases s (ltb (run Inside s) (length s)) (ltb (run Inside s) 256) (ltb (length s) 256) (run Inside s) (run Inside s + 1) (length s)
     (ltb-true (run Inside s) 256)
 
-pub line-short : (s : List ℕ) (n k : ℕ) → frontOf s ≡ Line n k → n < 256
+line-short : (s : List ℕ) (n k : ℕ) → frontOf s ≡ Line n k → n < 256
 line-short s n k e = subst (λ (f : Front). lineIn f < 256) e (front-least s)
 
 line-least : (s : List ℕ) (n : ℕ) → n < 256 → ltb 255 (length (lineOf s n)) ≡ false
@@ -268,30 +228,28 @@ front-line s font w output input n k h l =
     ∙ ap (readAs k)
     (line-read font w s (lineOf input n) (moreOf input n k) output (readOf (rowsOf w) (lineOf input n)) h (line-least input n l) refl)
 
+-- a line's length as the code has it
+pub line-fits : (s : List ℕ) (f : Front) (n : ℕ) → f ≡ frontOf s → n ≡ lineIn f → n < 256
+line-fits s f n e h = subst (λ (k : ℕ). k < 256) (sym (h ∙ ap lineIn e)) (front-least s)
+
 -- ---- a command call that passes the checks, from its own steps to `commanded`
 
-module _ (s : Session) (font : List ℕ) (w : World) (output input : List ℕ) (x : Bool) (a : Answer) (b : Bool)
-    (q : x ≡ wrongLent w) (e : a ≡ answerOf (entryRows x font s w [])) (g : b ≡ isTaken a) (n : not b ≡ false) where
-  pub command-short : (r : Outcome) → frontOf input ≡ Short → r ≡ outcome Unended s 0 0 → after r w output ≡ commanded s font w output input
-  command-short r h z =
-      ap (λ (o : Outcome). after o w output) z
-      ∙ sym (command-passed s font w output input Short x a b q e g n h ∙ front-short s font w output input)
-
-  pub command-long : (k : ℕ) (r : Outcome) → frontOf input ≡ LongLine k → r ≡ outcome Long s k 0 → after r w output ≡ commanded s font w output input
-  command-long k r h z =
-      ap (λ (o : Outcome). after o w output) z
-      ∙ sym (command-passed s font w output input (LongLine k) x a b q e g n h ∙ front-long s font w output input k)
-
-  pub command-idle : (k : ℕ) (r : Outcome) → frontOf input ≡ Idle k → r ≡ outcome Taken s k 0 → after r w output ≡ commanded s font w output input
-  command-idle k r h z =
-      ap (λ (o : Outcome). after o w output) z
-      ∙ sym (command-passed s font w output input (Idle k) x a b q e g n h ∙ front-idle s font w output input k)
+module _ (s : Session) (font : List ℕ) (w : World) (output input : List ℕ) (a : Answer) (b : Bool) (f : Front) (l : Bool) (m : ℕ)
+    (e : a ≡ answerOf (entryRows (wrongLent w) font s w [])) (g : b ≡ isTaken a) (n : not b ≡ false) (h : f ≡ frontOf input) (d : m ≡ frontRead f)
+    (i : l ≡ isLine f) where
+  pub command-other : (o : Answer) (r : Outcome) → l ≡ false → o ≡ frontAnswer f → r ≡ outcome o s m 0 → after r w output ≡ commanded s font w output input
+  command-other o r t p z =
+      ap (λ (x : Outcome). after x w output) (z ∙ (λ j. outcome (p j) s (d j) 0))
+      ∙ sym (command-passed s font w output input f (wrongLent w) a b refl e g n (sym h) ∙ front-other s font w output input f (sym i ∙ t))
 
   pub command-line :
-      (m k : ℕ) (t : After) → frontOf input ≡ Line m k → t ≡ readAs k (lineBy font w s (lineOf input m) (moreOf input m k) output) →
+      (k : ℕ) (t : After) → l ≡ true → k ≡ lineIn f → t ≡ readAs m (lineBy font w s (lineOf input k) (moreOf input k m) output) →
       t ≡ commanded s font w output input
-  command-line m k t h z =
+  command-line k t y p z =
+      let v : frontOf input ≡ Line (lineIn f) (frontRead f) = sym h ∙ line-is f (sym i ∙ y) in
       z
+      ∙ (λ j. readAs (d j) (lineBy font w s (lineOf input (p j)) (moreOf input (p j) (d j)) output))
       ∙ sym
-      (command-passed s font w output input (Line m k) x a b q e g n h
-      ∙ front-line s font w output input m k (entry-right x (wrongLent w) font s w a b q e g n) (line-short input m k h))
+      (command-passed s font w output input (Line (lineIn f) (frontRead f)) (wrongLent w) a b refl e g n v
+      ∙ front-line s font w output input (lineIn f) (frontRead f) (entry-right (wrongLent w) (wrongLent w) font s w a b refl e g n)
+      (line-short input (lineIn f) (frontRead f) v))

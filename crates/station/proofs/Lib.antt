@@ -1,5 +1,2 @@
-pub mod Cleared
-pub mod Below
-pub mod Marked
 pub mod Calls
 pub mod Promises

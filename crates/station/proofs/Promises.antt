@@ -1,11 +1,13 @@
 -- Theorems about the three calls: a refusal keeps what was lent, and two outcomes of one call are equal.
 -- Assumes nothing.
 use mathlib.Core.Path.{_≡_, refl, sym, ap, _∙_}
-use mathlib.Core.Bool.{Bool, true, false, not, _||_, true≢false}
+use mathlib.Core.Bool.{Bool, true, false, not, cond, _&&_, _||_, true≢false}
 use mathlib.Core.List.{List}
 use Prim.Native.Nat.{ℕ}
 use lib.ListN.{length}
-use lib.Dec.{eqb}
+use lib.Dec.{eqb, leb}
+use borrow.Author.Tests.{eqb-true}
+use Rattle.read.specs.Front.{frontOf}
 use Rattle.cells.specs.Cell.{zeros}
 use Rattle.session.specs.declared.Session.{Session}
 use Rattle.session.specs.declared.answers.Answer.{Answer}
@@ -15,14 +17,15 @@ use Rattle.session.specs.Session.{none, fresh}
 use Rattle.session.specs.Lent.{World, rowsOf, wrongLent}
 use Rattle.station.specs.Outcomes.{After, after, outcome, Drawn, drawnBy, labelled, Opened, openedBy}
 use Rattle.station.specs.Table.{commandTable, labelTable}
-use Rattle.station.specs.Station.{cleared, pickOpened, opened, readBy, settled, commanded, labelPage, labelSession, settledLabel, labelledBy}
+use Rattle.results.specs.World.{State}
+use Rattle.station.specs.Station.{cleared, opened, frontRead, readBy, doesFront, listsFront, accepted, refused, commanded, labelPage, labelSession, labelledBy}
 
 -- ---- a label call that is refused keeps session and page
 
 label-keeps :
     (t : Bool) (a : Answer) (s : Session) (page : List ℕ) (c : Drawn) → c .outcome .answer ≡ Taken →
-    isTaken (settledLabel t c (drawnBy (labelled a s) page) .outcome .answer) ≡ false →
-    settledLabel t c (drawnBy (labelled a s) page) ≡ drawnBy (labelled (settledLabel t c (drawnBy (labelled a s) page) .outcome .answer) s) page
+    isTaken (cond t c (drawnBy (labelled a s) page) .outcome .answer) ≡ false →
+    cond t c (drawnBy (labelled a s) page) ≡ drawnBy (labelled (cond t c (drawnBy (labelled a s) page) .outcome .answer) s) page
 unfolding isTaken numberOf
 label-keeps true a s page c e h = absurd (true≢false (sym (ap isTaken e) ∙ h))
 label-keeps false a s page c e h = refl
@@ -33,14 +36,14 @@ pub label-refusal-keeps :
 unfolding labelledBy
 label-refusal-keeps s font w page h =
     label-keeps (isTaken (answerOf (labelTable s font w (length page)))) (answerOf (labelTable s font w (length page))) s page
-    (drawnBy (labelled Taken (labelSession s w)) (labelPage font s w page)) refl h
+    (drawnBy (labelled Taken (labelSession s w)) (labelPage font s w)) refl h
 
 -- ---- an opening that is refused keeps every list, and returns zeros
 
 open-keeps :
     (t : Bool) (page : List ℕ) (w : World) (c : Opened) → c .outcome .answer ≡ Taken →
-    isTaken (pickOpened t (openedBy (labelled Lengths none) page w) c .outcome .answer) ≡ false →
-    pickOpened t (openedBy (labelled Lengths none) page w) c ≡ openedBy (labelled Lengths none) page w
+    isTaken (cond t (openedBy (labelled Lengths none) page w) c .outcome .answer) ≡ false →
+    cond t (openedBy (labelled Lengths none) page w) c ≡ openedBy (labelled Lengths none) page w
 unfolding isTaken numberOf
 open-keeps true page w c e h = refl
 open-keeps false page w c e h = absurd (true≢false (sym (ap isTaken e) ∙ h))
@@ -56,9 +59,9 @@ open-refusal-keeps page w h =
 
 command-keeps :
     (t : Bool) (a : Answer) (n : Answer → ℕ) (s : Session) (w : World) (output : List ℕ) (c : After) → c .outcome .answer ≡ Taken →
-    isTaken (settled t c (after (outcome a s (n a) 0) w output) .outcome .answer) ≡ false →
-    settled t c (after (outcome a s (n a) 0) w output)
-    ≡ after (outcome (settled t c (after (outcome a s (n a) 0) w output) .outcome .answer) s (n (settled t c (after (outcome a s (n a) 0) w output) .outcome .answer)) 0) w output
+    isTaken (cond t c (after (outcome a s (n a) 0) w output) .outcome .answer) ≡ false →
+    cond t c (after (outcome a s (n a) 0) w output)
+    ≡ after (outcome (cond t c (after (outcome a s (n a) 0) w output) .outcome .answer) s (n (cond t c (after (outcome a s (n a) 0) w output) .outcome .answer)) 0) w output
 unfolding isTaken numberOf
 command-keeps true a n s w output c e h = absurd (true≢false (sym (ap isTaken e) ∙ h))
 command-keeps false a n s w output c e h = refl
@@ -70,6 +73,27 @@ pub command-refusal-keeps :
 unfolding commanded
 command-refusal-keeps s font w output input h =
     command-keeps (isTaken (answerOf (commandTable s font w (length output) input))) (answerOf (commandTable s font w (length output) input)) (λ (a : Answer). readBy a input) s w output _ refl h
+
+-- ---- what a command call reads is told by its answer and its input alone, so that `rest` gives what the call left unread
+
+taken-reads : (a : Answer) (input : List ℕ) → isTaken a ≡ true → readBy a input ≡ readBy Taken input
+unfolding isTaken numberOf readBy
+taken-reads a input h = ap (λ (n : ℕ). cond (leb 1 n && leb n 4) 0 (frontRead (frontOf input))) (eqb-true (numberOf a) 0 h)
+
+either-reads :
+    (t : Bool) (a : Answer) (n : Answer → ℕ) (s : Session) (w : World) (output : List ℕ) (st : State) (bytes : List ℕ) → (t ≡ true → n a ≡ n Taken) →
+    cond t (accepted (n a) st bytes output) (refused a (n a) s w output) .outcome .read
+    ≡ n (cond t (accepted (n a) st bytes output) (refused a (n a) s w output) .outcome .answer)
+either-reads true a n s w output st bytes h = h refl
+either-reads false a n s w output st bytes h = refl
+
+pub command-reads :
+    (s : Session) (font : List ℕ) (w : World) (output input : List ℕ) →
+    commanded s font w output input .outcome .read ≡ readBy (commanded s font w output input .outcome .answer) input
+unfolding commanded
+command-reads s font w output input =
+    let a : Answer = answerOf (commandTable s font w (length output) input) in
+    either-reads (isTaken a) a (λ (b : Answer). readBy b input) s w output (doesFront font w s input (frontOf input)) (listsFront w input (frontOf input)) (taken-reads a input)
 
 -- ---- two outcomes of one call are equal
 

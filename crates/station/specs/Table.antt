@@ -1,26 +1,21 @@
--- Paper 01's table for each call, a row for each line of it that the call can give, in its order.
+-- Paper 01's table for a command call, a row for each line of it that the call can give, in its order.
 -- Assumes nothing.
 use Prim.Native.Nat.{ℕ, _+_, _-_}
-use mathlib.Core.Bool.{Bool, true, not, _||_}
+use mathlib.Core.Bool.{Bool, true, false}
 use mathlib.Core.List.{List, [], _∷_}
-use lib.ListN.{length, take, drop}
-use lib.Dec.{eqb}
-use Rattle.font.specs.Rules.{legal as legalFont}
+use lib.ListN.{take, drop}
 use Rattle.read.specs.declared.Front.{Front}
 use Rattle.read.specs.declared.Front.the-variants.{Short, Long as LongLine, Idle, Line}
 use Rattle.read.specs.Commands.{readOf}
 use Rattle.read.specs.Front.{frontOf}
-use Rattle.sound.specs.Sound.{sound}
 use Rattle.session.specs.declared.Session.{Session}
-use Rattle.session.specs.declared.answers.Answer.the-variants.{Lengths, Font, Unsound, Unended, Long, NoneOwed}
+use Rattle.session.specs.declared.answers.Answer.{Answer}
+use Rattle.session.specs.declared.answers.Answer.the-variants.{Taken, Unended, Long}
 use Rattle.session.specs.Answers.{Row, row}
 use Rattle.session.specs.Lent.{World, rowsOf, wrongLent}
 use Rattle.commands.specs.Rows.{lineRows}
-
--- ---- 1, 2, 3: every call. [2] is "checked by every read and label call"
-
-abbrev pub entryRows : Bool → List ℕ → Session → World → List Row → List Row
-entryRows wrong font s w rows = row Lengths wrong ∷ row Font (not (legalFont font)) ∷ row Unsound (not (sound s w)) ∷ rows
+pub use Rattle.sound.specs.Entry.{entryRows}
+unfoldable pub use Rattle.labelling.specs.Labelling.{labelTable}
 
 -- the line at the front of the input, and what follows it up to k bytes read
 abbrev pub lineOf : List ℕ → ℕ → List ℕ
@@ -29,18 +24,45 @@ lineOf input n = take n input
 abbrev pub moreOf : List ℕ → ℕ → ℕ → List ℕ
 moreOf input n k = take (k - (n + 1)) (drop (n + 1) input)
 
--- ---- 4, 5: the front of the input. "Empty and `;` lines pass over 6 onward"
+-- ---- the front of the input, each case by the paper's answer and by how many bytes are read
+
+-- [4] "fewer than 256 bytes and no LF; or a well-formed GM lacks its bytes", [5] "no LF in the first 256 bytes"; "Empty and `;` lines pass over 6
+-- onward", and any other line is left to its own rows
+abbrev pub frontAnswer : Front → Answer
+frontAnswer Short = Unended
+frontAnswer (LongLine k) = Long
+frontAnswer (Idle k) = Taken
+frontAnswer (Line n k) = Taken
+
+-- "Answers 1 to 4 read nothing. Answer 5 reads through the first LF, or everything if there is none. Others read the line, and for a well-formed GM
+-- also its n bytes"
+abbrev pub frontRead : Front → ℕ
+frontRead Short = 0
+frontRead (LongLine k) = k
+frontRead (Idle k) = k
+frontRead (Line n k) = k
+
+-- whether a line that is not idle stands there whole, and its length
+abbrev pub isLine : Front → Bool
+isLine Short = false
+isLine (LongLine k) = false
+isLine (Idle k) = false
+isLine (Line n k) = true
+
+abbrev pub lineIn : Front → ℕ
+lineIn Short = 0
+lineIn (LongLine k) = 0
+lineIn (Idle k) = 0
+lineIn (Line n k) = n
+
+-- ---- the rows
+
 abbrev pub frontRows : World → Session → List ℕ → ℕ → Front → List Row
-frontRows w s input room Short = row Unended true ∷ []
-frontRows w s input room (LongLine k) = row Long true ∷ []
+frontRows w s input room Short = row (frontAnswer Short) true ∷ []
+frontRows w s input room (LongLine k) = row (frontAnswer (LongLine k)) true ∷ []
 frontRows w s input room (Idle k) = []
 frontRows w s input room (Line n k) = lineRows w s (lineOf input n) (moreOf input n k) room (readOf (rowsOf w) (lineOf input n))
 
 -- the table of a command call
 unfoldable pub commandTable : Session → List ℕ → World → ℕ → List ℕ → List Row
 commandTable s font w room input = entryRows (wrongLent w) font s w (frontRows w s input room (frontOf input))
-
--- the table of a label call: [21] "a label call with none owed"
-unfoldable pub labelTable : Session → List ℕ → World → ℕ → List Row
-labelTable s font w page =
-    entryRows (wrongLent w || not (eqb page (length (w .background)))) font s w (row NoneOwed (eqb (s .owed) 0) ∷ [])

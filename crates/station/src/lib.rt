@@ -1,19 +1,18 @@
 // The station: opening, one command, one label.
 //
-// Paper 01 from "What is lent" to "Labels". Each call checks first, by the table of answers (specs/Table.antt, the first row that applies is the
-// answer), and only then changes what it was lent, so that a refusal changes nothing. Each call promises one equation between its
-// result with every lent list at exit and `opened`, `commanded` or `labelledBy` (specs/Station.antt) of what it was lent, for any session, any
-// memory, any font and any input; no caller has to have checked anything. What a session of calls amounts to is said in crate `demands`.
-mod checks; // 1, 2 and 3
+// Paper 01 from "What is lent" to "Labels". Each call checks first, by the table of answers (the first row that applies is the answer), and only then
+// changes what it was lent, so that a refusal changes nothing. Each call promises one equation between its result with every lent list at exit and
+// `opened`, `commanded` or `labelledBy` (specs/Station.antt) of what it was lent, for any session, any memory, any font and any input; no caller has to
+// have checked anything. Opening and the label call stand in crates of their own, and the command call here. What a session of calls amounts to is said
+// in crate `demands`.
 mod commanding; // one command at the front of the input
-mod labels; // one label
-mod opening; // a station opened
 
 pub use commanding::command;
 pub use commanding::rest;
-pub use labels::label;
+pub use labelling::label;
 pub use opening::open;
 use session::Answer;
+pub use session::Labelled;
 use session::Session;
 
 // What a command call answers: the answer, the session, and how many bytes it read and wrote.
@@ -22,10 +21,4 @@ pub struct Outcome {
     pub session: Session,
     pub read: usize,
     pub written: usize,
-}
-
-// What opening and a label call answer.
-pub struct Labelled {
-    pub answer: Answer,
-    pub session: Session,
 }

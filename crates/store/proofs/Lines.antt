@@ -10,8 +10,8 @@ use native.Mathlib.Nat.{add-zero, add-suc, add-assoc, sub-zero}
 use lib.ListN.{length, getD, set, take, drop}
 use lib.Seq.{sets, take-all, length-sets}
 use borrow.Author.Tests.{eq-eqb, ne-eqb, lt-ltb, le-ltb}
-use Rattle.cells.proofs.Counts.{same?}
 use Rattle.cells.proofs.Sets.{sets-front}
+use Rattle.ground.proofs.Tests.{same?}
 use Rattle.store.specs.declared.Cursor.{Cursor}
 use Rattle.store.specs.declared.Next.the-variants.{Line, End, Bad}
 use Rattle.store.specs.Content.{portionAfter, placeAfter, cursor, ahead, after}

@@ -9,7 +9,7 @@ use lib.ListN.{getD}
 use lib.Dec.{eqb}
 use borrow.Author.Tests.{eq-eqb, ne-eqb}
 use Rattle.cells.proofs.Cells.{cell-at}
-use Rattle.cells.proofs.Counts.{same?}
+use Rattle.ground.proofs.Tests.{same?}
 use Rattle.store.specs.Entry.{entry, kind, ofKind}
 use Rattle.store.specs.Find.{sameName, titled, found}
 use Rattle.store.specs.Bytes.{two, four, eight, titledBy}

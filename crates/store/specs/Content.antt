@@ -5,23 +5,24 @@ use Prim.Native.Nat.{ℕ, zero, suc, _+_, _-_, _*_, min}
 use lib.ListN.{length, getD}
 use lib.Dec.{ltb}
 use Rattle.store.specs.declared.Cursor.{Cursor}
+use Rattle.store.specs.Chain.{bytesAPortion, lastPlace}
 use Rattle.store.specs.Entry.{entry, first, size}
 
 -- where the byte behind that at place `at` of portion p lies
 unfoldable pub portionAfter : List ℕ → ℕ → ℕ → ℕ
-portionAfter links p at = cond (ltb at 255) p (getD links p 0)
+portionAfter links p at = cond (ltb at lastPlace) p (getD links p 0)
 
 unfoldable pub placeAfter : ℕ → ℕ
-placeAfter at = cond (ltb at 255) (at + 1) 0
+placeAfter at = cond (ltb at lastPlace) (at + 1) 0
 
 -- so many bytes from place `at` of portion p on
 unfoldable pub bytesFrom : List ℕ → List ℕ → ℕ → ℕ → ℕ → List ℕ
 bytesFrom store links p at zero = []
-bytesFrom store links p at (suc left) = getD store (p * 256 + at) 0 ∷ bytesFrom store links (portionAfter links p at) (placeAfter at) left
+bytesFrom store links p at (suc left) = getD store (p * bytesAPortion + at) 0 ∷ bytesFrom store links (portionAfter links p at) (placeAfter at) left
 
 -- how many bytes of an entry are read: its size, and on damaged memory no more than all portions hold
 unfoldable pub extent : List ℕ → List ℕ → ℕ
-extent links e = min (size e) (length links * 256)
+extent links e = min (size e) (length links * bytesAPortion)
 
 -- the content of an entry e, and of entry i
 unfoldable pub contentOf : List ℕ → List ℕ → List ℕ → List ℕ

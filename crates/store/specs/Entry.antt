@@ -1,5 +1,5 @@
 -- "Directory: 1 to 512 entries of 16 bytes: kind (0 empty, 1 form, 2 picture, 3 form being recorded), name length, name in 8 bytes zero-filled, first
--- portion (2 bytes), size (4 bytes), low byte first."
+-- portion (2 bytes), size (4 bytes), low byte first. An empty entry is all zero."
 use mathlib.Core.List.{List, [], _∷_}
 use mathlib.Core.Bool.{Bool, true, false, _||_, cond}
 use Prim.Native.Nat.{ℕ, _+_, _*_, _/_}
@@ -8,12 +8,16 @@ use lib.Dec.{eqb}
 use Rattle.cells.specs.Cell.{cell}
 use Rattle.store.specs.Chain.{needed}
 
+-- "entries of 16 bytes"
+abbrev pub bytesAnEntry : ℕ
+bytesAnEntry = 16
+
 -- how many entries a directory has, and entry i
 abbrev pub entries : List ℕ → ℕ
-entries directory = length directory / 16
+entries directory = length directory / bytesAnEntry
 
 abbrev pub entry : List ℕ → ℕ → List ℕ
-entry directory i = cell 16 directory i
+entry directory i = cell bytesAnEntry directory i
 
 -- the fields of an entry's 16 bytes
 abbrev pub kind : List ℕ → ℕ

@@ -1,6 +1,6 @@
 -- What is found in links and directory: "New entries and portions are the lowest free"; an entry by kind and name; the form being recorded.
 use mathlib.Core.List.{List}
-use mathlib.Core.Bool.{Bool, true, false, _&&_}
+use mathlib.Core.Bool.{Bool, cond, _&&_}
 use Prim.Native.Nat.{ℕ, _+_}
 use lib.ListN.{length, getD}
 use lib.Dec.{eqb, ltb}
@@ -11,13 +11,9 @@ use Rattle.store.specs.declared.Found.the-variants.{At, Nothing}
 use Rattle.store.specs.Chain.{isFree}
 use Rattle.store.specs.Entry.{entries, entry, kind, ofKind}
 
-abbrev pub pickFound : Bool → Found → Found → Found
-pickFound true a b = a
-pickFound false a b = b
-
 -- the lowest number below n that passes a test, if there is one
 unfoldable pub found : (ℕ → Bool) → ℕ → Found
-found test n = pickFound (ltb (lowest test n) n) (At (lowest test n)) Nothing
+found test n = cond (ltb (lowest test n) n) (At (lowest test n)) Nothing
 
 abbrev pub lowestFree : List ℕ → Found
 lowestFree links = found (isFree links) (length links)

@@ -1,6 +1,6 @@
 -- "A line is up to 255 bytes, then LF (0Ah)": the lines of a content, and the next line ahead of a reader.
 use mathlib.Core.List.{List, [], _∷_, _++_}
-use mathlib.Core.Bool.{Bool, true, false}
+use mathlib.Core.Bool.{Bool, true, false, cond}
 use Prim.Native.Nat.{ℕ, suc}
 use lib.ListN.{length, take}
 use lib.Seq.{sets}
@@ -37,27 +37,23 @@ linesOf (b ∷ bs) = withByte (eqb b 10) b (linesOf bs)
 
 -- ---- the next line
 
--- what stands before the first LF; all, where there is none
-abbrev pub pickLine : Bool → ℕ → List ℕ → List ℕ
-pickLine true b l = []
-pickLine false b l = b ∷ l
+-- "up to 255 bytes"
+abbrev pub longestLine : ℕ
+longestLine = 255
 
+-- what stands before the first LF; all, where there is none
 unfoldable pub lineOf : List ℕ → List ℕ
 lineOf [] = []
-lineOf (b ∷ bs) = pickLine (eqb b 10) b (lineOf bs)
-
-abbrev pub pickNext : Bool → Next → Next → Next
-pickNext true a b = a
-pickNext false a b = b
+lineOf (b ∷ bs) = cond (eqb b 10) [] (b ∷ lineOf bs)
 
 -- more than 255 bytes before the LF, or bytes with no LF: bad; no bytes: the end; else the line's length and the reader behind its LF
 unfoldable pub nextLine : List ℕ → List ℕ → Cursor → Next
 nextLine store links c =
-    pickNext (ltb 255 (length (lineOf (ahead store links c)))) Bad
-    (pickNext (ltb (length (lineOf (ahead store links c))) (c .left))
+    cond (ltb longestLine (length (lineOf (ahead store links c)))) Bad
+    (cond (ltb (length (lineOf (ahead store links c))) (c .left))
     (Line (length (lineOf (ahead store links c))) (after links c (suc (length (lineOf (ahead store links c))))))
-    (pickNext (eqb (c .left) 0) End Bad))
+    (cond (eqb (c .left) 0) End Bad))
 
 -- a buffer with the line, without its LF, at the front: 255 bytes of it, and as many as the buffer has room for
 unfoldable pub lined : List ℕ → List ℕ → Cursor → List ℕ → List ℕ
-lined store links c buffer = sets buffer 0 (take 255 (lineOf (ahead store links c)))
+lined store links c buffer = sets buffer 0 (take longestLine (lineOf (ahead store links c)))

@@ -1,4 +1,4 @@
--- A run of bytes that is copied at once.
+-- Serves the code alone: a run of bytes that is copied at once.
 use mathlib.Core.List.{List}
 use Prim.Native.Nat.{ℕ, zero, suc, _+_}
 use lib.ListN.{getD, set}

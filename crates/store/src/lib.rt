@@ -1,18 +1,36 @@
 // What lies in the lent store: portions of 256 bytes chained by a table of links, and a directory that names the chains (paper 01, "What is lent").
 // This crate looks things up (the lowest free portion, the lowest empty entry, an entry by kind and name, the form being recorded) and reads
 // contents, whole or line by line. Every function answers on any memory: past the end 0 is read, and a damaged size is read no further than all
-// portions reach. What changes the memory is in `moves`, what makes it sound in `shelf`.
+// portions reach. What changes the memory is in `moves`, what makes it sound in `store_sound`.
 ghost use mathlib.Core.Path.{_≡_};
 ghost use Prim.Native.Nat.{ℕ, _+_, _-_, _*_, _≤_, _<_, min};
-ghost use lib.ListN.{length, getD, set};
+ghost use lib.ListN.{length, getD};
 ghost use lib.Seq.{sets};
-ghost use Rattle.store.specs.Chain.{needed, freeCount};
-ghost use Rattle.store.specs.Entry.{entries, entry, kind, nameLength, name, first, size, ofKind};
+ghost use Rattle.store.specs.Chain.{bytesAPortion, lastPlace, needed, freeCount};
+ghost use Rattle.store.specs.Entry.{bytesAnEntry, entries, entry, kind, nameLength, name, first, size, ofKind};
 ghost use Rattle.store.specs.Find.{lowestFree, lowestEmpty, recorded, titledAt};
 ghost use Rattle.store.specs.Bytes.{two, four, eight, titledBy};
 ghost use Rattle.store.specs.Content.{portionAfter, placeAfter, extent, content, cursorAt};
-ghost use Rattle.store.specs.Lines.{nextLine, lined};
+ghost use Rattle.store.specs.Lines.{longestLine, nextLine, lined};
 ghost use Rattle.store.specs.Run.{copied};
+use ground::least;
+use ground::put_byte;
+
+// "portions of 256 bytes"; the place of a portion's last byte.
+pub const BYTES_A_PORTION: usize = 256;
+
+const LAST_PLACE: usize = 255;
+
+// "entries of 16 bytes".
+pub const BYTES_AN_ENTRY: usize = 16;
+
+// What stands in a link: "the next portion, 65534 at a chain's end, 65535 free".
+pub const FREE_LINK: u16 = 65535;
+
+pub const END_LINK: u16 = 65534;
+
+// "A line is up to 255 bytes, then LF (0Ah)."
+const LONGEST_LINE: usize = 255;
 
 pub enum Found {
     At(usize),
@@ -37,8 +55,8 @@ pub enum Next {
 pub fn needed_for(size: usize) -> usize
     ensures { λ r. ⌜ r ≡ needed size ⌝ }
 {
-    let whole = size / 256;
-    if size % 256 != 0 {
+    let whole = size / BYTES_A_PORTION;
+    if size % BYTES_A_PORTION != 0 {
         return whole + 1;
     }
     if whole == 0 { 1 } else { whole }
@@ -50,7 +68,7 @@ pub fn free_count(links: &[u16]) -> usize
     let mut n: usize = 0;
     let mut i = 0;
     while i < links.len() {
-        if links[i] == 65535 {
+        if links[i] == FREE_LINK {
             n += 1;
         }
         i += 1;
@@ -63,7 +81,7 @@ pub fn lowest_free(links: &[u16]) -> Found
 {
     let mut i = 0;
     while i < links.len() {
-        if links[i] == 65535 {
+        if links[i] == FREE_LINK {
             return Found::At(i);
         }
         i += 1;
@@ -73,13 +91,13 @@ pub fn lowest_free(links: &[u16]) -> Found
 
 // Byte o of entry i.
 fn field(directory: &[u8], i: usize, o: usize) -> usize
-    requires { ⌜ o < 16 ⌝ }
+    requires { ⌜ o < bytesAnEntry ⌝ }
     ensures { λ r. ⌜ (r ≡ getD (entry (now (directory .entry)) i) o 0) × (r < 256) ⌝ }
 {
-    if directory.len() / 16 < i {
+    if directory.len() / BYTES_AN_ENTRY < i {
         return 0;
     }
-    let from = i * 16;
+    let from = i * BYTES_AN_ENTRY;
     if directory.len() - from <= o {
         return 0;
     }
@@ -134,7 +152,7 @@ pub fn name_at(directory: &[u8], i: usize) -> [u8; 8]
 pub fn lowest_empty(directory: &[u8]) -> Found
     ensures { λ r. ⌜ r ≡ lowestEmpty (now (directory .entry)) ⌝ }
 {
-    let n = directory.len() / 16;
+    let n = directory.len() / BYTES_AN_ENTRY;
     let mut i = 0;
     while i < n {
         if kind_at(directory, i) == 0 {
@@ -149,7 +167,7 @@ pub fn lowest_empty(directory: &[u8]) -> Found
 pub fn recording(directory: &[u8]) -> Found
     ensures { λ r. ⌜ r ≡ recorded (now (directory .entry)) ⌝ }
 {
-    let n = directory.len() / 16;
+    let n = directory.len() / BYTES_AN_ENTRY;
     let mut i = 0;
     while i < n {
         if kind_at(directory, i) == 3 {
@@ -205,7 +223,7 @@ fn is_titled(directory: &[u8], picture: bool, w: u64, i: usize) -> bool
     requires { ⌜ i < entries (now directory) ⌝ }
     ensures { λ r. ⌜ r ≡ titledBy (now (directory .entry)) picture w i ⌝ }
 {
-    if eight(directory, i * 16 + 2) != w {
+    if eight(directory, i * BYTES_AN_ENTRY + 2) != w {
         return false;
     }
     let k = kind_at(directory, i);
@@ -217,7 +235,7 @@ pub fn find(directory: &[u8], picture: bool, title: [u8; 8]) -> Found
     ensures { λ r. ⌜ r ≡ titledAt (now (directory .entry)) picture title ⌝ }
 {
     let w = number_of(title);
-    let n = directory.len() / 16;
+    let n = directory.len() / BYTES_AN_ENTRY;
     let mut i = 0;
     while i < n {
         if is_titled(directory, picture, w, i) {
@@ -230,12 +248,12 @@ pub fn find(directory: &[u8], picture: bool, title: [u8; 8]) -> Found
 
 // The byte at place `at` of portion p.
 fn byte_at(store: &[u8], p: usize, at: usize) -> u8
-    ensures { λ r. ⌜ r ≡ getD (now (store .entry)) (p * 256 + at) 0 ⌝ }
+    ensures { λ r. ⌜ r ≡ getD (now (store .entry)) (p * bytesAPortion + at) 0 ⌝ }
 {
-    if store.len() / 256 < p {
+    if store.len() / BYTES_A_PORTION < p {
         return 0;
     }
-    let from = p * 256;
+    let from = p * BYTES_A_PORTION;
     if store.len() - from <= at {
         return 0;
     }
@@ -256,7 +274,7 @@ pub fn link_at(links: &[u16], p: usize) -> usize
 fn portion_after(links: &[u16], p: usize, at: usize) -> usize
     ensures { λ r. ⌜ r ≡ portionAfter (now (links .entry)) p at ⌝ }
 {
-    if at < 255 {
+    if at < LAST_PLACE {
         return p;
     }
     link_at(links, p)
@@ -265,7 +283,7 @@ fn portion_after(links: &[u16], p: usize, at: usize) -> usize
 fn place_after(at: usize) -> usize
     ensures { λ r. ⌜ r ≡ placeAfter at ⌝ }
 {
-    if at < 255 { at + 1 } else { 0 }
+    if at < LAST_PLACE { at + 1 } else { 0 }
 }
 
 // How many bytes of entry i are read.
@@ -273,10 +291,10 @@ fn extent_at(links: &[u16], directory: &[u8], i: usize) -> usize
     ensures { λ r. ⌜ r ≡ extent (now (links .entry)) (entry (now (directory .entry)) i) ⌝ }
 {
     let s = size_at(directory, i);
-    if s / 256 < links.len() {
+    if s / BYTES_A_PORTION < links.len() {
         return s;
     }
-    links.len() * 256
+    links.len() * BYTES_A_PORTION
 }
 
 // A reader at the start of entry i.
@@ -292,26 +310,20 @@ pub fn reader(links: &[u16], directory: &[u8], i: usize) -> Cursor
     }
 }
 
-fn least(a: usize, b: usize) -> usize
-    ensures { λ r. ⌜ r ≡ min a b ⌝ }
-{
-    if a < b { a } else { b }
-}
-
 // Copies a run of bytes from place `at` of portion p on to place k of `out`, at most so many and none but those before the portion's last: how many
 // bytes that are. A step that goes on from there may leave the portion.
 fn copy_run(store: &[u8], p: usize, at: usize, most: usize, out: &mut [u8], k: usize) -> usize
     requires { ⌜ k + most ≤ length (now out) ⌝ }
-    ensures { λ r. ⌜ (r ≤ most) × (r ≤ 255 - at) × (now (out .exit) ≡ copied (now (out .entry)) k (now (store .entry)) (p * 256 + at) r) ⌝ }
+    ensures { λ r. ⌜ (r ≤ most) × (r ≤ lastPlace - at) × (now (out .exit) ≡ copied (now (out .entry)) k (now (store .entry)) (p * bytesAPortion + at) r) ⌝ }
 {
-    if store.len() / 256 <= p {
+    if store.len() / BYTES_A_PORTION <= p {
         return 0;
     }
-    if 255 <= at {
+    if LAST_PLACE <= at {
         return 0;
     }
-    let from = p * 256 + at;
-    let n = least(most, 255 - at);
+    let from = p * BYTES_A_PORTION + at;
+    let n = least(most, LAST_PLACE - at);
     let mut j = 0;
     while j < n {
         out[k + j] = store[from + j];
@@ -341,31 +353,22 @@ pub fn copy_out(store: &[u8], links: &[u16], directory: &[u8], i: usize, out: &m
     n
 }
 
-// Stores a byte, where there is a place for it.
-pub fn put(into: &mut [u8], at: usize, b: u8)
-    ensures { λ _. ⌜ now (into .exit) ≡ set (now (into .entry)) at b ⌝ }
-{
-    if at < into.len() {
-        into[at] = b;
-    }
-}
-
 // As `copy_run`, up to the next LF.
 fn line_run(store: &[u8], p: usize, at: usize, most: usize, buffer: &mut [u8], n: usize) -> usize
-    requires { ⌜ n + most ≤ 255 ⌝ }
-    ensures { λ r. ⌜ (r ≤ most) × (r ≤ 255 - at) × (now (buffer .exit) ≡ copied (now (buffer .entry)) n (now (store .entry)) (p * 256 + at) r) × ((j : ℕ) → j < r → getD (now (store .entry)) (p * 256 + at + j) 0 ≡ 10 → ⊥) ⌝ }
+    requires { ⌜ n + most ≤ longestLine ⌝ }
+    ensures { λ r. ⌜ (r ≤ most) × (r ≤ lastPlace - at) × (now (buffer .exit) ≡ copied (now (buffer .entry)) n (now (store .entry)) (p * bytesAPortion + at) r) × ((j : ℕ) → j < r → getD (now (store .entry)) (p * bytesAPortion + at + j) 0 ≡ 10 → ⊥) ⌝ }
 {
-    if store.len() / 256 <= p {
+    if store.len() / BYTES_A_PORTION <= p {
         return 0;
     }
-    if 255 <= at {
+    if LAST_PLACE <= at {
         return 0;
     }
-    if buffer.len() < 255 {
+    if buffer.len() < LONGEST_LINE {
         return 0;
     }
-    let from = p * 256 + at;
-    let m = least(most, 255 - at);
+    let from = p * BYTES_A_PORTION + at;
+    let m = least(most, LAST_PLACE - at);
     let mut j = 0;
     while j < m {
         let b = store[from + j];
@@ -387,7 +390,7 @@ pub fn line_into(store: &[u8], links: &[u16], place: Cursor, buffer: &mut [u8]) 
     let mut left = place.left;
     let mut n: usize = 0;
     while 0 < left {
-        let r = line_run(store, p, at, least(left - 1, 255 - n), buffer, n);
+        let r = line_run(store, p, at, least(left - 1, LONGEST_LINE - n), buffer, n);
         at += r;
         left -= r;
         n += r;
@@ -405,10 +408,10 @@ pub fn line_into(store: &[u8], links: &[u16], place: Cursor, buffer: &mut [u8]) 
                 },
             );
         }
-        if n == 255 {
+        if n == LONGEST_LINE {
             return Next::Bad;
         }
-        put(buffer, n, b);
+        put_byte(buffer, n, b);
         n += 1;
     }
     if n == 0 { Next::End } else { Next::Bad }

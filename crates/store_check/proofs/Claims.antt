@@ -13,8 +13,9 @@ use borrow.Author.Tests.{eq-eqb, ne-eqb, eqb-true, ltb-true}
 use Rattle.cells.specs.Count.{times, sumTo, allTo, setAll}
 use Rattle.store.specs.Chain.{chain, chainOk}
 use Rattle.store_sound.specs.Sound.{portionOk, linksOk}
+use Rattle.ground.proofs.Tests.{is-false, same?, and-left, and-right, and-both}
 use Rattle.store_check.specs.Claim.{claimOk, markFits, claimEntry, Claimed}
-use Rattle.cells.proofs.Counts.{same?, one-yes, one-no, and-left, and-right, and-both, all-of}
+use Rattle.cells.proofs.Counts.{one-yes, one-no, all-of}
 use Rattle.store_sound.proofs.Linked.{linked-facts, at-most, or-yes, or-no}
 
 -- ---- one chain
@@ -55,10 +56,6 @@ claim-yes ls ms p (suc n) l h o =
 
 -- ---- all chains
 
-pub not-true : (t : Bool) → (t ≡ true → ⊥) → t ≡ false
-not-true true n = absurd (n refl)
-not-true false n = refl
-
 sum-more : (f : ℕ → ℕ) (i n : ℕ) → i ≤ n → sumTo f i ≤ sumTo f n
 sum-more f zero zero h = omega arith
 sum-more f zero (suc n) h = omega arith
@@ -90,7 +87,7 @@ module _ (ls : List ℕ) (fs ns : ℕ → ℕ) where
   -- where the links are sound, every claim is met
   pub claimed-not : (ms : List ℕ) (i E : ℕ) → i < E → length ls ≤ length ms → claimEntry ls ms (fs i) (ns i) ≡ false → Claimed ls fs ns i ms → linksOk ls fs ns E ≡ false
   unfolding claimEntry
-  claimed-not ms i E b l h c = not-true (linksOk ls fs ns E) (λ t.
+  claimed-not ms i E b l h c = is-false (linksOk ls fs ns E) (λ t.
       let s = linked-facts ls fs ns E t in
       let y : (eqb (ns i) 0 || claimOk ls ms (fs i) (ns i)) ≡ true = ⊎-elim
       (λ (z : ns i ≡ 0). or-yes (ns i) 0 _ z)

@@ -12,13 +12,14 @@ use lib.Bits.{bitOr, or-add-and, and-le-r}
 use borrow.Author.Tests.{eq-eqb, ne-eqb, le-leb, lt-leb, not-true, not-false, leb-true}
 use Rattle.cells.specs.Cell.{cell}
 use Rattle.cells.specs.Count.{allTo, allZero}
-use Rattle.cells.proofs.Counts.{drop-step, drop-none, and-left, same?}
+use Rattle.cells.proofs.Counts.{drop-step, drop-none}
 use Rattle.store.specs.declared.Found.{Found}
 use Rattle.store.specs.Chain.{needed, portion}
 use Rattle.store.specs.Entry.{entries, entry, kind, nameLength, name, size}
 use Rattle.store.specs.Find.{titledAt, recorded}
 use Rattle.moves.specs.Grow.{lastOf}
 use Rattle.store_sound.specs.Sound.{lentOk, nameByteOk, nameOk, namedOk, isHere, uniqueOk, singleOk, emptyOk, freeOk, tailOf, tailOk}
+use Rattle.ground.proofs.Tests.{and-left, same?}
 
 -- ---- lengths
 

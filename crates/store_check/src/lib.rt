@@ -1,35 +1,44 @@
-// Decides the store's part of sound (paper 01), clause by clause, on any memory: each function answers exactly its Bool of `sound`, in one pass over
-// what it reads. Chains are walked by marking each portion that is met, so that links that cross, run in circles or point anywhere are found at once.
+// Decides the store's part of sound (paper 01), clause by clause, on any memory: each function answers exactly its Bool of `store_sound`. All but one do
+// so in one pass over what they read; names are compared with each other, entry by entry. Chains are walked by marking each portion that is met, so that
+// links that cross, run in circles or point anywhere are found at once.
 ghost use mathlib.Core.Path.{_≡_};
 ghost use mathlib.Core.Bool.{true, false, _&&_};
-ghost use Prim.Native.Nat.{ℕ, _≤_, _<_, min};
+ghost use Prim.Native.Nat.{ℕ, _≤_, _<_};
 ghost use lib.ListN.{length, getD, take, drop};
 ghost use Rattle.cells.specs.Count.{allTo, allZero, setAll};
 ghost use Rattle.store.specs.Chain.{chain};
 ghost use Rattle.store.specs.Entry.{entries, entry};
-ghost use Rattle.store_sound.specs.Sound.{lentOk, kindsOk, legalByte, nameByteOk, namedOk, namesOk, isHere, uniqueOk, uniquesOk, singleOk, singlesOk, firsts, counts, linksOk, chainsOk, emptyOk, emptiesOk, freeOk, freesOk, tailOk, tailsOk, storeSound};
+ghost use Rattle.store_sound.specs.Sound.{mostPortions, lentOk, kindsOk, legalByte, nameByteOk, namedOk, namesOk, isHere, uniqueOk, uniquesOk, singleOk, singlesOk, firsts, counts, linksOk, chainsOk, emptyOk, emptiesOk, freeOk, freesOk, tailOk, tailsOk, storeSound};
 ghost use Rattle.store_check.specs.Claim.{claimOk, claimEntry, Claimed, markFits};
+use ground::both;
+use ground::least;
+use store::BYTES_A_PORTION;
+use store::BYTES_AN_ENTRY;
+use store::END_LINK;
+use store::FREE_LINK;
 use store::Found;
 
-fn both(a: bool, b: bool) -> bool
-    ensures { λ r. ⌜ r ≡ (a && b) ⌝ }
-{
-    if a { b } else { false }
-}
+// "1 to 2,024 portions" and "1 to 512 entries".
+const MOST_PORTIONS: usize = 2024;
+
+const MOST_ENTRIES: usize = 512;
 
 pub fn lent_ok(store: &[u8], links: &[u16], directory: &[u8]) -> bool
     ensures { λ r. ⌜ r ≡ lentOk (now (store .entry)) (now (links .entry)) (now (directory .entry)) ⌝ }
 {
     let p = links.len();
-    let n = directory.len() / 16;
-    if 2024 < p {
+    let n = directory.len() / BYTES_AN_ENTRY;
+    if MOST_PORTIONS < p {
         return false;
     }
     both(
         1 <= p,
         both(
-            store.len() == p * 256,
-            both(directory.len() == n * 16, both(1 <= n, n <= 512)),
+            store.len() == p * BYTES_A_PORTION,
+            both(
+                directory.len() == n * BYTES_AN_ENTRY,
+                both(1 <= n, n <= MOST_ENTRIES),
+            ),
         ),
     )
 }
@@ -39,7 +48,7 @@ pub fn lent_ok(store: &[u8], links: &[u16], directory: &[u8]) -> bool
 pub fn kinds_ok(directory: &[u8]) -> bool
     ensures { λ r. ⌜ r ≡ kindsOk (now (directory .entry)) ⌝ }
 {
-    let n = directory.len() / 16;
+    let n = directory.len() / BYTES_AN_ENTRY;
     let mut i = 0;
     while i < n {
         if 3 < store::kind_at(directory, i) {
@@ -54,8 +63,8 @@ fn legal_byte(b: u8) -> bool
     ensures { λ r. ⌜ r ≡ legalByte b ⌝ }
 {
     both(
-        both(32 <= b, b <= 126),
-        both(b != 42, both(b != 34, !both(97 <= b, b <= 122))),
+        both(b' ' <= b, b <= b'~'),
+        both(b != b'*', both(b != b'"', !both(b'a' <= b, b <= b'z'))),
     )
 }
 
@@ -101,7 +110,7 @@ fn name_ok(directory: &[u8], i: usize) -> bool
 pub fn names_ok(directory: &[u8]) -> bool
     ensures { λ r. ⌜ r ≡ namesOk (now (directory .entry)) ⌝ }
 {
-    let n = directory.len() / 16;
+    let n = directory.len() / BYTES_AN_ENTRY;
     let mut i = 0;
     while i < n {
         if !name_ok(directory, i) {
@@ -138,7 +147,7 @@ fn unique_ok(directory: &[u8], i: usize) -> bool
 pub fn uniques_ok(directory: &[u8]) -> bool
     ensures { λ r. ⌜ r ≡ uniquesOk (now (directory .entry)) ⌝ }
 {
-    let n = directory.len() / 16;
+    let n = directory.len() / BYTES_AN_ENTRY;
     let mut i = 0;
     while i < n {
         if !unique_ok(directory, i) {
@@ -161,7 +170,7 @@ fn single_ok(directory: &[u8], i: usize) -> bool
 pub fn singles_ok(directory: &[u8]) -> bool
     ensures { λ r. ⌜ r ≡ singlesOk (now (directory .entry)) ⌝ }
 {
-    let n = directory.len() / 16;
+    let n = directory.len() / BYTES_AN_ENTRY;
     let mut i = 0;
     while i < n {
         if !single_ok(directory, i) {
@@ -193,7 +202,7 @@ fn claim(links: &[u16], first: usize, n: usize, marks: &mut [u8]) -> bool
         p = links[p] as usize;
         k -= 1;
     }
-    p == 65534
+    p == END_LINK as usize
 }
 
 // Claims the portions of entry i, if it has any.
@@ -215,7 +224,7 @@ fn mark_fits(links: &[u16], marks: &[u8], q: usize) -> bool
     requires { ⌜ (q < length (now links)) × (q < length (now marks)) ⌝ }
     ensures { λ r. ⌜ r ≡ markFits (now (links .entry)) (now (marks .entry)) q ⌝ }
 {
-    if links[q] == 65535 {
+    if links[q] == FREE_LINK {
         return marks[q] == 0;
     }
     marks[q] == 1
@@ -228,7 +237,7 @@ fn claim_all(links: &[u16], directory: &[u8], marks: &mut [u8]) -> bool
     ensures refused { λ r. ⌜ (r ≡ false → linksOk (now (links .entry)) (firsts (now (directory .entry))) (counts (now (directory .entry))) (entries (now (directory .entry))) ≡ false) ⌝ }
     ensures claimed { λ r. ⌜ (r ≡ true → Claimed (now (links .entry)) (firsts (now (directory .entry))) (counts (now (directory .entry))) (entries (now (directory .entry))) (now (marks .exit))) ⌝ }
 {
-    let n = directory.len() / 16;
+    let n = directory.len() / BYTES_AN_ENTRY;
     let mut i = 0;
     while i < n {
         if !claim_entry(links, directory, i, marks) {
@@ -256,10 +265,10 @@ fn marks_fit(links: &[u16], marks: &[u8]) -> bool
 
 // Each chain has its portions and then ends, no portion is in two, and all others are free.
 fn chains_ok(links: &[u16], directory: &[u8]) -> bool
-    requires { ⌜ length (now links) ≤ 2024 ⌝ }
+    requires { ⌜ length (now links) ≤ mostPortions ⌝ }
     ensures { λ r. ⌜ r ≡ chainsOk (now (links .entry)) (now (directory .entry)) ⌝ }
 {
-    let mut marks = [0u8; 2024];
+    let mut marks = [0u8; MOST_PORTIONS];
     if !claim_all(links, directory, &mut marks) {
         return false;
     }
@@ -267,12 +276,6 @@ fn chains_ok(links: &[u16], directory: &[u8]) -> bool
 }
 
 // ---- unused bytes
-
-fn least(a: usize, b: usize) -> usize
-    ensures { λ r. ⌜ r ≡ min a b ⌝ }
-{
-    if a < b { a } else { b }
-}
 
 // No early exit, so that many bytes go at once.
 fn is_zero(s: &[u8]) -> bool
@@ -304,16 +307,16 @@ fn empty_ok(directory: &[u8], i: usize) -> bool
     if store::kind_at(directory, i) != 0 {
         return true;
     }
-    if directory.len() / 16 < i {
+    if directory.len() / BYTES_AN_ENTRY < i {
         return true;
     }
-    zero_from(directory, i * 16, 16)
+    zero_from(directory, i * BYTES_AN_ENTRY, BYTES_AN_ENTRY)
 }
 
 pub fn empties_ok(directory: &[u8]) -> bool
     ensures { λ r. ⌜ r ≡ emptiesOk (now (directory .entry)) ⌝ }
 {
-    let n = directory.len() / 16;
+    let n = directory.len() / BYTES_AN_ENTRY;
     let mut i = 0;
     while i < n {
         if !empty_ok(directory, i) {
@@ -327,13 +330,13 @@ pub fn empties_ok(directory: &[u8]) -> bool
 fn free_ok(store: &[u8], links: &[u16], q: usize) -> bool
     ensures { λ r. ⌜ r ≡ freeOk (now (store .entry)) (now (links .entry)) q ⌝ }
 {
-    if store::link_at(links, q) != 65535 {
+    if store::link_at(links, q) != FREE_LINK as usize {
         return true;
     }
-    if store.len() / 256 < q {
+    if store.len() / BYTES_A_PORTION < q {
         return true;
     }
-    zero_from(store, q * 256, 256)
+    zero_from(store, q * BYTES_A_PORTION, BYTES_A_PORTION)
 }
 
 pub fn frees_ok(store: &[u8], links: &[u16]) -> bool
@@ -356,18 +359,18 @@ fn tail_ok(store: &[u8], links: &[u16], directory: &[u8], i: usize) -> bool
         return true;
     }
     let s = store::size_at(directory, i);
-    let o = s - 256 * (store::needed_for(s) - 1);
+    let o = s - BYTES_A_PORTION * (store::needed_for(s) - 1);
     let p = moves::last_at(links, directory, i);
-    if store.len() / 256 < p {
+    if store.len() / BYTES_A_PORTION < p {
         return true;
     }
-    zero_from(store, p * 256 + o, 256 - o)
+    zero_from(store, p * BYTES_A_PORTION + o, BYTES_A_PORTION - o)
 }
 
 pub fn tails_ok(store: &[u8], links: &[u16], directory: &[u8]) -> bool
     ensures { λ r. ⌜ r ≡ tailsOk (now (store .entry)) (now (links .entry)) (now (directory .entry)) ⌝ }
 {
-    let n = directory.len() / 16;
+    let n = directory.len() / BYTES_AN_ENTRY;
     let mut i = 0;
     while i < n {
         if !tail_ok(store, links, directory, i) {

@@ -10,7 +10,8 @@ use lib.Seq.{take-append-add, drop-append-add, take-suc-set, drop-set-lt, drop-d
 use lib.Dec.{eqb}
 use Rattle.cells.specs.Count.{times, allZero}
 use Rattle.store.specs.Chain.{chain, portion, bytesOf}
-use Rattle.cells.proofs.Counts.{same?, one-yes, and-right}
+use Rattle.cells.proofs.Counts.{one-yes}
+use Rattle.ground.proofs.Tests.{same?, and-right}
 use Rattle.store_sound.proofs.Frame.{bytes-frame}
 use Rattle.cells.proofs.Cells.{cell-fits, length-cell, cell-set-same, cell-set-other}
 use Rattle.store_sound.proofs.Linked.{Linked, Change, held-below, not-old, not-new, others}

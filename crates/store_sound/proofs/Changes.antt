@@ -11,7 +11,8 @@ use lib.Dec.{ltb}
 use borrow.Author.Tests.{lt-ltb}
 use Rattle.cells.specs.Count.{times, setAll}
 use Rattle.store.specs.Chain.{chain, chainOk, walk}
-use Rattle.cells.proofs.Counts.{same?, one-yes, one-no, times-append, and-left, and-right, and-both, length-setAll, setAll-in, setAll-out}
+use Rattle.cells.proofs.Counts.{one-yes, one-no, times-append, length-setAll, setAll-in, setAll-out}
+use Rattle.ground.proofs.Tests.{same?, and-left, and-right, and-both}
 use Rattle.store_sound.proofs.Frame.{chain-below}
 use Rattle.store_sound.proofs.Linked.{Linked, Change, held-once, free-out}
 

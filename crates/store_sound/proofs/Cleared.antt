@@ -1,17 +1,19 @@
 -- Cleared memory is sound, and nothing stands on its shelf.
-use mathlib.Core.Path.{_≡_, refl, sym, ap, _∙_, subst}
+use mathlib.Core.Path.{_≡_, sym, ap, _∙_, subst}
 use mathlib.Core.List.{List}
 use mathlib.Core.Bool.{Bool, true, false, false≢true}
-use Prim.Native.Nat.{ℕ, zero, suc, _+_, _*_, _/_, _≤_, _<_}
+use Prim.Native.Nat.{ℕ, _+_, _*_, _/_, _≤_, _<_}
 use native.Mathlib.Omega.{arith}
 use lib.ListN.{length, getD}
 use lib.Seq.{drop-nil}
 use Rattle.cells.specs.Cell.{cell, zeros}
 use Rattle.cells.specs.Count.{times, sumTo, allZero}
+use Rattle.cells.proofs.Counts.{sum-none}
 use Rattle.cells.proofs.Cells.{length-zeros, getD-zeros, cell-fits, length-cell}
 use Rattle.store.specs.Chain.{chain}
 use Rattle.store.specs.Entry.{entries, entry, kind, many, ofKind}
 use Rattle.moves.specs.Memory.{memory}
+use Rattle.moves.specs.Erase.{cleared}
 use Rattle.store_sound.specs.Sound.{firsts, counts, storeSound}
 use Rattle.store_sound.specs.Shelf.{nothing, heldOf, shelfOf}
 use Rattle.store_sound.proofs.Facts.{SoundAt, facts-sound, sizesOf, lent-store}
@@ -19,7 +21,6 @@ use lib.ListN.{replicate, length-replicate, getD-replicate}
 use lib.Seq.{ext-getD}
 use Rattle.cells.proofs.Cells.{cell-at}
 use Rattle.store_sound.specs.Sound.{lentOk}
-use Rattle.store_sound.specs.Shelf.{cleared}
 use Rattle.store_sound.proofs.Facts.{lent-same}
 use Rattle.store_sound.proofs.Erase.{allZero-zeros, zeros-kind, zeros-many, zeros-held}
 use Rattle.store_sound.proofs.Listing.{shelf-at}
@@ -36,10 +37,6 @@ zero-cell w n i h =
 no-class : (p : Bool) → ofKind p 0 ≡ true → ⊥
 no-class true o = false≢true o
 no-class false o = false≢true o
-
-sum-none : (f : ℕ → ℕ) (n : ℕ) → ((i : ℕ) → i < n → f i ≡ 0) → sumTo f n ≡ 0
-sum-none f zero h = refl
-sum-none f (suc n) h = omega (arith, sum-none f n (λ i b. h i (omega arith)), h n (omega arith))
 
 module _ (st ls dir : List ℕ) (lent : lentOk st ls dir ≡ true) where
   abbrev E : ℕ

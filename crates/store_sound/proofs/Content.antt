@@ -1,15 +1,13 @@
 -- A chain has no more portions than there are, and an entry's content on sound memory is its chain's bytes.
 use mathlib.Core.Path.{_≡_, refl, sym, ap, _∙_}
 use mathlib.Core.List.{List, [], _∷_, _++_}
-use mathlib.Core.Logic.{⊎-elim}
 use Prim.Native.Nat.{ℕ, zero, suc, _+_, _-_, _*_, _≤_, _<_, min}
 use native.Mathlib.Omega.{arith}
 use lib.ListN.{length, getD, take, drop, length-append, List·getD-append}
 use lib.Seq.{drop-cons, drop-at, drop-append-add}
-use lib.Dec.{eqb}
 use borrow.Author.Tests.{lt-ltb, le-ltb}
-use Rattle.cells.specs.Count.{one, times, sumTo}
-use Rattle.cells.proofs.Counts.{same?, one-yes, one-no}
+use Rattle.cells.specs.Count.{times}
+use Rattle.cells.proofs.Counts.{one-yes, sum-most, times-portions}
 use Rattle.cells.proofs.Cells.{cell-fits, cell-at, length-cell}
 use Rattle.store.specs.Chain.{chain, portion, bytesOf, walk, needed}
 use Rattle.store.specs.Entry.{first, size}
@@ -22,36 +20,8 @@ use Rattle.store_sound.proofs.PutSound.{chain-length}
 
 -- ---- a chain has no more portions than there are
 
-sum-add : (f g : ℕ → ℕ) (n : ℕ) → sumTo (λ (i : ℕ). f i + g i) n ≡ sumTo f n + sumTo g n
-sum-add f g zero = refl
-sum-add f g (suc n) = omega (arith, sum-add f g n)
-
-sum-none : (p n : ℕ) → n ≤ p → sumTo (λ (q : ℕ). one (eqb p q)) n ≡ 0
-sum-none p zero h = refl
-sum-none p (suc n) h = omega (arith, sum-none p n (omega arith), one-no p n (λ e. omega arith))
-
-sum-one : (p n : ℕ) → p < n → sumTo (λ (q : ℕ). one (eqb p q)) n ≡ 1
-sum-one p zero h = absurd (omega arith)
-sum-one p (suc n) h = ⊎-elim
-    (λ (e : p ≡ n). omega (arith, sum-none p n (omega arith), one-yes p n e))
-    (λ (ne : p ≡ n → ⊥). omega (arith, sum-one p n (omega arith), one-no p n ne))
-    (same? p n)
-
-sum-most : (f : ℕ → ℕ) (n : ℕ) → ((i : ℕ) → f i ≤ 1) → sumTo f n ≤ n
-sum-most f zero h = omega arith
-sum-most f (suc n) h = omega (arith, sum-most f n h, h n)
-
-sum-zero : (n : ℕ) → sumTo (λ (q : ℕ). 0) n ≡ 0
-sum-zero zero = refl
-sum-zero (suc n) = omega (arith, sum-zero n)
-
-sum-times : (ps : List ℕ) (P : ℕ) → ((q : ℕ) → 0 < times q ps → q < P) → sumTo (λ (q : ℕ). times q ps) P ≡ length ps
-sum-times [] P h = sum-zero P
-sum-times (p ∷ ps) P h =
-    omega (arith, sum-add (λ (q : ℕ). one (eqb p q)) (λ (q : ℕ). times q ps) P, sum-one p P (h p (omega (arith, one-yes p p refl))), sum-times ps P (λ q i. h q (omega arith)))
-
 pub few : (ps : List ℕ) (P : ℕ) → ((q : ℕ) → 0 < times q ps → q < P) → ((q : ℕ) → times q ps ≤ 1) → length ps ≤ P
-few ps P b o = omega (arith, sum-times ps P b, sum-most (λ (q : ℕ). times q ps) P o)
+few ps P b o = omega (arith, times-portions ps P b, sum-most (λ (q : ℕ). times q ps) P o)
 
 -- ---- a content read byte by byte is the chain's bytes
 

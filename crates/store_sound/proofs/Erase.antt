@@ -11,12 +11,13 @@ use lib.Dec.{eqb}
 use borrow.Author.Tests.{eq-eqb, ne-eqb}
 use Rattle.cells.specs.Cell.{zeros, setCell}
 use Rattle.cells.specs.Count.{times, allZero, setAll}
-use Rattle.cells.proofs.Counts.{same?, one-yes, one-no, length-setAll, setAll-in}
+use Rattle.cells.proofs.Counts.{one-yes, one-no, length-setAll, setAll-in}
 use Rattle.cells.proofs.Cells.{length-zeros, cell-fits, setCell-other, setCell-same}
 use Rattle.store.specs.Chain.{chain, portion, isFree}
 use Rattle.store.specs.Entry.{entries, entry, kind, name, first, size, many, ofKind}
 use Rattle.store.specs.Content.{contentOf, extent, bytesFrom}
 use Rattle.moves.specs.Memory.{Memory, memory}
+use Rattle.ground.proofs.Tests.{same?}
 use Rattle.store_sound.specs.Sound.{firsts, counts, storeSound}
 use Rattle.store_sound.specs.Shelf.{held, nothing, heldOf}
 use Rattle.store_sound.proofs.Frame.{Agree, chain-frame}

@@ -1,21 +1,20 @@
 -- All entries of a kind are erased: the others stay as they are.
 use mathlib.Core.Path.{_≡_, refl, sym, ap, _∙_, subst}
-use mathlib.Core.Bool.{Bool, true, false}
+use mathlib.Core.Bool.{Bool, true, false, cond}
 use mathlib.Core.Logic.{⊎-elim}
 use Prim.Native.Nat.{ℕ, zero, suc, _+_, _/_, _≤_, _<_}
 use native.Mathlib.Omega.{arith}
 use lib.ListN.{length, getD}
-use Rattle.cells.proofs.Counts.{same?}
 use Rattle.store.specs.Entry.{entries, kind, ofKind}
-use Rattle.moves.specs.Memory.{Memory, entryOf, pickMemory}
+use Rattle.moves.specs.Memory.{Memory, entryOf}
+use Rattle.ground.proofs.Tests.{same?, either}
 use Rattle.store_sound.specs.Sound.{storeSound}
 use Rattle.store_sound.specs.Shelf.{Held, nothing, shelfOf}
 use Rattle.moves.specs.Erase.{erased, erasedIf, erasedFrom, erasedAll}
-use Rattle.store_sound.specs.Shelf.{pickHeld, swept}
+use Rattle.store_sound.specs.Shelf.{swept}
 use Rattle.store_sound.proofs.Listing.{shelf-at}
 use Rattle.store_sound.proofs.Moving.{moved-other, moved-here}
 use Rattle.store_sound.proofs.Erase.{erase-moved}
-use Rattle.cells.proofs.Scan.{either}
 
 abbrev soundOf : Memory → Bool
 soundOf m = storeSound (m .store) (m .links) (m .directory)
@@ -41,20 +40,20 @@ erasedIf-swept picture m i h b =
     ⊎-elim
     (λ (y : ofKind picture (kind (entryOf m i)) ≡ true).
     let v = erase-moved (m .store) (m .links) (m .directory) i h b in
-    let e : erasedIf picture m i ≡ erased m i = ap (λ (t : Bool). pickMemory t (erased m i) m) y in
+    let e : erasedIf picture m i ≡ erased m i = ap (λ (t : Bool). cond t (erased m i) m) y in
     subst (λ (x : Memory). SweptOne picture m x i) (sym e) (record {
       sound = v .sound;
       long = v .long-directory;
       other = moved-other m (erased m i) i nothing v;
-      here = moved-here m (erased m i) i nothing v b ∙ sym (ap (λ (t : Bool). pickHeld t nothing (getD (shelfOf m) i nothing)) (k ∙ y));
+      here = moved-here m (erased m i) i nothing v b ∙ sym (ap (λ (t : Bool). cond t nothing (getD (shelfOf m) i nothing)) (k ∙ y));
     }))
     (λ (y : ofKind picture (kind (entryOf m i)) ≡ false).
-    let e : erasedIf picture m i ≡ m = ap (λ (t : Bool). pickMemory t (erased m i) m) y in
+    let e : erasedIf picture m i ≡ m = ap (λ (t : Bool). cond t (erased m i) m) y in
     subst (λ (x : Memory). SweptOne picture m x i) (sym e) (record {
       sound = h;
       long = refl;
       other = λ j ne. refl;
-      here = sym (ap (λ (t : Bool). pickHeld t nothing (getD (shelfOf m) i nothing)) (k ∙ y));
+      here = sym (ap (λ (t : Bool). cond t nothing (getD (shelfOf m) i nothing)) (k ∙ y));
     }))
     (either (ofKind picture (kind (entryOf m i))))
 

@@ -10,12 +10,12 @@ use lib.ListN.{length, getD, set, length-set}
 use lib.Seq.{getD-set-same, getD-set-other}
 use borrow.Author.Tests.{eq-eqb, ne-eqb}
 use Rattle.cells.specs.Count.{times, sumTo}
-use Rattle.cells.proofs.Counts.{same?}
 use Rattle.cells.proofs.Cells.{length-cell, cell-set-same, cell-set-other}
 use Rattle.store.specs.Chain.{chain}
 use Rattle.store.specs.Entry.{entries, entry, kind, name, first, size, many, ofKind}
 use Rattle.store.specs.Content.{contentOf, extent}
 use Rattle.moves.specs.Memory.{memory}
+use Rattle.ground.proofs.Tests.{same?}
 use Rattle.store_sound.specs.Sound.{nameOk, firsts, counts, storeSound}
 use Rattle.store_sound.specs.Shelf.{held}
 use Rattle.store_sound.proofs.Facts.{Sound, sound-facts, sizesOf}

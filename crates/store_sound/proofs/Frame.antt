@@ -10,7 +10,8 @@ use lib.Dec.{ltb}
 use borrow.Author.Tests.{ltb-true}
 use Rattle.cells.specs.Count.{times}
 use Rattle.store.specs.Chain.{chain, chainOk, portion, bytesOf}
-use Rattle.cells.proofs.Counts.{same?, one-yes, one-no, and-left, and-right}
+use Rattle.cells.proofs.Counts.{one-yes, one-no}
+use Rattle.ground.proofs.Tests.{same?, and-left, and-right}
 
 -- ---- links
 

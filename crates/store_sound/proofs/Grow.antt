@@ -10,12 +10,12 @@ use lib.Seq.{getD-set-same, getD-set-other}
 use lib.Dec.{eqb, ltb}
 use borrow.Author.Tests.{eq-eqb, ltb-true, leb-true}
 use Rattle.cells.specs.Count.{times, sumTo}
-use Rattle.cells.proofs.Counts.{same?, and-left, and-right}
 use Rattle.cells.proofs.Cells.{length-cell, cell-set-same, cell-set-other}
 use Rattle.store.specs.Chain.{chain, bytesOf, walk, needed, freeCount}
 use Rattle.store.specs.Entry.{entries, entry, kind, name, first, size, many}
 use Rattle.store.specs.Content.{contentOf}
 use Rattle.moves.specs.Memory.{memory}
+use Rattle.ground.proofs.Tests.{same?, and-left, and-right}
 use Rattle.store_sound.specs.Sound.{nameOk, firsts, counts, storeSound}
 use Rattle.store_sound.specs.Shelf.{held}
 use Rattle.store_sound.proofs.Linked.{Linked, held-below, free-out}

@@ -8,12 +8,13 @@ use lib.ListN.{length, getD, set}
 use lib.Dec.{ltb}
 use borrow.Author.Tests.{ne-eqb, ltb-true, le-leb, lt-ltb}
 use Rattle.cells.specs.Cell.{setCell}
-use Rattle.cells.proofs.Counts.{one-yes, one-no, and-left, and-right, and-both}
+use Rattle.cells.proofs.Counts.{one-yes, one-no}
 use Rattle.cells.proofs.Cells.{setCell-same}
 use Rattle.store.specs.Chain.{needed, freeCount}
 use Rattle.store.specs.Entry.{entries, entry, kind, name}
 use Rattle.store.specs.Content.{contentOf}
 use Rattle.moves.specs.Memory.{memory}
+use Rattle.ground.proofs.Tests.{and-left, and-right, and-both}
 use Rattle.store_sound.specs.Shelf.{Held, held}
 use Rattle.store_sound.proofs.Moving.{Moved, moved-twice, inside}
 use Rattle.moves.specs.Grow.{lowestPortion, grown, canGrow}

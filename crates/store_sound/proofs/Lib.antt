@@ -14,5 +14,6 @@ pub mod Finish
 pub mod Start
 pub mod Grow
 pub mod Keep
+pub mod Free
 pub mod EraseAll
 pub mod Cleared

@@ -10,8 +10,9 @@ use lib.Dec.{eqb}
 use borrow.Author.Tests.{eq-eqb, ne-eqb, eqb-true}
 use Rattle.cells.specs.Count.{times, allTo}
 use Rattle.store.specs.Chain.{chain, chainOk}
+use Rattle.ground.proofs.Tests.{same?, and-left, and-right, and-both}
 use Rattle.store_sound.specs.Sound.{uses, portionOk, linksOk}
-use Rattle.cells.proofs.Counts.{same?, and-left, and-right, and-both, all-at, all-of, sum-change, sum-has, sum-has-two}
+use Rattle.cells.proofs.Counts.{all-at, all-of, sum-change, sum-has, sum-has-two}
 use Rattle.store_sound.proofs.Frame.{Agree, chain-below, chain-frame, chainOk-frame}
 
 pub record Linked (ls : List ℕ) (fs ns : ℕ → ℕ) (E : ℕ) : Type 0 where

@@ -6,8 +6,8 @@ use Prim.Native.Nat.{ℕ, zero, suc, _<_}
 use native.Mathlib.Omega.{arith}
 use lib.ListN.{length, getD, set, length-append, length-set, List·getD-append}
 use lib.Seq.{getD-at, ext-getD, getD-set-same, getD-set-other}
-use Rattle.cells.proofs.Counts.{same?}
 use Rattle.store.specs.Entry.{entries, entry}
+use Rattle.ground.proofs.Tests.{same?}
 use Rattle.store_sound.specs.Shelf.{listTo, Held, nothing, heldOf, shelf}
 
 module _ {A : Type 0} (f : ℕ → A) where

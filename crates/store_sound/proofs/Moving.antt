@@ -10,11 +10,11 @@ use lib.Seq.{set-set, getD-set-same, getD-set-other}
 use lib.Dec.{eqb}
 use borrow.Author.Tests.{eqb-true}
 use Rattle.cells.specs.Count.{allZero}
-use Rattle.cells.proofs.Counts.{same?, and-left, and-right}
 use Rattle.store.specs.Chain.{chain, bytesOf}
 use Rattle.store.specs.Entry.{entries, entry, kind, name, size, ofKind}
 use Rattle.store.specs.Content.{contentOf}
 use Rattle.moves.specs.Memory.{Memory, memory}
+use Rattle.ground.proofs.Tests.{same?, and-left, and-right}
 use Rattle.store_sound.specs.Sound.{nameOk, firsts, counts, storeSound}
 use Rattle.store_sound.specs.Shelf.{Held, held, nothing, heldOf, shelf, shelfOf}
 use Rattle.store_sound.proofs.Linked.{Linked, held-below}

@@ -8,13 +8,15 @@ use lib.ListN.{length, getD, set, length-set}
 use lib.Seq.{getD-set-same, getD-set-other}
 use lib.Dec.{eqb}
 use borrow.Author.Tests.{eq-eqb, eqb-true}
-use Rattle.cells.specs.Count.{one, times}
-use Rattle.cells.proofs.Counts.{same?, one-yes, one-no, times-some}
+use Rattle.cells.specs.Count.{times}
+use Rattle.cells.proofs.Counts.{one-yes, one-no, times-some}
 use Rattle.cells.proofs.Scan.{lowest-passes, lowest-first}
 use Rattle.store.specs.Chain.{needed, isFree}
 use Rattle.moves.specs.Grow.{lowestPortion, nextLast, nextLinks}
 use Rattle.moves.proofs.Growth.{next-in, next-first}
 use Rattle.moves.proofs.Growth as growth
+use Rattle.ground.proofs.Tests.{same?}
+use Rattle.ground.specs.Numbers.{one}
 use Rattle.store_sound.proofs.Changes.{hung}
 
 -- there is room for so many bytes more

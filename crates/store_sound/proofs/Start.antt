@@ -9,12 +9,12 @@ use lib.Seq.{length-sets}
 use lib.Dec.{eqb, ltb}
 use borrow.Author.Tests.{eq-eqb, ne-eqb, eqb-true, ltb-true, leb-true}
 use Rattle.cells.specs.Cell.{setCell}
-use Rattle.cells.proofs.Counts.{and-left, and-right, and-both}
 use Rattle.cells.proofs.Cells.{setCell-other, setCell-same}
 use Rattle.store.specs.Chain.{portion, needed, freeCount}
 use Rattle.store.specs.Entry.{entries, entry, kind, name, first, size, many, ofKind}
 use Rattle.store.specs.Content.{contentOf, extent, bytesFrom}
 use Rattle.moves.specs.Memory.{memory}
+use Rattle.ground.proofs.Tests.{and-left, and-right, and-both}
 use Rattle.store_sound.specs.Sound.{nameOk, nameByteOk, firsts, counts, storeSound}
 use Rattle.store_sound.specs.Shelf.{held}
 use Rattle.store_sound.proofs.Linked.{Change, changed, others}

@@ -9,6 +9,7 @@ use Rattle.cells.specs.Scan.{lowestFrom}
 use Rattle.store.specs.Entry.{name, first, size, many}
 use Rattle.store.specs.Find.{found, sameName, titled}
 use Rattle.moves.specs.Grow.{lastOf}
+use Rattle.store_sound.specs.Shelf.{held, nothing, swept}
 use Rattle.store_sound.specs.Sound.{lentOk, kindsOk, legalByte, nameByteOk, nameOk, namesOk, uniqueOk, uniquesOk, singleOk, singlesOk, portionOk, linksOk, emptiesOk, freesOk, tailOf, tailsOk, storeSound}
 
 abbrev bytes : List ℕ
@@ -56,3 +57,13 @@ twice = refl
 other-kind : storeSound bytes (set links 1 65534) (form ++ second 2) ≡ true
 unfolding storeSound lentOk kindsOk namesOk uniquesOk uniqueOk singlesOk singleOk linksOk portionOk emptiesOk freesOk tailsOk found lowestFrom titled sameName name nameOk nameByteOk legalByte tailOf lastOf first size many cell
 other-kind = refl
+
+-- when all pictures are erased, a picture is gone and a form stays
+abbrev title : List ℕ
+title = 65 ∷ replicate 7 0
+
+picture-swept : swept true (held 2 title (7 ∷ [])) ≡ nothing
+picture-swept = refl
+
+form-stays : swept true (held 1 title (7 ∷ [])) ≡ held 1 title (7 ∷ [])
+form-stays = refl

@@ -1,14 +1,12 @@
 -- The directory with its contents as one list, the shelf: what a reader of the store sees.
 use mathlib.Core.List.{List, [], _∷_, _++_}
-use mathlib.Core.Bool.{Bool, true, false, _&&_}
+use mathlib.Core.Bool.{Bool, cond, _&&_}
 use Prim.Native.Nat.{ℕ, zero, suc}
 use Rattle.store.specs.Entry.{entries, entry, kind, name, ofKind}
 use Rattle.store.specs.Content.{contentOf}
-use lib.ListN.{length, replicate}
 use lib.Dec.{leb}
-use Rattle.cells.specs.Cell.{zeros}
 use Rattle.cells.specs.Count.{allTo}
-use Rattle.moves.specs.Memory.{Memory, memory}
+use Rattle.moves.specs.Memory.{Memory}
 use Rattle.moves.specs.Start.{nameEnd}
 use Rattle.store_sound.specs.Sound.{nameByteOk}
 
@@ -44,13 +42,5 @@ unfoldable pub titleOk : List ℕ → Bool
 titleOk n = (leb 1 (nameEnd n) && leb (nameEnd n) 8) && allTo (nameByteOk (nameEnd n) n) 8
 
 -- what is left of an entry when all of a kind are erased
-abbrev pub pickHeld : Bool → Held → Held → Held
-pickHeld true a b = a
-pickHeld false a b = b
-
 abbrev pub swept : Bool → Held → Held
-swept picture h = pickHeld (ofKind picture (h .kind)) nothing h
-
--- "Opening clears all lent memory, frees all portions"
-abbrev pub cleared : Memory → Memory
-cleared m = memory (zeros (length (m .store))) (replicate (length (m .links)) 65535) (zeros (length (m .directory)))
+swept picture h = cond (ofKind picture (h .kind)) nothing h

@@ -1,4 +1,4 @@
--- The store's part of **sound**, one Bool for each clause, in the order of paper 01: "names upper-case, legal, unique per kind (1 and 3 are one
+-- The store's part of **Sound**, one Bool for each clause, in the order of paper 01: "names upper-case, legal, unique per kind (1 and 3 are one
 -- kind); at most one entry of kind 3; each chain of exactly size/256 rounded up, at least one, portions; no portion in two chains; all others free;
 -- unused bytes zero". Each has a value on any memory.
 use mathlib.Core.List.{List}
@@ -9,18 +9,24 @@ use lib.Dec.{eqb, ltb, leb}
 use Rattle.cells.specs.Count.{times, sumTo, allTo, allZero}
 use Rattle.store.specs.declared.Found.{Found}
 use Rattle.store.specs.declared.Found.the-variants.{At, Nothing}
-use Rattle.store.specs.Chain.{needed, portion, isFree, chain, chainOk}
-use Rattle.store.specs.Entry.{entries, entry, kind, nameLength, name, first, size, many}
+use Rattle.store.specs.Chain.{bytesAPortion, needed, portion, isFree, chain, chainOk}
+use Rattle.store.specs.Entry.{bytesAnEntry, entries, entry, kind, nameLength, name, first, size, many}
 use Rattle.store.specs.Find.{isEmpty, isRecording, recorded, titledAt}
 use Rattle.moves.specs.Grow.{lastOf}
 
--- "Store: 1 to 2,024 portions of 256 bytes. Links: one for each portion. Directory: 1 to 512 entries of 16 bytes"
+-- "Store: 1 to 2,024 portions of 256 bytes", links "one for each portion", "Directory: 1 to 512 entries of 16 bytes"
+abbrev pub mostPortions : ℕ
+mostPortions = 2024
+
+abbrev pub mostEntries : ℕ
+mostEntries = 512
+
 unfoldable pub lentOk : List ℕ → List ℕ → List ℕ → Bool
 lentOk store links directory =
-    leb (length links) 2024
+    leb (length links) mostPortions
     && (leb 1 (length links)
-    && (eqb (length store) (length links * 256)
-    && (eqb (length directory) (entries directory * 16) && (leb 1 (entries directory) && leb (entries directory) 512))))
+    && (eqb (length store) (length links * bytesAPortion)
+    && (eqb (length directory) (entries directory * bytesAnEntry) && (leb 1 (entries directory) && leb (entries directory) mostEntries))))
 
 -- "these numbers in their ranges": the kinds, 0 to 3
 abbrev pub kindOk : List ℕ → ℕ → Bool
@@ -84,7 +90,7 @@ chained links fs ns i = eqb (ns i) 0 || chainOk links (fs i) (ns i)
 
 -- "no portion in two chains; all others free": portion q is free and stands in no chain, or stands in one chain, once
 unfoldable pub portionOk : List ℕ → (ℕ → ℕ) → (ℕ → ℕ) → ℕ → ℕ → Bool
-portionOk links fs ns n q = eqb (uses links fs ns q n) (cond (eqb (getD links q 0) 65535) 0 1)
+portionOk links fs ns n q = eqb (uses links fs ns q n) (cond (isFree links q) 0 1)
 
 unfoldable pub linksOk : List ℕ → (ℕ → ℕ) → (ℕ → ℕ) → ℕ → Bool
 linksOk links fs ns n = allTo (chained links fs ns) n && allTo (portionOk links fs ns n) (length links)
@@ -110,7 +116,7 @@ freesOk store links = allTo (freeOk store links) (length links)
 
 -- the tail of each chain's last portion: what lies behind the bytes of the entry's size
 unfoldable pub tailOf : List ℕ → List ℕ → List ℕ → List ℕ
-tailOf store links e = drop (size e - 256 * (needed (size e) - 1)) (portion store (lastOf links e))
+tailOf store links e = drop (size e - bytesAPortion * (needed (size e) - 1)) (portion store (lastOf links e))
 
 abbrev pub tailOk : List ℕ → List ℕ → List ℕ → ℕ → Bool
 tailOk store links directory i = isEmpty directory i || allZero (tailOf store links (entry directory i))

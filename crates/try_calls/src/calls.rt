@@ -16,7 +16,7 @@ fn lent_of(record: &[u8], i: usize, room: usize) -> usize
     requires { ⌜ i ≤ 8 ⌝ }
     ensures { λ r. ⌜ r ≤ room ⌝ }
 {
-    dots::least(number(record, 1 + 2 * i), room)
+    ground::least(number(record, 1 + 2 * i), room)
 }
 
 fn lent(record: &[u8], i: usize, bytes: &[u8]) -> usize

@@ -1,28 +1,45 @@
 // What lies on the desk: a call is lent the front of each slice.
 
+// Two bytes more than an image, a count more than two, a field more than ten; and as many rows, portions and entries as the longest call is lent.
+const SESSION: usize = face::IMAGE + 2;
+
+const COUNTS: usize = face::COUNTS + 1;
+
+const PAGE: usize = 42 * 76;
+
+const PORTIONS: usize = 18;
+
+const STORE: usize = PORTIONS * 256;
+
+const DIRECTORY: usize = 6 * 16;
+
+const VALUES: usize = 11 * 34;
+
+const OUTPUT: usize = 256;
+
 pub(crate) struct Desk {
-    pub(crate) session: [u8; 67],
-    pub(crate) counts: [u64; 3],
-    pub(crate) page: [u8; 3192],
-    pub(crate) background: [u8; 3192],
-    pub(crate) store: [u8; 4608],
-    pub(crate) links: [u16; 18],
-    pub(crate) directory: [u8; 96],
-    pub(crate) values: [u8; 374],
-    pub(crate) output: [u8; 256],
+    pub(crate) session: [u8; SESSION],
+    pub(crate) counts: [u64; COUNTS],
+    pub(crate) page: [u8; PAGE],
+    pub(crate) background: [u8; PAGE],
+    pub(crate) store: [u8; STORE],
+    pub(crate) links: [u16; PORTIONS],
+    pub(crate) directory: [u8; DIRECTORY],
+    pub(crate) values: [u8; VALUES],
+    pub(crate) output: [u8; OUTPUT],
 }
 
 // S
 pub(crate) fn new_desk(fill: u8) -> Desk {
-    let session = [fill; 67];
-    let counts = [0u64; 3];
-    let page = [fill; 3192];
-    let background = [fill; 3192];
-    let store = [fill; 4608];
-    let links = [fill as u16 * 257; 18];
-    let directory = [fill; 96];
-    let values = [fill; 374];
-    let output = [fill; 256];
+    let session = [fill; SESSION];
+    let counts = [0u64; COUNTS];
+    let page = [fill; PAGE];
+    let background = [fill; PAGE];
+    let store = [fill; STORE];
+    let links = [fill as u16 * 257; PORTIONS];
+    let directory = [fill; DIRECTORY];
+    let values = [fill; VALUES];
+    let output = [fill; OUTPUT];
     Desk {
         session: session,
         counts: counts,
@@ -47,7 +64,7 @@ fn changed_link(link: u16, high: bool, b: u8) -> u16 {
 fn change_link(d: Desk, at: usize, b: u8) -> Desk {
     let mut after = d;
     let i = at / 2;
-    if i < 18 {
+    if i < PORTIONS {
         after.links[i] = changed_link(after.links[i], at % 2 == 1, b);
     }
     after
@@ -55,7 +72,7 @@ fn change_link(d: Desk, at: usize, b: u8) -> Desk {
 
 fn change_session(d: Desk, at: usize, b: u8) -> Desk {
     let mut after = d;
-    if at < 67 {
+    if at < SESSION {
         after.session[at] = b;
     }
     after
@@ -63,7 +80,7 @@ fn change_session(d: Desk, at: usize, b: u8) -> Desk {
 
 fn change_background(d: Desk, at: usize, b: u8) -> Desk {
     let mut after = d;
-    if at < 3192 {
+    if at < PAGE {
         after.background[at] = b;
     }
     after
@@ -71,7 +88,7 @@ fn change_background(d: Desk, at: usize, b: u8) -> Desk {
 
 fn change_store(d: Desk, at: usize, b: u8) -> Desk {
     let mut after = d;
-    if at < 4608 {
+    if at < STORE {
         after.store[at] = b;
     }
     after
@@ -79,7 +96,7 @@ fn change_store(d: Desk, at: usize, b: u8) -> Desk {
 
 fn change_directory(d: Desk, at: usize, b: u8) -> Desk {
     let mut after = d;
-    if at < 96 {
+    if at < DIRECTORY {
         after.directory[at] = b;
     }
     after
@@ -87,7 +104,7 @@ fn change_directory(d: Desk, at: usize, b: u8) -> Desk {
 
 fn change_value(d: Desk, at: usize, b: u8) -> Desk {
     let mut after = d;
-    if at < 374 {
+    if at < VALUES {
         after.values[at] = b;
     }
     after

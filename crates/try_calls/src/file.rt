@@ -16,5 +16,5 @@ pub(crate) fn number(file: &[u8], at: usize) -> usize
 }
 
 pub(crate) fn part<'a>(file: &'a [u8], at: usize, length: usize) -> &'a [u8] {
-    read::input::first(read::input::rest(file, at), length)
+    parts::first(parts::rest(file, at), length)
 }

@@ -31,7 +31,7 @@ struct Progress {
 
 fn moved(r: Progress, size: usize) -> Progress {
     let mut next = r;
-    next.at = dots::capped_sum(r.at, size);
+    next.at = ground::capped_sum(r.at, size);
     next
 }
 
@@ -39,7 +39,7 @@ fn moved(r: Progress, size: usize) -> Progress {
 fn font(r: Progress, record: &[u8]) -> Progress {
     let length = number(record, 1);
     let mut next = moved(r, 3 + length);
-    next.font = dots::capped_sum(r.at, 3);
+    next.font = ground::capped_sum(r.at, 3);
     next.length = length;
     next
 }
@@ -58,7 +58,7 @@ fn called(file: &[u8], r: Progress, record: &[u8]) -> Progress {
     let c = call(record, part(file, r.font, r.length), desk);
     let answer = c.answer;
     let after = c.desk;
-    let calls = dots::capped_sum(r.calls, 1);
+    let calls = ground::capped_sum(r.calls, 1);
     line(calls, answer, after);
     let mut next = moved(r, size(record));
     next.desk = after;
@@ -68,7 +68,7 @@ fn called(file: &[u8], r: Progress, record: &[u8]) -> Progress {
 
 // One record.
 fn one(file: &[u8], r: Progress) -> Progress {
-    let record = read::input::rest(file, r.at);
+    let record = parts::rest(file, r.at);
     match byte(record, 0) {
         b'S' => {
             let mut next = moved(r, 2);

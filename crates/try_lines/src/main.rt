@@ -79,7 +79,7 @@ fn tried(line: &[u8], place: usize, b: u8, t: Tally) -> Tally {
         copy[k] = changed(line, k, place, b);
         k += 1;
     }
-    judged(read::input::first(&copy, line.len()), t)
+    judged(parts::first(&copy, line.len()), t)
 }
 
 fn low(b: usize) -> u8 {

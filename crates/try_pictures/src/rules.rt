@@ -3,12 +3,7 @@ use crate::shown::judged;
 use crate::shown::load;
 use crate::shown::say;
 use crate::shown::show;
-
-fn put(bytes: &mut [u8], at: usize, value: u8) {
-    if at < bytes.len() {
-        bytes[at] = value;
-    }
-}
+use ground::put_byte;
 
 // Says whether the first n bytes are legal, and shows the page if they draw on it.
 fn tried(bytes: &[u8], n: usize, what: &[u8]) {
@@ -65,13 +60,13 @@ pub(crate) fn sizes() {
     let mut bytes = io::large_buffer();
     load(&mut bytes, b"across.pcx");
     changed(&mut bytes, 133, b"17 dots in lines of 2 bytes", 8, 16);
-    put(&mut bytes, 10, 1);
+    put_byte(&mut bytes, 10, 1);
     changed(&mut bytes, 133, b"lines of 3 bytes", 66, 3);
     load(&mut bytes, b"wide.pcx");
-    put(&mut bytes, 136, 198);
+    put_byte(&mut bytes, 136, 198);
     changed(&mut bytes, 138, b"lines of 258 bytes", 66, 2);
     load(&mut bytes, b"tall.pcx");
-    put(&mut bytes, 382, 255);
+    put_byte(&mut bytes, 382, 255);
     changed(&mut bytes, 386, b"4,001 lines", 10, 160);
 }
 
@@ -88,14 +83,14 @@ pub(crate) fn runs() {
 pub(crate) fn longest() {
     let mut bytes = io::large_buffer();
     load(&mut bytes, b"across.pcx");
-    put(&mut bytes, 8, 127);
-    put(&mut bytes, 10, 247);
-    put(&mut bytes, 11, 7);
-    put(&mut bytes, 66, 16);
-    put(&mut bytes, 128, 0);
-    put(&mut bytes, 130, 0);
-    put(&mut bytes, 131, 0);
-    put(&mut bytes, 132, 0);
+    put_byte(&mut bytes, 8, 127);
+    put_byte(&mut bytes, 10, 247);
+    put_byte(&mut bytes, 11, 7);
+    put_byte(&mut bytes, 66, 16);
+    put_byte(&mut bytes, 128, 0);
+    put_byte(&mut bytes, 130, 0);
+    put_byte(&mut bytes, 131, 0);
+    put_byte(&mut bytes, 132, 0);
     tried(&bytes, 32768, b"32,768 bytes");
     changed(&mut bytes, 32769, b"32,769 bytes", 128, 193);
 }

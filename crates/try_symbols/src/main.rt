@@ -47,10 +47,6 @@ fn emit_width(line: &mut [u8], at: usize, w: usize) -> usize {
     emit(line, ones, b' ')
 }
 
-fn byte_at(s: &[u8], i: usize) -> u8 {
-    if i < s.len() { s[i] } else { 0 }
-}
-
 fn show(line: &[u8], n: usize) {
     if n <= line.len() {
         io::write_all(STDOUT_FILENO, &line[..n]);
@@ -62,7 +58,7 @@ fn symbol(kind: Kind, e: u8, f: u8, bytes: &[u8], ws: &mut [u8], line: &mut [u8]
     let mut at: usize = 0;
     let mut k: usize = 0;
     while k < n {
-        at = emit_width(line, at, bars::width(kind, e, f, byte_at(ws, k)));
+        at = emit_width(line, at, bars::width(kind, e, f, ground::byte(ws, k)));
         k += 1;
     }
     let end = emit(line, at, b'\n');

@@ -8,11 +8,11 @@ use lib.ListN.{length, take, drop, replicate, length-append, length-replicate}
 use lib.Seq.{sets, sets-eq, length-sets, take-at}
 use Rattle.fields.specs.declared.What.{What}
 use Rattle.fields.specs.declared.Element.{Element}
+use Rattle.ground.proofs.Stores.{sets-out, sets-append}
 use Rattle.values.specs.declared.declarations.Declared.{Declared}
 use Rattle.values.specs.Counters.{digits, digitsOf}
 use Rattle.values.specs.Data.{Laid, Values, valueOf, pieceOf, pieceAt, assembled, row, shown, lay}
 use Rattle.values.proofs.Lists.{length-digits}
-use Rattle.values.proofs.Writing.{sets-past, sets-append}
 
 -- ---- pieces
 
@@ -44,8 +44,8 @@ row-same a b x y p q = cc
 sets-behind : (out : List ℕ) (n : ℕ) (t u : List ℕ) → sets (sets out n t) (n + min (length out - n) (length t)) u ≡ sets out n (t ++ u)
 sets-behind out n t u = elim (decLe (length t) (length out - n)) [
   | yes h ↦ let e : n + min (length out - n) (length t) ≡ n + length t = omega arith in rw e (sym (sets-append out n t u))
-  | no h ↦ sets-past (sets out n t) (n + min (length out - n) (length t)) u (omega (arith, length-sets out n t))
-      ∙ sym (sets-append out n t u ∙ sets-past (sets out n t) (n + length t) u (omega (arith, length-sets out n t)))
+  | no h ↦ sets-out (sets out n t) (n + min (length out - n) (length t)) u (omega (arith, length-sets out n t))
+      ∙ sym (sets-append out n t u ∙ sets-out (sets out n t) (n + length t) u (omega (arith, length-sets out n t)))
 ]
 
 laid-from : (line : List ℕ) (d : Declared) (v : Values) (n : ℕ) (out : List ℕ) (es : List Element)

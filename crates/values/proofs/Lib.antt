@@ -1,5 +1,4 @@
 pub mod Lists
-pub mod Writing
 pub mod Tens
 pub mod Fields
 pub mod Laying

@@ -11,14 +11,14 @@ use lib.Seq.{sets, sets-eq, take-at, drop-at, take-set-le, drop-set-lt, drop-set
 use lib.Dec.{eqb, ltb}
 use borrow.Author.Tests.{le-leb, lt-ltb, eqb-true, ltb-true}
 use Rattle.kinds.specs.Bytes.{allIn}
-use Rattle.kinds.proofs.Laws.{or-first, or-second}
+use Rattle.ground.proofs.Tests.{or-first, or-second, and-left, and-right, and-both}
 use Rattle.values.specs.declared.declarations.Declared.{Declared}
 use Rattle.values.specs.declared.counters.Counters.{Counters}
 use Rattle.values.specs.Declarations.{tenth, lengthAt, sideAt, widthAt, minusAt, stepAt, variableDeclared, counterDeclared}
 use Rattle.values.specs.Counters.{tenTo, counters, noneSet, counterSet, counterValue, counted, counterEntered, movedAll}
 use Rattle.values.specs.declared.counters.Entered.the-variants.{Taken, Undeclared, Unfit}
 use Rattle.values.specs.Stored.{enters, padded, field, stored, fieldAt, valueIn, variableEntered, unset, fits, isZero, keeps, fieldSound, counterSound, every, soundAt, valuesSound, setAt, allSet}
-use Rattle.values.proofs.Lists.{and-left, and-right, and-both, all-take, all-drop, all-replicate}
+use Rattle.values.proofs.Lists.{all-take, all-drop, all-replicate}
 use Rattle.values.proofs.Tens.{moved-below, moved-each, moved-yes, moved-no, tenth-below}
 use Rattle.values.proofs.Fields.{entered-fits, length-fits}
 

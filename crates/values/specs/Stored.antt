@@ -14,13 +14,20 @@ use Rattle.values.specs.declared.counters.Entered.the-variants.{Taken, U
 use Rattle.values.specs.Declarations.{tenth, lengthAt, sideAt, widthAt, variableDeclared, counterDeclared}
 use Rattle.values.specs.Counters.{tenTo, counterSet, counterValue}
 
+-- "10 fields of 34 bytes", and those of them that hold the value
+abbrev pub bytesAField : ℕ
+bytesAField = 34
+
+abbrev pub bytesAValue : ℕ
+bytesAValue = 32
+
 -- ---- what may be entered
 
 -- "each 32 to 126 and no quote"
 abbrev pub legal : ℕ → Bool
 legal b = between 32 33 b || between 35 126 b
 
--- "Z is 1 to m digits. Others take 0 to m bytes"; Z is 90
+-- "Z is 1 to m digits, zeros put in front. Others take 0 to m bytes, each 32 to 126 and no quote."; Z is 90
 unfoldable pub enters : ℕ → ℕ → List ℕ → Bool
 enters side m text =
     cond (eqb side 90) (leb 1 (length text) && (leb (length text) m && allIn isDigit text))
@@ -49,10 +56,10 @@ padded side m text =
 
 -- "set (0 or 1), length, 32 bytes zero-filled": the field that keeps a value
 unfoldable pub field : List ℕ → List ℕ
-field v = 1 ∷ length v ∷ (v ++ replicate (32 - length v) 0)
+field v = 1 ∷ length v ∷ (v ++ replicate (bytesAValue - length v) 0)
 
 unfoldable pub fieldAt : List ℕ → ℕ → List ℕ
-fieldAt values k = cond (ltb k 10) (take 34 (drop (34 * k) values)) []
+fieldAt values k = cond (ltb k 10) (take bytesAField (drop (bytesAField * k) values)) []
 
 -- the value that a field keeps
 unfoldable pub valueIn : List ℕ → List ℕ
@@ -78,7 +85,7 @@ stored a vs = record { answer = a; values = vs }
 unfoldable pub variableEntered : Declared → ℕ → List ℕ → List ℕ → Stored
 variableEntered d n text values = cond (variableDeclared d n)
     (cond (enters (sideAt d n) (lengthAt d n) text)
-    (stored Taken (sets values (34 * n) (field (padded (sideAt d n) (lengthAt d n) text))))
+    (stored Taken (sets values (bytesAField * n) (field (padded (sideAt d n) (lengthAt d n) text))))
     (stored Unfit values))
     (stored Undeclared values)
 
@@ -100,7 +107,7 @@ isZero b = eqb b 0
 
 -- a field that keeps a value: set, a length up to 32, a value that fits, zeros behind it
 unfoldable pub keeps : ℕ → ℕ → List ℕ → Bool
-keeps side m f = fieldSet f && (leb (getD f 1 0) 32 && (fits side m (valueIn f) && allIn isZero (drop (2 + getD f 1 0) f)))
+keeps side m f = fieldSet f && (leb (getD f 1 0) bytesAValue && (fits side m (valueIn f) && allIn isZero (drop (2 + getD f 1 0) f)))
 
 -- "set values fit its declarations, undeclared ones unset"
 unfoldable pub fieldSound : Declared → ℕ → List ℕ → Bool

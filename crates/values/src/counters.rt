@@ -1,12 +1,11 @@
 // Counters: their digits, their values, and their move after each label.
 ghost use mathlib.Core.Path.{_≡_};
 ghost use Rattle.values.specs.Counters.{tenTo, digitAt, digitsOf, noneSet, counterSet, counterValue, counterEntered, moved, movedAt, movedAll};
-use crate::bytes::both;
-use crate::bytes::lesser;
-use crate::bytes::wide32;
 use crate::declarations::Declared;
 use crate::declarations::tenth_byte;
 use crate::declarations::tenth_number;
+use ground::both;
+use ground::least;
 
 // The session's ten counters: set (0 or 1) and value (0 where unset).
 pub struct Counters {
@@ -40,6 +39,12 @@ const TENS: [u32; 10] = [
     1000000000,
 ];
 
+fn wide32(x: u32) -> usize
+    ensures { λ r. ⌜ r ≡ x ⌝ }
+{
+    x as usize
+}
+
 // A power of ten, up to the ninth.
 pub fn ten(w: usize) -> u32
     ensures { λ r. ⌜ r ≡ tenTo w ⌝ }
@@ -58,7 +63,7 @@ fn digit_at(n: u32, k: usize) -> u8
 pub fn digits_of(n: u32, w: usize) -> [u8; 9]
     ensures { λ r. ⌜ r ≡ digitsOf n w ⌝ }
 {
-    let width = lesser(w, 9);
+    let width = least(w, 9);
     let mut out = [0u8; 9];
     let mut i = 0;
     while i < width {

@@ -5,7 +5,6 @@
 // data is a part of the line, of such a field, or of a counter's digits. The definitions (specs/) say all of this of any bytes and any numbers, and
 // each function here gives exactly what they say; that entering, unsetting and moving keep the values sound is proved in proofs/Sound.antt.
 // The elements of a line are read in crate `fields`, and which data may stand in a form is judged in crate `fitness`.
-pub mod bytes;
 pub mod counters;
 pub mod data;
 pub mod declarations;

@@ -5,7 +5,8 @@ use mathlib.Core.Bool.{Bool, _&&_}
 use native.Mathlib.Omega.{arith}
 use borrow.Author.Tests.{not-true, not-false}
 use Prim.Native.Nat.{_+_, _*_}
-use Rattle.dots.specs.Dots.{box, capped}
+use Rattle.dots.specs.Dots.{box}
+use Rattle.ground.specs.Numbers.{capped}
 use Rattle.figures.proofs.Bitmaps.{on-run}
 use Rattle.figures.proofs.Placed.{as-placed, none-placed}
 use borrow.Author.Needs.{needs}

@@ -5,7 +5,8 @@ use mathlib.Core.Bool.{_&&_}
 use Prim.Native.Nat.{ℕ, _+_, _-_, _*_, _≤_}
 use native.Mathlib.Omega.{arith}
 use lib.ListN.{length as len}
-use Rattle.dots.specs.Dots.{drawn, cut, box, capped}
+use Rattle.dots.specs.Dots.{drawn, cut, box}
+use Rattle.ground.specs.Numbers.{capped}
 use Rattle.figures.specs.Figures.{bitRow, rowOf, shifted, placed}
 use Rattle.figures.proofs.Placed.{then-placed, none-placed}
 use Rattle.figures.proofs.Bitmaps.{row-next, row-start}

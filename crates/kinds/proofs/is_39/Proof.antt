@@ -1,9 +1,9 @@
+use Rattle.ground.proofs.Tests.{or-first}
 use Rattle.kinds.proofs.Laws.{letter-39}
 use mathlib.Core.Path.{sym, _∙_}
 use borrow.Author.Tests.{ne-eqb}
 use Rattle.kinds.specs.Bytes.{between}
 use Rattle.kinds.specs.Fit.{inClass}
-use Rattle.kinds.proofs.Laws.{or-first}
 use borrow.Author.Needs.{needs}
 use Rattle.kinds.proofs.is_39.Statement.{statement}
 use Rattle.kinds.proofs.is_39.Tie as tie

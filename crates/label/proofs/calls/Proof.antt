@@ -1,6 +1,6 @@
 -- `calls` is safe and ends: each turn is one call, of which there are at most as many as bytes, and no lent slice changes its length.
 -- Assumes nothing.
-use mathlib.Core.Path.{_≡_}
+use mathlib.Core.Path.{_≡_, _∙_}
 use Prim.Native.Nat.{_≤_, _-_}
 use lib.ListN.{length}
 use native.Mathlib.Omega.{arith}
@@ -9,12 +9,11 @@ use Rattle.label.proofs.calls.Statement.{statement}
 use Rattle.label.proofs.calls.Tie as tie
 
 abbrev Inv-loop : tie.InvT-loop
-Inv-loop page₀ background₀ store₀ links₀ directory₀ values₀ output₀ input s₀ at₀ k₀ page background store links directory values output s at k =
-    (k ≤ length input) × (length page ≡ length page₀) × (length background ≡ length background₀) × (length store ≡ length store₀) × (length links ≡ length links₀) × (length directory ≡ length directory₀) × (length values ≡ length values₀) × (length output ≡ length output₀)
+Inv-loop page₀ background₀ store₀ links₀ directory₀ values₀ output₀ input s₀ unread₀ most₀ k₀ page background store links directory values output s unread most k =
+    (most ≤ length input) × (length page ≡ length page₀) × (length background ≡ length background₀) × (length store ≡ length store₀) × (length links ≡ length links₀) × (length directory ≡ length directory₀) × (length values ≡ length values₀) × (length output ≡ length output₀)
 
 abbrev μ-loop : tie.MeasureT-loop
-μ-loop page₀ background₀ store₀ links₀ directory₀ values₀ output₀ input s₀ at₀ k₀ page background store links directory values output s at k =
-    length input - k
+μ-loop page₀ background₀ store₀ links₀ directory₀ values₀ output₀ input s₀ unread₀ most₀ k₀ page background store links directory values output s unread most k = most - k
 
 loop-holds : tie.Need-loop-holds Inv-loop μ-loop
 loop-holds c = search needs
@@ -22,77 +21,46 @@ loop-holds c = search needs
 add-k : tie.Need-add-k Inv-loop μ-loop
 add-k c = search needs
 
-rest-requires : tie.Need-rest-requires Inv-loop μ-loop
-rest-requires c κs = search needs
-
 call-requires : tie.Need-call-requires Inv-loop μ-loop
 call-requires c κs = search needs
 
-same-length : tie.Need-same-length Inv-loop μ-loop
-same-length c = search needs
+calls-in-requires : tie.Need-calls-in-requires Inv-loop μ-loop
+calls-in-requires c κs = search needs
 
-same-length-2 : tie.Need-same-length-2 Inv-loop μ-loop
-same-length-2 c = search needs
-
-same-length-3 : tie.Need-same-length-3 Inv-loop μ-loop
-same-length-3 c = search needs
-
-same-length-4 : tie.Need-same-length-4 Inv-loop μ-loop
-same-length-4 c = search needs
-
-same-length-5 : tie.Need-same-length-5 Inv-loop μ-loop
-same-length-5 c = search needs
-
-same-length-6 : tie.Need-same-length-6 Inv-loop μ-loop
-same-length-6 c = search needs
-
-same-length-7 : tie.Need-same-length-7 Inv-loop μ-loop
-same-length-7 c = search needs
-
-returns : tie.Need-returns Inv-loop μ-loop
-returns c = search needs
-
-capped-sum-requires : tie.Need-capped-sum-requires Inv-loop μ-loop
-capped-sum-requires c κs = search needs
+rest-requires : tie.Need-rest-requires Inv-loop μ-loop
+rest-requires c κs = search needs
 
 loop-less : tie.Need-loop-less Inv-loop μ-loop
 loop-less c = search needs
 
 loop-again : tie.Need-loop-again Inv-loop μ-loop
-loop-again c = (
-  omega arith,
-  omega (arith, c .before .before .before .before .before .before .before .before .before .before .before .before .before .before .before .before .page .given, c .before .before .before .before .before .before .before .before .before .before .before .before .before .before .before .before .before .before .before .before .before .before .before .before .before .before .before .loop .inv),
-  omega (arith, c .before .before .before .before .before .before .before .before .before .before .before .before .before .before .background .given, c .before .before .before .before .before .before .before .before .before .before .before .before .before .before .before .before .before .before .before .before .before .before .before .before .before .before .before .loop .inv),
-  omega (arith, c .before .before .before .before .before .before .before .before .before .before .before .before .store .given, c .before .before .before .before .before .before .before .before .before .before .before .before .before .before .before .before .before .before .before .before .before .before .before .before .before .before .before .loop .inv),
-  omega (arith, c .before .before .before .before .before .before .before .before .before .before .links .given, c .before .before .before .before .before .before .before .before .before .before .before .before .before .before .before .before .before .before .before .before .before .before .before .before .before .before .before .loop .inv),
-  omega (arith, c .before .before .before .before .before .before .before .before .directory .given, c .before .before .before .before .before .before .before .before .before .before .before .before .before .before .before .before .before .before .before .before .before .before .before .before .before .before .before .loop .inv),
-  omega (arith, c .before .before .before .before .before .before .values .given, c .before .before .before .before .before .before .before .before .before .before .before .before .before .before .before .before .before .before .before .before .before .before .before .before .before .before .before .loop .inv),
-  omega (arith, c .before .before .before .before .output .given, c .before .before .before .before .before .before .before .before .before .before .before .before .before .before .before .before .before .before .before .before .before .before .before .before .before .before .before .loop .inv),
-)
+loop-again c =
+    let i = c .before .before .before .before .before .before .before .before .before .before .before .before .before .before .before .before .before .before .before .before .before .before .before .before .before .before .loop .inv in
+    (omega (arith, c .before .calls-in .ensures, i .0), c .before .before .before .before .before .before .before .before .before .before .before .before .before .before .before .before .page .given ∙ i .1, c .before .before .before .before .before .before .before .before .before .before .before .before .before .before .background .given ∙ i .2, c .before .before .before .before .before .before .before .before .before .before .before .before .store .given ∙ i .3, c .before .before .before .before .before .before .before .before .before .before .links .given ∙ i .4, c .before .before .before .before .before .before .before .before .directory .given ∙ i .5, c .before .before .before .before .before .before .values .given ∙ i .6, c .before .before .before .before .output .given ∙ i .7)
 
-same-length-8 : tie.Need-same-length-8 Inv-loop μ-loop
-same-length-8 c = search needs
+same-length : tie.Need-same-length Inv-loop μ-loop
+same-length c = c .before .loop .inv .1
 
-same-length-9 : tie.Need-same-length-9 Inv-loop μ-loop
-same-length-9 c = search needs
+same-length-2 : tie.Need-same-length-2 Inv-loop μ-loop
+same-length-2 c = c .before .loop .inv .2
 
-same-length-10 : tie.Need-same-length-10 Inv-loop μ-loop
-same-length-10 c = search needs
+same-length-3 : tie.Need-same-length-3 Inv-loop μ-loop
+same-length-3 c = c .before .loop .inv .3
 
-same-length-11 : tie.Need-same-length-11 Inv-loop μ-loop
-same-length-11 c = search needs
+same-length-4 : tie.Need-same-length-4 Inv-loop μ-loop
+same-length-4 c = c .before .loop .inv .4
 
-same-length-12 : tie.Need-same-length-12 Inv-loop μ-loop
-same-length-12 c = search needs
+same-length-5 : tie.Need-same-length-5 Inv-loop μ-loop
+same-length-5 c = c .before .loop .inv .5
 
-same-length-13 : tie.Need-same-length-13 Inv-loop μ-loop
-same-length-13 c = search needs
+same-length-6 : tie.Need-same-length-6 Inv-loop μ-loop
+same-length-6 c = c .before .loop .inv .6
 
-same-length-14 : tie.Need-same-length-14 Inv-loop μ-loop
-same-length-14 c = search needs
+same-length-7 : tie.Need-same-length-7 Inv-loop μ-loop
+same-length-7 c = c .before .loop .inv .7
 
-returns-2 : tie.Need-returns-2 Inv-loop μ-loop
-returns-2 c = search needs
+returns : tie.Need-returns Inv-loop μ-loop
+returns c = search needs
 
 pub calls-spec : {M : Type 1} → statement M
 calls-spec =
@@ -102,8 +70,11 @@ calls-spec =
     μ-loop
     loop-holds
     add-k
-    rest-requires
     call-requires
+    calls-in-requires
+    rest-requires
+    loop-less
+    loop-again
     same-length
     same-length-2
     same-length-3
@@ -111,15 +82,4 @@ calls-spec =
     same-length-5
     same-length-6
     same-length-7
-    returns
-    capped-sum-requires
-    loop-less
-    loop-again
-    same-length-8
-    same-length-9
-    same-length-10
-    same-length-11
-    same-length-12
-    same-length-13
-    same-length-14
-    returns-2)
+    returns)

@@ -3,7 +3,7 @@ use native.Mathlib.Omega.{arith}
 use denote.Ref.{now}
 use lib.ListN.{drop, getD}
 use Rattle.read.specs.Grammar.{rowOf}
-use Rattle.read.proofs.Rows.{form-at, in-row, out-row, row-short}
+use Rattle.grammar.proofs.Rows.{form-at, in-row, out-row, row-short}
 use Rattle.normal.specs.Written.{writtenFrom}
 use Rattle.normal.proofs.Writes.{Rest, rest-start, rest-step, rest-done, rest-same, wrote-length, written-more, written-done}
 use borrow.Author.Needs.{needs}

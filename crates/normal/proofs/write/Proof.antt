@@ -7,12 +7,6 @@ use borrow.Author.Needs.{needs}
 use Rattle.normal.proofs.write.Statement.{statement}
 use Rattle.normal.proofs.write.Tie as tie
 
-byte-requires : tie.Need-byte-requires
-byte-requires c κs = search needs
-
-byte-requires-2 : tie.Need-byte-requires-2
-byte-requires-2 c κs = search needs
-
 head-of-requires : tie.Need-head-of-requires
 head-of-requires c κs = search needs
 
@@ -24,7 +18,7 @@ enum-told c = search needs
 
 returns : tie.Need-returns
 unfolding headWritten
-returns c = rw (← c .before .before .before .before .byte .ensures, ← c .before .before .before .byte2 .ensures, ← c .before .before .head-of .ensures, c .enum-told .given .1) (wrote-none _ _ (omega arith))
+returns c = rw (← c .before .before .head-of .ensures, c .enum-told .given .1) (wrote-none _ _ (omega arith))
 
 read-fields-requires : tie.Need-read-fields-requires
 read-fields-requires c κs = search needs
@@ -35,8 +29,8 @@ enum-told-2 c = search needs
 returns-2 : tie.Need-returns-2
 unfolding headWritten
 returns-2 c = let f = c .before .before .read-fields in
-    rw (← c .before .before .before .before .before .before .before .before .before .before .byte .ensures, ← c .before .before .before .before .before .before .before .before .before .byte2 .ensures, ← c .before .before .before .before .before .before .before .before .head-of .ensures, c .before .before .before .before .before .before .row .given .1)
-    (wrote-same (wrote-none _ _ (omega arith)) (sym (written-bad _ (now (c .before .before .before .before .before .before .before .before .before .before .before .before .before .args .line)) _ (f .result) _ _ _ _ _ (f .ensures) (c .enum-told2 .given .1))))
+    rw (← c .before .before .before .before .before .before .before .before .head-of .ensures, c .before .before .before .before .before .before .row .given .1)
+    (wrote-same (wrote-none _ _ (omega arith)) (sym (written-bad _ (now (c .before .before .before .before .before .before .before .before .before .before .before .args .line)) _ (f .result) _ _ _ _ _ (f .ensures) (c .enum-told2 .given .1))))
 
 enum-told-3 : tie.Need-enum-told-3
 enum-told-3 c = search needs
@@ -50,15 +44,13 @@ same-length c = search needs
 returns-3 : tie.Need-returns-3
 unfolding headWritten
 returns-3 c = let f = c .before .before .before .before .before .before .before .before .read-fields in
-    rw (← c .before .before .before .before .before .before .before .before .before .before .before .before .before .before .before .before .byte .ensures, ← c .before .before .before .before .before .before .before .before .before .before .before .before .before .before .before .byte2 .ensures, ← c .before .before .before .before .before .before .before .before .before .before .before .before .before .before .head-of .ensures, c .before .before .before .before .before .before .before .before .before .before .before .before .row .given .1)
-    (wrote-same (c .before .before .put-row .ensures) (sym (written-good _ (now (c .before .before .before .before .before .before .before .before .before .before .before .before .before .before .before .before .before .before .before .args .line)) (f .result) _ _ (f .ensures) (c .before .before .before .before .before .before .enum-told3 .given .1))))
+    rw (← c .before .before .before .before .before .before .before .before .before .before .before .before .before .before .head-of .ensures, c .before .before .before .before .before .before .before .before .before .before .before .before .row .given .1)
+    (wrote-same (c .before .before .put-row .ensures) (sym (written-good _ (now (c .before .before .before .before .before .before .before .before .before .before .before .before .before .before .before .before .before .args .line)) (f .result) _ _ (f .ensures) (c .before .before .before .before .before .before .enum-told3 .given .1))))
 
 pub write-spec : {M : Type 1} → statement M
 write-spec =
     tie.close
     (tie.spec
-    byte-requires
-    byte-requires-2
     head-of-requires
     enum-known-row
     enum-told

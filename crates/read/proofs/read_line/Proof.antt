@@ -3,12 +3,6 @@ use borrow.Author.Needs.{needs}
 use Rattle.read.proofs.read_line.Statement.{statement}
 use Rattle.read.proofs.read_line.Tie as tie
 
-byte-requires : tie.Need-byte-requires
-byte-requires c κs = search needs
-
-byte-requires-2 : tie.Need-byte-requires-2
-byte-requires-2 c κs = search needs
-
 head-of-requires : tie.Need-head-of-requires
 head-of-requires c κs = search needs
 
@@ -20,24 +14,14 @@ enum-told c = search needs
 
 returns : tie.Need-returns
 unfolding readOf headed
-returns c = rw (← c .before .before .before .before .byte .ensures, ← c .before .before .before .byte2 .ensures, ← c .before .before .head-of .ensures, c .enum-told .given .1)
+returns c = rw (← c .before .before .head-of .ensures, c .enum-told .given .1)
 
 judge-requires : tie.Need-judge-requires
 judge-requires c κs = search needs
 
 returns-2 : tie.Need-returns-2
 unfolding readOf headed
-returns-2 c = rw (← c .before .before .before .before .before .before .byte .ensures, ← c .before .before .before .before .before .byte2 .ensures, ← c .before .before .before .before .head-of .ensures, c .before .before .row .given .1) (c .judge .ensures)
+returns-2 c = rw (← c .before .before .before .before .head-of .ensures, c .before .before .row .given .1) (c .judge .ensures)
 
 pub read-line-spec : {M : Type 1} → statement M
-read-line-spec =
-    tie.close
-    (tie.spec
-    byte-requires
-    byte-requires-2
-    head-of-requires
-    enum-known-row
-    enum-told
-    returns
-    judge-requires
-    returns-2)
+read-line-spec = tie.close (tie.spec head-of-requires enum-known-row enum-told returns judge-requires returns-2)

@@ -4,9 +4,7 @@ use Rattle.sound.proofs.activity_sound.Statement.{statement}
 use Rattle.sound.proofs.activity_sound.Tie as tie
 use Rattle.sound.proofs.activity_sound.Reads as reads
 use Rattle.sound.proofs.activity_sound.Lts as lts
-use Rattle.sound.proofs.active_declared.Reads as active-declared-reads
 use Rattle.sound.proofs.active_ok.Reads as active-ok-reads
-use Rattle.sound.proofs.both.Reads as both-reads
 use Rattle.sound.proofs.counts_ok.Reads as counts-ok-reads
 use Rattle.sound.proofs.owed_ok.Reads as owed-ok-reads
 use Rattle.values.proofs.stored.values_sound.Reads as values-sound-reads

@@ -1,9 +1,6 @@
 use borrow.Author.Needs.{needs}
 use Rattle.sound.proofs.counts_ok.Statement.{statement}
 use Rattle.sound.proofs.counts_ok.Tie as tie
-use Rattle.sound.proofs.counts_ok.Reads as reads
-use Rattle.sound.proofs.counts_ok.Lts as lts
-use Rattle.sound.proofs.wide.Reads as wide-reads
 
 wide-requires : tie.Need-wide-requires
 wide-requires c κs = search needs
@@ -14,8 +11,11 @@ wide-requires-2 c κs = search needs
 add-result : tie.Need-add-result
 add-result c = search needs
 
+cast-result : tie.Need-cast-result
+cast-result c = search needs
+
 returns : tie.Need-returns
 returns c = cc
 
 pub counts-ok-spec : {M : Type 1} → statement M
-counts-ok-spec = tie.close (tie.spec wide-requires wide-requires-2 add-result returns)
+counts-ok-spec = tie.close (tie.spec wide-requires wide-requires-2 add-result cast-result returns)

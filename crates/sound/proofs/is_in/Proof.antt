@@ -4,7 +4,6 @@ use Rattle.sound.proofs.is_in.Statement.{statement}
 use Rattle.sound.proofs.is_in.Tie as tie
 use Rattle.sound.proofs.is_in.Reads as reads
 use Rattle.sound.proofs.is_in.Lts as lts
-use Rattle.sound.proofs.both.Reads as both-reads
 
 both-requires : tie.Need-both-requires
 both-requires c κs = search needs

@@ -2,6 +2,12 @@ use borrow.Author.Needs.{needs}
 use Rattle.sound.proofs.numbers_ok.Statement.{statement}
 use Rattle.sound.proofs.numbers_ok.Tie as tie
 
+cast-is-in : tie.Need-cast-is-in
+cast-is-in c = search needs
+
+cast-is-in-2 : tie.Need-cast-is-in-2
+cast-is-in-2 c = search needs
+
 wide-requires : tie.Need-wide-requires
 wide-requires c κs = search needs
 
@@ -35,6 +41,8 @@ pub numbers-ok-spec : {M : Type 1} → statement M
 numbers-ok-spec =
     tie.close
     (tie.spec
+    cast-is-in
+    cast-is-in-2
     wide-requires
     is-in-requires
     wide-requires-2

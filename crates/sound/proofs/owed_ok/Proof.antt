@@ -4,8 +4,6 @@ use Rattle.sound.proofs.owed_ok.Statement.{statement}
 use Rattle.sound.proofs.owed_ok.Tie as tie
 use Rattle.sound.proofs.owed_ok.Reads as reads
 use Rattle.sound.proofs.owed_ok.Lts as lts
-use Rattle.sound.proofs.active_pictures.Reads as active-pictures-reads
-use Rattle.sound.proofs.both.Reads as both-reads
 use Rattle.sound.proofs.recording.Reads as recording-reads
 use Rattle.values.proofs.stored.all_set.Reads as all-set-reads
 

@@ -61,8 +61,8 @@ same-length-2 c = lining-long _ _ _ _ _ _ _ _ _ (lining-ran _ _ _ _ _ _ _ _ _ _ 
 returns-2 : tie.Need-returns-2 Inv-loop μ-loop
 returns-2 c = lining-bad _ _ _ _ _ _ _ _ _ _ _ _ (lining-ran _ _ _ _ _ _ _ _ _ _ _ _ (c .before .before .before .before .before .before .before .before .before .before .loop-test .taken) (c .before .before .before .before .before .before .before .before .before .least .ensures) (c .before .before .before .before .before .before .before .line-run .ensures) (c .before .before .before .before .before .before .before .before .before .before .before .loop .inv .0)) (omega (arith, c .before .before .before .before .before .before .before .before .before .before .loop-test .taken, c .before .before .before .before .before .before .before .before .before .least .ensures, c .before .before .before .before .before .before .before .line-run .ensures .0)) (c .before .before .before .before .byte-at .ensures) (c .before .before .before .portion-after .ensures) (c .before .before .place-after .ensures) (c .before .if1 .left) (c .if2 .taken)
 
-put-requires : tie.Need-put-requires Inv-loop μ-loop
-put-requires c κs = search needs
+put-byte-requires : tie.Need-put-byte-requires Inv-loop μ-loop
+put-byte-requires c κs = search needs
 
 add-n-2 : tie.Need-add-n-2 Inv-loop μ-loop
 add-n-2 c = omega (arith, c .before .before .before .before .before .before .before .before .before .before .before .before .before .least .ensures, c .before .before .before .before .before .before .before .before .before .before .before .line-run .ensures .0, c .before .before .before .before .before .before .before .before .before .before .before .before .before .before .before .loop .inv .0 .few)
@@ -71,7 +71,7 @@ loop-less : tie.Need-loop-less Inv-loop μ-loop
 loop-less c = omega (arith, c .before .before .before .before .before .before .before .before .before .before .before .before .before .before .loop-test .taken, c .before .before .before .before .before .before .before .before .before .before .before .before .before .least .ensures, c .before .before .before .before .before .before .before .before .before .before .before .line-run .ensures .0)
 
 loop-again : tie.Need-loop-again Inv-loop μ-loop
-loop-again c = (rw (c .before .before .put .ensures) (lining-step _ _ _ _ _ _ _ _ _ _ _ _ (lining-ran _ _ _ _ _ _ _ _ _ _ _ _ (c .before .before .before .before .before .before .before .before .before .before .before .before .before .before .loop-test .taken) (c .before .before .before .before .before .before .before .before .before .before .before .before .before .least .ensures) (c .before .before .before .before .before .before .before .before .before .before .before .line-run .ensures) (c .before .before .before .before .before .before .before .before .before .before .before .before .before .before .before .loop .inv .0)) (omega (arith, c .before .before .before .before .before .before .before .before .before .before .before .before .before .before .loop-test .taken, c .before .before .before .before .before .before .before .before .before .before .before .before .before .least .ensures, c .before .before .before .before .before .before .before .before .before .before .before .line-run .ensures .0)) (c .before .before .before .before .before .before .before .before .byte-at .ensures) (c .before .before .before .before .before .before .before .portion-after .ensures) (c .before .before .before .before .before .before .place-after .ensures) (c .before .before .before .before .before .if1 .left) (c .before .before .before .before .if2 .left)), omega (arith, place-inside _ _ (c .before .before .before .before .before .before .place-after .ensures)))
+loop-again c = (rw (c .before .before .put-byte .ensures) (lining-step _ _ _ _ _ _ _ _ _ _ _ _ (lining-ran _ _ _ _ _ _ _ _ _ _ _ _ (c .before .before .before .before .before .before .before .before .before .before .before .before .before .before .loop-test .taken) (c .before .before .before .before .before .before .before .before .before .before .before .before .before .least .ensures) (c .before .before .before .before .before .before .before .before .before .before .before .line-run .ensures) (c .before .before .before .before .before .before .before .before .before .before .before .before .before .before .before .loop .inv .0)) (omega (arith, c .before .before .before .before .before .before .before .before .before .before .before .before .before .before .loop-test .taken, c .before .before .before .before .before .before .before .before .before .before .before .before .before .least .ensures, c .before .before .before .before .before .before .before .before .before .before .before .line-run .ensures .0)) (c .before .before .before .before .before .before .before .before .byte-at .ensures) (c .before .before .before .before .before .before .before .portion-after .ensures) (c .before .before .before .before .before .before .place-after .ensures) (c .before .before .before .before .before .if1 .left) (c .before .before .before .before .if2 .left)), omega (arith, place-inside _ _ (c .before .before .before .before .before .before .place-after .ensures)))
 
 same-length-3 : tie.Need-same-length-3 Inv-loop μ-loop
 same-length-3 c = lining-long _ _ _ _ _ _ _ _ _ (c .before .before .loop .inv .0)
@@ -107,7 +107,7 @@ line-into-spec =
     returns
     same-length-2
     returns-2
-    put-requires
+    put-byte-requires
     add-n-2
     loop-less
     loop-again

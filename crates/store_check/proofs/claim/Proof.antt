@@ -64,6 +64,9 @@ loop-again c = (
   c .before .before .before .before .before .loop .inv .2 ∙ setAll-on _ _ 1 _ _ (c .before .before .before .before .loop-test .taken),
 )
 
+cast-result : tie.Need-cast-result Inv-loop μ-loop
+cast-result c = search needs
+
 same-length-3 : tie.Need-same-length-3 Inv-loop μ-loop
 same-length-3 c = search needs
 
@@ -92,5 +95,6 @@ claim-spec =
     sub-k
     loop-less
     loop-again
+    cast-result
     same-length-3
     returns-3)

@@ -9,6 +9,9 @@ use Rattle.store_check.proofs.free_ok.Tie as tie
 link-at-requires : tie.Need-link-at-requires
 link-at-requires c κs = search needs
 
+cast-if1 : tie.Need-cast-if1
+cast-if1 c = search needs
+
 returns : tie.Need-returns
 returns c = free-other (c .before .before .before .before .args .store .now) (c .before .before .before .before .args .links .now) (c .before .before .before .before .args .q) _ (c .before .link-at .ensures .0) (c .if1 .taken)
 
@@ -29,4 +32,4 @@ returns-3 c = free-is (c .before .before .before .before .before .before .args .
 pub free-ok-spec : {M : Type 1} → statement M
 free-ok-spec =
     tie.close
-    (tie.spec link-at-requires returns returns-2 mul-zero-from zero-from-requires returns-3)
+    (tie.spec link-at-requires cast-if1 returns returns-2 mul-zero-from zero-from-requires returns-3)

@@ -18,8 +18,8 @@ elements-requires c κs = search needs
 loop-holds : tie.Need-loop-holds Inv-loop μ-loop
 loop-holds c = search needs
 
-byte-at-requires : tie.Need-byte-at-requires Inv-loop μ-loop
-byte-at-requires c κs = search needs
+byte-requires : tie.Need-byte-requires Inv-loop μ-loop
+byte-requires c κs = search needs
 
 width-requires : tie.Need-width-requires Inv-loop μ-loop
 width-requires c κs = search needs
@@ -59,7 +59,7 @@ symbol-spec =
     μ-loop
     elements-requires
     loop-holds
-    byte-at-requires
+    byte-requires
     width-requires
     emit-width-requires
     add-k

@@ -18,14 +18,14 @@ loop-holds c = record { below = omega arith; long = refl; whole = refl }
 sub-left : tie.Need-sub-left Inv-loop μ-loop
 sub-left c = search needs
 
-add-store : tie.Need-add-store Inv-loop μ-loop
-add-store c = omega arith
+add-put-byte : tie.Need-add-put-byte Inv-loop μ-loop
+add-put-byte c = omega arith
 
 last-digit-requires : tie.Need-last-digit-requires Inv-loop μ-loop
 last-digit-requires c κs = search needs
 
-store-requires : tie.Need-store-requires Inv-loop μ-loop
-store-requires c κs = search needs
+put-byte-requires : tie.Need-put-byte-requires Inv-loop μ-loop
+put-byte-requires c κs = search needs
 
 loop-less : tie.Need-loop-less Inv-loop μ-loop
 loop-less c = omega arith
@@ -33,7 +33,7 @@ loop-less c = omega arith
 loop-again : tie.Need-loop-again Inv-loop μ-loop
 loop-again c =
     writing-step _ _ _ _ _ _ _ _ _ (c .before .before .before .before .before .loop-test .taken) (c .before .before .before .before .before .before .loop .inv)
-    (c .before .before .before .last-digit .ensures) (c .before .before .store .ensures)
+    (c .before .before .before .last-digit .ensures) (c .before .before .put-byte .ensures)
 
 add-result : tie.Need-add-result Inv-loop μ-loop
 add-result c = omega arith
@@ -52,9 +52,9 @@ put-spec =
     μ-loop
     loop-holds
     sub-left
-    add-store
+    add-put-byte
     last-digit-requires
-    store-requires
+    put-byte-requires
     loop-less
     loop-again
     add-result

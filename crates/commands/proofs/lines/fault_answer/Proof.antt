@@ -1,4 +1,3 @@
-use Rattle.commands.specs.Running.{faulted}
 use borrow.Author.Needs.{needs}
 use Rattle.commands.proofs.lines.fault_answer.Statement.{statement}
 use Rattle.commands.proofs.lines.fault_answer.Tie as tie
@@ -10,11 +9,9 @@ enum-told-2 : tie.Need-enum-told-2
 enum-told-2 c = search needs
 
 returns : tie.Need-returns
-unfolding faulted
 returns c = rw (c .enum-told .given .1)
 
 returns-2 : tie.Need-returns-2
-unfolding faulted
 returns-2 c = rw (c .enum-told2 .given .1)
 
 pub fault-answer-spec : {M : Type 1} → statement M

@@ -19,13 +19,13 @@ enum-known-i : tie.Need-enum-known-i
 enum-known-i c = search needs
 
 record-requires : tie.Need-record-requires
-record-requires c κs = c .before .before .before .before .before .before .before .before .before .before .before .before .before .before .before .before .before .before .pre .written
+record-requires c κs = c .before .before .before .before .before .before .before .before .before .before .before .before .before .before .before .before .before .before .pre
 
 enum-told : tie.Need-enum-told
 enum-told c = search needs
 
 run-requires : tie.Need-run-requires
-run-requires c κs = c .before .before .before .before .before .before .before .before .before .before .before .before .before .before .before .before .before .before .before .before .pre
+run-requires c κs = search needs
 
 same-length : tie.Need-same-length
 same-length c = search needs

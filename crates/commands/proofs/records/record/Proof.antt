@@ -1,4 +1,5 @@
-use Rattle.commands.proofs.Arms.{onDirectory, lifted, short-at}
+use Rattle.results.proofs.Parts.{onDirectory, lifted}
+use Rattle.commands.proofs.Kept.{short-at}
 use Rattle.commands.proofs.Ends.{misplaced-by}
 use borrow.Author.Needs.{needs}
 use Rattle.commands.proofs.records.record.Statement.{statement}

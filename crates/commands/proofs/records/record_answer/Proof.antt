@@ -1,4 +1,4 @@
-use Rattle.commands.proofs.Arms.{item-refused, item-room, item-full}
+use Rattle.item_commands.proofs.Around.{item-refused, item-room, item-full}
 use borrow.Author.Needs.{needs}
 use Rattle.commands.proofs.records.record_answer.Statement.{statement}
 use Rattle.commands.proofs.records.record_answer.Tie as tie

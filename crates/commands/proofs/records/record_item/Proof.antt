@@ -2,7 +2,9 @@ use Rattle.normal.specs.Written.{normal}
 use mathlib.Core.Path.{ap, _∙_}
 use native.Mathlib.Omega.{arith}
 use Rattle.moves.specs.Grow.{appended}
-use Rattle.commands.proofs.Arms.{inMemory, refused-by, taken-by, kept-line, wrote-length}
+use Rattle.session.specs.Answers.{answerOf}
+use Rattle.results.proofs.Parts.{inMemory, refused-by, taken-by}
+use Rattle.commands.proofs.Kept.{kept-line, wrote-length}
 use borrow.Author.Needs.{needs}
 use Rattle.commands.proofs.records.record_item.Statement.{statement}
 use Rattle.commands.proofs.records.record_item.Tie as tie
@@ -32,6 +34,7 @@ same-length-3 : tie.Need-same-length-3
 same-length-3 c = search needs
 
 returns : tie.Need-returns
+unfolding answerOf
 returns c = rw (c .answered .ensures, ← (wrote-length _ _ _ (c .before .before .before .before .before .before .before .before .before .before .before .before .before .before .pre) (c .before .before .before .before .before .before .before .before .write .ensures)))
     (refused-by _ _ _ _ _ _ _ (c .before .before .before .record-answer .ensures) (c .before .before .is-taken .ensures) (c .before .if1 .taken))
 
@@ -60,6 +63,7 @@ same-length-6 : tie.Need-same-length-6
 same-length-6 c = search needs
 
 returns-2 : tie.Need-returns-2
+unfolding answerOf
 returns-2 c = rw (c .taken .ensures, ← (wrote-length _ _ _ (c .before .before .before .before .before .before .before .before .before .before .before .before .before .before .before .before .before .before .before .before .before .before .before .before .before .before .pre) (c .before .before .before .before .before .before .before .before .before .before .before .before .before .before .before .before .before .before .before .before .write .ensures)))
     (taken-by _ _ _ _ _ _ (c .before .before .before .before .before .before .before .before .before .before .before .before .before .before .before .record-answer .ensures) (c .before .before .before .before .before .before .before .before .before .before .before .before .before .before .is-taken .ensures) (c .before .before .before .before .before .before .before .before .before .before .before .before .before .if1 .left)
     (ap (inMemory _ _ _ _)

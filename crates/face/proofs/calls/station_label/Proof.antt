@@ -22,10 +22,10 @@ number-requires-2 : tie.Need-number-requires-2
 number-requires-2 c κs = search needs
 
 same-length : tie.Need-same-length
-same-length c = search needs
+same-length c = c .before .before .session .given
 
 same-length-2 : tie.Need-same-length-2
-same-length-2 c = search needs
+same-length-2 c = c .before .before .before .before .before .before .before .page .given
 
 returns-2 : tie.Need-returns-2
 returns-2 c = label-done _ _ _ _ _ _ _ _ _ (c .before .before .before .before .before .before .before .before .before .before .before .before .if1 .left) (c .before .before .before .before .before .before .before .before .before .before .decode .ensures) (c .before .before .before .before .before .before .before .before .label .ensures) (c .before .before .before .encode .ensures) (c .number2 .ensures)

@@ -7,7 +7,8 @@ use borrow.Author.Needs.{needs}
 use lib.ListN.{length, getD}
 use Rattle.font.specs.Text.{along}
 use Rattle.font.proofs.Passes.{byte-times, places-rows}
-use Rattle.font.proofs.Cells.{drawnTo, glyphs-start, glyphs-next, next-times}
+use Rattle.figures.proofs.Bitmaps.{next-times}
+use Rattle.font.proofs.Cells.{drawnTo, glyphs-start, glyphs-next}
 use Rattle.font.proofs.text.ink_found.Statement.{statement}
 use Rattle.font.proofs.text.ink_found.Tie as tie
 

@@ -25,18 +25,22 @@ sub-least c = search needs
 least-requires : tie.Need-least-requires
 least-requires c κs = search needs
 
-div-ink-eight : tie.Need-div-ink-eight
-div-ink-eight c = search needs
+div-y : tie.Need-div-y
+div-y c = search needs
 
-add-ink-eight : tie.Need-add-ink-eight
-add-ink-eight c = let s = c .before .before .before .before .before .before .before .before in
+add-y : tie.Need-add-y
+add-y c = let s = c .before .before .before .before .before .before .before in
+    record { fits = omega (arith, div-le-self (s .args .q) (s .args .p .line), s .pre .1 .small, s .pre .1 .top, s .good .0 .0) }
+
+add-ink-eights : tie.Need-add-ink-eights
+add-ink-eights c = let s = c .before .before .before .before .before .before .before .before in
     record { fits = omega (arith, div-le-self (s .args .q) (s .args .p .line), s .pre .1 .small, s .pre .1 .top, s .good .0 .0) }
 
 dark-byte-requires : tie.Need-dark-byte-requires
 dark-byte-requires c κs = search needs
 
-ink-eight-requires : tie.Need-ink-eight-requires
-ink-eight-requires c κs = search needs
+ink-eights-requires : tie.Need-ink-eights-requires
+ink-eights-requires c κs = search needs
 
 same-length : tie.Need-same-length
 same-length c = search needs
@@ -46,7 +50,7 @@ returns-2 c = let e = c .before .before in
     let d = e .before in
     let l = d .before .before .before in
     let s = l .before .before .before .before .before .before in
-    then-given (s .args .p) (s .args .q) _ (s .pre .1) (s .args .v) _ (l .least .result) _ _ _ (s .pre .0) refl refl (l .least .ensures) (d .dark-byte .ensures) (e .ink-eight .ensures)
+    then-given (s .args .p) (s .args .q) _ (s .pre .1) (s .args .v) _ (l .least .result) _ _ _ (s .pre .0) refl refl (l .least .ensures) (d .dark-byte .ensures) (e .ink-eights .ensures)
 
 pub ink-given-spec : {M : Type 1} → statement M
 ink-given-spec =
@@ -58,9 +62,10 @@ ink-given-spec =
     returns
     sub-least
     least-requires
-    div-ink-eight
-    add-ink-eight
+    div-y
+    add-y
+    add-ink-eights
     dark-byte-requires
-    ink-eight-requires
+    ink-eights-requires
     same-length
     returns-2)

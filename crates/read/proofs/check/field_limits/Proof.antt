@@ -17,16 +17,16 @@ is-limited-requires c κs = search needs
 is-within-requires : tie.Need-is-within-requires
 is-within-requires c κs = search needs
 
-is-beyond-requires : tie.Need-is-beyond-requires
-is-beyond-requires c κs = search needs
+is-met-requires : tie.Need-is-met-requires
+is-met-requires c κs = search needs
 
 returns-2 : tie.Need-returns-2
 unfolding fieldLimits
-returns-2 c = rw (ne-eqb _ 100 (c .before .before .before .before .before .before .if1 .left), ← c .before .before .before .before .before .is-limited .ensures, c .before .before .before .before .if2 .taken, ← c .before .before .before .is-within .ensures, c .before .before .if3 .taken, ← c .before .is-beyond .ensures, c .if4 .taken)
+returns-2 c = rw (ne-eqb _ 100 (c .before .before .before .before .before .before .if1 .left), ← c .before .before .before .before .before .is-limited .ensures, c .before .before .before .before .if2 .taken, ← c .before .before .before .is-within .ensures, c .before .before .if3 .taken, ← c .before .is-met .ensures, c .if4 .taken)
 
 returns-3 : tie.Need-returns-3
 unfolding fieldLimits
-returns-3 c = rw (ne-eqb _ 100 (c .before .before .before .before .before .before .if1 .left), ← c .before .before .before .before .before .is-limited .ensures, c .before .before .before .before .if2 .taken, ← c .before .before .before .is-within .ensures, c .before .before .if3 .taken, ← c .before .is-beyond .ensures, c .if4 .left)
+returns-3 c = rw (ne-eqb _ 100 (c .before .before .before .before .before .before .if1 .left), ← c .before .before .before .before .before .is-limited .ensures, c .before .before .before .before .if2 .taken, ← c .before .before .before .is-within .ensures, c .before .before .if3 .taken, ← c .before .is-met .ensures, c .if4 .left)
 
 returns-4 : tie.Need-returns-4
 unfolding fieldLimits
@@ -44,7 +44,7 @@ field-limits-spec =
     returns
     is-limited-requires
     is-within-requires
-    is-beyond-requires
+    is-met-requires
     returns-2
     returns-3
     returns-4

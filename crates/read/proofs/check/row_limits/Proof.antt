@@ -5,7 +5,8 @@ use native.Mathlib.Omega.{arith}
 use denote.Ref.{now}
 use lib.ListN.{drop, getD}
 use Rattle.read.specs.Grammar.{rowOf, boundsOf, limitsFrom}
-use Rattle.read.proofs.Rows.{form-at, bounds-at, limits-more, limits-out, limits-done, in-row, out-row, row-short}
+use Rattle.grammar.proofs.Rows.{form-at, bounds-at, in-row, out-row, row-short}
+use Rattle.read.proofs.Rows.{limits-more, limits-out, limits-done}
 use borrow.Author.Needs.{needs}
 use Rattle.read.proofs.check.row_limits.Statement.{statement}
 use Rattle.read.proofs.check.row_limits.Tie as tie

@@ -5,12 +5,6 @@ use borrow.Author.Needs.{needs}
 use Rattle.read.proofs.input.wanted.Statement.{statement}
 use Rattle.read.proofs.input.wanted.Tie as tie
 
-byte-requires : tie.Need-byte-requires
-byte-requires c κs = search needs
-
-byte-requires-2 : tie.Need-byte-requires-2
-byte-requires-2 c κs = search needs
-
 head-of-requires : tie.Need-head-of-requires
 head-of-requires c κs = search needs
 
@@ -22,25 +16,23 @@ enum-told c = search needs
 
 returns : tie.Need-returns
 unfolding askedBy
-returns c = (rw (← c .before .before .before .before .byte .ensures, ← c .before .before .before .byte2 .ensures, ← c .before .before .head-of .ensures, c .enum-told .given .1), omega arith)
+returns c = (rw (← c .before .before .head-of .ensures, c .enum-told .given .1), omega arith)
 
 returns-2 : tie.Need-returns-2
 unfolding askedBy
-returns-2 c = (rw (← c .before .before .before .before .before .before .byte .ensures, ← c .before .before .before .before .before .byte2 .ensures, ← c .before .before .before .before .head-of .ensures, c .before .before .row .given .1, ne-eqb _ 20 (c .if1 .taken)), omega arith)
+returns-2 c = (rw (← c .before .before .before .before .head-of .ensures, c .before .before .row .given .1, ne-eqb _ 20 (c .if1 .taken)), omega arith)
 
 size-requires : tie.Need-size-requires
 size-requires c κs = search needs
 
 returns-3 : tie.Need-returns-3
 unfolding askedBy
-returns-3 c = (rw (← c .before .before .before .before .before .before .before .byte .ensures, ← c .before .before .before .before .before .before .byte2 .ensures, ← c .before .before .before .before .before .head-of .ensures, c .before .before .before .row .given .1, eq-eqb _ 20 (c .before .if1 .left)) (c .size .ensures .0), c .size .ensures .1)
+returns-3 c = (rw (← c .before .before .before .before .before .head-of .ensures, c .before .before .before .row .given .1, eq-eqb _ 20 (c .before .if1 .left)) (c .size .ensures .0), c .size .ensures .1)
 
 pub wanted-spec : {M : Type 1} → statement M
 wanted-spec =
     tie.close
     (tie.spec
-    byte-requires
-    byte-requires-2
     head-of-requires
     enum-known-row
     enum-told

@@ -7,9 +7,11 @@ use native.Mathlib.Omega.{arith}
 use lib.ListN.{length, getD, drop}
 use denote.Ref.{now}
 use borrow.Author.Tests.{eq-eqb, ne-eqb}
+use Rattle.fields.specs.Field.{stopOf}
 use Rattle.read.specs.Grammar.{rowOf, good, bad}
-use Rattle.read.specs.Codes.{lineUp}
-use Rattle.read.proofs.Rows.{row-short, form-at, in-row, out-row, filled, filled-more, filled-stop, filled-done, filled-good, filled-bad}
+use Rattle.grammar.specs.Codes.{lineUp}
+use Rattle.grammar.proofs.Rows.{row-short, form-at, in-row, out-row}
+use Rattle.read.proofs.Rows.{filled, filled-more, filled-stop, filled-done, filled-good, filled-bad}
 use borrow.Author.Needs.{needs}
 use Rattle.read.proofs.lines.read_fields.Statement.{statement}
 use Rattle.read.proofs.lines.read_fields.Tie as tie
@@ -29,11 +31,17 @@ loop-holds c = refl
 array-read-f : tie.Need-array-read-f Inv-loop μ-loop
 array-read-f c = search needs
 
-field-at-requires : tie.Need-field-at-requires Inv-loop μ-loop
-field-at-requires c κs = search needs
+read-field-requires : tie.Need-read-field-requires Inv-loop μ-loop
+read-field-requires c κs = search needs
 
-enum-known-v : tie.Need-enum-known-v Inv-loop μ-loop
-enum-known-v c = search needs
+enum-known-found : tie.Need-enum-known-found Inv-loop μ-loop
+enum-known-found c = search needs
+
+enum-told : tie.Need-enum-told Inv-loop μ-loop
+enum-told c = search needs
+
+stop-requires : tie.Need-stop-requires Inv-loop μ-loop
+stop-requires c κs = search needs
 
 mul-vs : tie.Need-mul-vs Inv-loop μ-loop
 mul-vs c = search needs
@@ -62,17 +70,15 @@ loop-again c = let a = c .before .before .before .before .before .before .before
     let g = c .before .before .before .before .before .before .before .line-up in
     let l = c .before .before .before .before .before .before .loop in
     let t = c .before .before .before .before .before .loop-test .taken in
-    sym (filled-more (rowOf (a .row) .fields) (now (a .line)) (l .at) (l .i) (l .vs) (l .ps) (c .before .v .given .0 .0) (c .before .v .given .0 .1 .0) (byte-of (a .row) (l .i) (g .result) (g .ensures) t (c .before .before .before .before .if1 .left)) (rw (← form-at (a .row) (l .i) (g .result) (g .ensures) t, ← c .before .before .before .field-at .ensures) (c .before .v .given .1))) ∙ l .inv
-
-enum-known-fault : tie.Need-enum-known-fault Inv-loop μ-loop
-enum-known-fault c = search needs
+    sym (filled-more (rowOf (a .row) .fields) (now (a .line)) (l .at) (l .i) (l .vs) (l .ps) (c .before .found .given .0 .0) (c .before .found .given .0 .1 .0) (byte-of (a .row) (l .i) (g .result) (g .ensures) t (c .before .before .before .before .if1 .left)) (rw (← form-at (a .row) (l .i) (g .result) (g .ensures) t, ← c .before .before .before .read-field .ensures) (c .before .found .given .1))) ∙ l .inv
 
 returns : tie.Need-returns Inv-loop μ-loop
 returns c = let a = c .before .before .before .before .before .before .before .before .before .args in
     let g = c .before .before .before .before .before .before .before .line-up in
     let l = c .before .before .before .before .before .before .loop in
     let t = c .before .before .before .before .before .loop-test .taken in
-    filled-bad (rowOf (a .row) .fields) (now (a .line)) _ _ _ _ _ (sym (l .inv) ∙ filled-stop (rowOf (a .row) .fields) (now (a .line)) (l .at) (l .i) (l .vs) (l .ps) (c .before .fault .given .0 .0) (byte-of (a .row) (l .i) (g .result) (g .ensures) t (c .before .before .before .before .if1 .left)) (rw (← form-at (a .row) (l .i) (g .result) (g .ensures) t, ← c .before .before .before .field-at .ensures) (c .before .fault .given .1)))
+    let n = c .before .enum-told .given in
+    rw (c .stop .ensures ∙ ap stopOf (n .1)) (filled-bad (rowOf (a .row) .fields) (now (a .line)) _ _ _ _ _ (sym (l .inv) ∙ filled-stop (rowOf (a .row) .fields) (now (a .line)) (l .at) (l .i) (l .vs) (l .ps) (n .0 .0) (byte-of (a .row) (l .i) (g .result) (g .ensures) t (c .before .before .before .before .if1 .left)) (rw (← form-at (a .row) (l .i) (g .result) (g .ensures) t, ← c .before .before .before .read-field .ensures) (n .1))))
 
 -- where the loop is left the row has no more
 ended : (c : tie.Left-loop Inv-loop μ-loop) → length (rowOf (c .before .before .before .before .args .row) .fields) ≤ c .before .loop .i
@@ -85,12 +91,12 @@ ended c =
 returns-2 : tie.Need-returns-2 Inv-loop μ-loop
 returns-2 c = let a = c .before .before .before .before .before .args in
     let l = c .before .before .loop in
-    filled-good (rowOf (a .row) .fields) (now (a .line)) _ _ _ _ (sym (l .inv) ∙ filled-done (rowOf (a .row) .fields) (now (a .line)) (l .at) (l .i) (l .vs) (l .ps) (ended (c .before)) ∙ ap (λ b. cond b (good (l .vs) (l .ps)) (bad (l .at))) (eq-eqb (l .at) (length (now (a .line))) (c .if2 .taken)))
+    filled-good (rowOf (a .row) .fields) (now (a .line)) _ _ _ _ (sym (l .inv) ∙ filled-done (rowOf (a .row) .fields) (now (a .line)) (l .at) (l .i) (l .vs) (l .ps) (ended (c .before)) ∙ ap (λ b. cond b (good (l .vs) (l .ps)) (bad (l .vs) (l .ps) (l .at))) (eq-eqb (l .at) (length (now (a .line))) (c .if2 .taken)))
 
 returns-3 : tie.Need-returns-3 Inv-loop μ-loop
 returns-3 c = let a = c .before .before .before .before .before .args in
     let l = c .before .before .loop in
-    filled-bad (rowOf (a .row) .fields) (now (a .line)) _ _ _ _ _ (sym (l .inv) ∙ filled-done (rowOf (a .row) .fields) (now (a .line)) (l .at) (l .i) (l .vs) (l .ps) (ended (c .before)) ∙ ap (λ b. cond b (good (l .vs) (l .ps)) (bad (l .at))) (ne-eqb (l .at) (length (now (a .line))) (c .if2 .left)))
+    filled-bad (rowOf (a .row) .fields) (now (a .line)) _ _ _ _ _ (sym (l .inv) ∙ filled-done (rowOf (a .row) .fields) (now (a .line)) (l .at) (l .i) (l .vs) (l .ps) (ended (c .before)) ∙ ap (λ b. cond b (good (l .vs) (l .ps)) (bad (l .vs) (l .ps) (l .at))) (ne-eqb (l .at) (length (now (a .line))) (c .if2 .left)))
 
 pub read-fields-spec : {M : Type 1} → statement M
 read-fields-spec =
@@ -101,8 +107,11 @@ read-fields-spec =
     line-up-requires
     loop-holds
     array-read-f
-    field-at-requires
-    enum-known-v
+    read-field-requires
+    enum-known-found
+    enum-told
+    stop-requires
+    returns
     mul-vs
     element-write-vs
     mul-ps
@@ -110,7 +119,5 @@ read-fields-spec =
     add-i
     loop-less
     loop-again
-    enum-known-fault
-    returns
     returns-2
     returns-3)

@@ -15,8 +15,8 @@ Inv-loop n w width out₀ i₀ out i = sets out i (digits (width - i) n) ≡ set
 abbrev μ-loop : tie.MeasureT-loop
 μ-loop n w width out₀ i₀ out i = width - i
 
-lesser-requires : tie.Need-lesser-requires Inv-loop μ-loop
-lesser-requires c κs = search needs
+least-requires : tie.Need-least-requires Inv-loop μ-loop
+least-requires c κs = search needs
 
 loop-holds : tie.Need-loop-holds Inv-loop μ-loop
 loop-holds c = digits-start _ _ _
@@ -40,10 +40,10 @@ loop-less : tie.Need-loop-less Inv-loop μ-loop
 loop-less c = omega arith
 
 loop-again : tie.Need-loop-again Inv-loop μ-loop
-loop-again c = let l = c .before .before .loop in rw (c .digit-at .ensures) (sym (digits-next (c .before .before .before .before .args .n) (c .before .before .before .lesser .result) (l .i) (l .out) (c .before .loop-test .taken) (omega arith)) ∙ l .inv)
+loop-again c = let l = c .before .before .loop in rw (c .digit-at .ensures) (sym (digits-next (c .before .before .before .before .args .n) (c .before .before .before .least .result) (l .i) (l .out) (c .before .loop-test .taken) (omega arith)) ∙ l .inv)
 
 returns : tie.Need-returns Inv-loop μ-loop
-returns c = let l = c .before .loop in sym (digits-none (c .before .before .before .args .n) (c .before .before .lesser .result) (l .i) (l .out) (c .loop-test .left)) ∙ (l .inv ∙ digits-done (c .before .before .before .args .n) (c .before .before .before .args .w) (c .before .before .lesser .result) (c .before .before .lesser .ensures))
+returns c = let l = c .before .loop in sym (digits-none (c .before .before .before .args .n) (c .before .before .least .result) (l .i) (l .out) (c .loop-test .left)) ∙ (l .inv ∙ digits-done (c .before .before .before .args .n) (c .before .before .before .args .w) (c .before .before .least .result) (c .before .before .least .ensures))
 
 pub digits-of-spec : {M : Type 1} → statement M
 digits-of-spec =
@@ -51,7 +51,7 @@ digits-of-spec =
     (tie.spec
     Inv-loop
     μ-loop
-    lesser-requires
+    least-requires
     loop-holds
     sub-digit-at
     sub-digit-at-2

@@ -1,0 +1,40 @@
+-- FS, FR, FK: their rows of the table, and what they do.
+-- Assumes nothing.
+use Prim.Native.Nat.{ℕ}
+use mathlib.Core.Bool.{true, false, not, cond}
+use mathlib.Core.List.{List, [], _∷_}
+use lib.Dec.{eqb}
+use Rattle.store.specs.declared.Found.{Found}
+use Rattle.moves.specs.Start.{hasRoom, started}
+use Rattle.read.specs.declared.FormCommand.{FormCommand}
+use Rattle.read.specs.declared.FormCommand.the-variants.{Start, Retrieve, Erase}
+use Rattle.parts.specs.Names.{packedOf}
+use Rattle.forms.specs.Form.{isAt}
+use Rattle.session.specs.declared.Session.{Session}
+use Rattle.session.specs.declared.answers.Answer.the-variants.{InUse, Missing, Full}
+use Rattle.session.specs.Answers.{Row, row, answerOf}
+use Rattle.session.specs.Session.{activated}
+use Rattle.session.specs.Lent.{World}
+use Rattle.results.specs.World.{State, state, memoryOf, withMemory, unsetIn, inactive}
+use Rattle.results.specs.Result.{Ran, ranBy}
+use Rattle.results.specs.Named.{placeOf, named, notFound, erasedNamed, erasedEvery}
+
+-- [10] "name in use (FS, GM)", [19] "no empty entry, or fewer free portions than needed"; [11] "name not found (FR, FK ..)"
+abbrev pub formRows : World → List ℕ → FormCommand → List Row
+formRows w line (Start n) = row InUse (isAt (named w false line n)) ∷ row Full (not (hasRoom (w .links) (w .directory) 0)) ∷ []
+formRows w line (Retrieve n) = row Missing (notFound w false line n) ∷ []
+formRows w line (Erase n) = row Missing (notFound w false line n) ∷ []
+
+-- a form that is erased is no longer active
+abbrev pub erasedForm : Session → World → Found → State
+erasedForm s w found = cond (eqb (s .active) (placeOf found)) (inactive s (erasedNamed w found)) (state s (erasedNamed w found))
+
+-- "FR unsets all values"; `FK"*"` "erases all, none included"
+abbrev pub formRuns : World → Session → List ℕ → FormCommand → State
+formRuns w s line (Start n) = state s (withMemory w (started (memoryOf w) 3 (packedOf line (n .at) (n .length))))
+formRuns w s line (Retrieve n) = state (activated s (placeOf (named w false line n))) (unsetIn w)
+formRuns w s line (Erase n) = cond (n .all) (inactive s (erasedEvery w false)) (erasedForm s w (named w false line n))
+
+-- what such a command leaves
+abbrev pub formBy : World → Session → List ℕ → FormCommand → Ran
+formBy w s line c = ranBy (answerOf (formRows w line c)) s w [] (formRuns w s line c) []

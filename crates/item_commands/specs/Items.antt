@@ -1,0 +1,131 @@
+-- R, V, C, A, B, LO, LE, LW, X, GG: their rows of the table, and what they do outside a form.
+-- Assumes nothing.
+use Prim.Native.Nat.{ℕ}
+use mathlib.Core.Bool.{Bool, true, false, not}
+use mathlib.Core.List.{List, [], _∷_}
+use Rattle.values.specs.declared.declarations.Declared.{Declared}
+use Rattle.values.specs.Declarations.{nothing, variableDeclared, counterDeclared}
+use Rattle.kinds.specs.declared.Kind.{Kind}
+use Rattle.kinds.specs.declared.Kind.the-variants.{Shown}
+use Rattle.fields.specs.Data.{elements}
+use Rattle.fitness.specs.declared.answers.DataAnswer.{DataAnswer}
+use Rattle.fitness.specs.declared.answers.DataAnswer.the-variants.{Good as InReach, Undeclared as Unnamed, Past as TooFar}
+use Rattle.fitness.specs.declared.judging.Judgement.{Judgement}
+use Rattle.fitness.specs.declared.judging.Judgement.the-variants.{Fit as AlwaysFit, Undeclared as NamesUndeclared, Past as GoesPast, Unfit as NotFit}
+use Rattle.fitness.specs.Answers.{undeclaredBy, pastBy, someOf}
+use Rattle.fitness.specs.Summary.{judged as fitAlways}
+use Rattle.read.specs.declared.Item.{Item}
+use Rattle.read.specs.declared.Item.the-variants.{Origin, Variable, Counter, Text, Bars, Box, Frame, Picture}
+use Rattle.forms.specs.declared.Verdict.{Verdict}
+use Rattle.forms.specs.declared.Verdict.the-variants.{Taken as Fine, Again as Before, Undeclared as Unknown, Past as Reaches, Unfit as Wrong}
+use Rattle.forms.specs.Form.{hasPicture}
+use Rattle.forms.specs.Draw.{setting, drawsItem}
+use Rattle.session.specs.declared.Session.{Session}
+use Rattle.session.specs.declared.answers.Answer.{Answer}
+use Rattle.session.specs.declared.answers.Answer.the-variants.{Taken, Missing, Again, Undeclared, Past, Unfit}
+use Rattle.session.specs.Answers.{Row, row, answerOf}
+use Rattle.session.specs.Session.{based}
+use Rattle.session.specs.Lent.{World}
+use Rattle.results.specs.World.{State, state, withBackground}
+use Rattle.results.specs.Result.{sixteenBits, Ran, ranBy}
+
+-- ---- what rows 12 to 15 ask of an item, each for itself: none looks at another
+
+-- the data that an item shows: from which place of its line on, and for what
+pub data Shows : Type 0 where
+  noData : Shows
+  dataAt : ℕ → Kind → Shows
+
+abbrev pub shownBy : Item → Shows
+shownBy (Origin o) = noData
+shownBy (Variable v) = noData
+shownBy (Counter c) = noData
+shownBy (Text t) = dataAt (t .at) Shown
+shownBy (Bars b) = dataAt (b .at) (b .kind)
+shownBy (Box r) = noData
+shownBy (Frame f) = noData
+shownBy (Picture p) = noData
+
+-- [12] "declared before in this form": V and C numbers are separate
+unfoldable pub declaredBefore : Declared → Item → Bool
+declaredBefore d (Origin o) = false
+declaredBefore d (Variable v) = variableDeclared d (v .n)
+declaredBefore d (Counter c) = counterDeclared d (c .n)
+declaredBefore d (Text t) = false
+declaredBefore d (Bars b) = false
+declaredBefore d (Box r) = false
+declaredBefore d (Frame f) = false
+declaredBefore d (Picture p) = false
+
+-- [13] "variable or counter not declared"
+unfoldable pub notDeclared : Declared → List ℕ → Shows → Bool
+notDeclared d line noData = false
+notDeclared d line (dataAt at kind) = someOf (undeclaredBy d) (elements line at)
+
+-- [14] "a modifier reaches past the declared length". Of a variable that is not declared the length is 0, so that every modifier reaches past it
+unfoldable pub reachesPast : Declared → List ℕ → Shows → Bool
+reachesPast d line noData = false
+reachesPast d line (dataAt at kind) = someOf (pastBy d) (elements line at)
+
+-- [15] "unfit data": some permitted values make it so. A variable that is not declared has length 0: it shows nothing
+unfoldable pub unfitData : Declared → List ℕ → Shows → Bool
+unfitData d line noData = false
+unfitData d line (dataAt at kind) = not (fitAlways line d (elements line at) kind)
+
+abbrev pub fitRows : Declared → List ℕ → Item → List Row → List Row
+fitRows d line it rows =
+    row Again (declaredBefore d it)
+    ∷ row Undeclared (notDeclared d line (shownBy it))
+    ∷ row Past (reachesPast d line (shownBy it))
+    ∷ row Unfit (unfitData d line (shownBy it))
+    ∷ rows
+
+-- an item, by the picture it draws [11] and these; then what comes after
+abbrev pub itemRows : Declared → List ℕ → List ℕ → Item → List Row → List Row
+itemRows d directory line it rows = row Missing (not (hasPicture directory line it)) ∷ fitRows d line it rows
+
+-- ---- the table's answers of what judges an item: the code walks its data once and gives the first that applies (proofs/First.antt)
+
+abbrev pub verdictAnswer : Verdict → Answer
+verdictAnswer Fine = Taken
+verdictAnswer Before = Again
+verdictAnswer Unknown = Undeclared
+verdictAnswer Reaches = Past
+verdictAnswer Wrong = Unfit
+
+abbrev pub judgementAnswer : Judgement → Answer
+judgementAnswer AlwaysFit = Taken
+judgementAnswer NamesUndeclared = Undeclared
+judgementAnswer GoesPast = Past
+judgementAnswer NotFit = Unfit
+
+abbrev pub dataAnswerOf : DataAnswer → Answer
+dataAnswerOf InReach = Taken
+dataAnswerOf Unnamed = Undeclared
+dataAnswerOf TooFar = Past
+
+-- ---- what an item does outside a form
+
+-- "`Rm,n` .. It replaces the earlier one and is added to coordinates after it"
+abbrev pub basedBy : Session → Item → Session
+basedBy s (Origin o) = based s (sixteenBits (o .x)) (sixteenBits (o .y))
+basedBy s (Variable v) = s
+basedBy s (Counter c) = s
+basedBy s (Text t) = s
+basedBy s (Bars b) = s
+basedBy s (Box r) = s
+basedBy s (Frame f) = s
+basedBy s (Picture p) = s
+
+-- an item outside a form is drawn on the background
+abbrev pub drawnOn : List ℕ → List ℕ → Session → World → Item → World
+drawnOn font line s w it =
+    withBackground w
+    (drawsItem (setting font (w .store) (w .links) (w .directory) (w .values) (s .counters) (s .width) (s .length)) nothing (s .x) (s .y) line it (w .background))
+
+abbrev pub itemRuns : List ℕ → World → Session → List ℕ → Item → State
+itemRuns font w s line it = state (basedBy s it) (drawnOn font line s w it)
+
+-- what such an item leaves: "Outside recording, data elements find nothing declared"
+abbrev pub itemBy : List ℕ → World → Session → List ℕ → Item → Ran
+itemBy font w s line it = ranBy (answerOf (itemRows nothing (w .directory) line it [])) s w [] (itemRuns font w s line it) []

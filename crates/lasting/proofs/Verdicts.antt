@@ -1,0 +1,35 @@
+-- What the tests of a file amount to.
+use mathlib.Core.Path.{_≡_}
+use mathlib.Core.Bool.{Bool, true, false, not, _&&_, _||_, cond}
+use mathlib.Core.List.{List}
+use Prim.Native.Nat.{ℕ}
+use lib.ListN.{length}
+use lib.Dec.{eqb, ltb}
+use Rattle.fields.specs.Text.{bytes}
+use Rattle.normal.specs.Written.{equal}
+use Rattle.face.specs.Image.{numberAt}
+use Rattle.lasting.specs.declared.judged.Verdict.{Verdict}
+use Rattle.lasting.specs.declared.judged.Verdict.the-variants.{Foreign, Version, Sizes, Length, Damaged, Slots, Good}
+use Rattle.lasting.specs.File.{partOf, rowsOf, fileSize, fileSum, sizesWrong, whole, chosen, judged}
+
+module _ (f : List ℕ) (a b t e : Bool) (x y : ℕ) (ha : a ≡ whole f 4096) (hb : b ≡ whole f 8192) (hx : x ≡ numberAt 4 f 4096) (hy : y ≡ numberAt 4 f 8192)
+    (he : e ≡ (not a || ltb x y)) (ht : t ≡ (b && e)) where
+  chosen-by : chosen f ≡ cond t (Good 1) (cond a (Good 0) Slots)
+  unfolding chosen
+  chosen-by = rw (ht, he, ha, hb, hx, hy)
+
+  pub chosen-second : t ≡ true → Good 1 ≡ chosen f
+  chosen-second h = rw chosen-by (rw h)
+
+  pub chosen-first : t ≡ false → a ≡ true → Good 0 ≡ chosen f
+  chosen-first h k = rw chosen-by (rw (h, k))
+
+  pub chosen-none : t ≡ false → a ≡ false → Slots ≡ chosen f
+  chosen-none h k = rw chosen-by (rw (h, k))
+
+module _ (f : List ℕ) (a b c d e : Bool) (v : Verdict) where
+  pub judged-by : a ≡ not (equal (partOf f 0 16) (bytes "Skeinferry store")) → b ≡ not (eqb (numberAt 2 f 16) 1) → c ≡ sizesWrong f
+      → d ≡ not (eqb (length f) (fileSize (rowsOf f))) → e ≡ not (eqb (fileSum f) (numberAt 4 f 24)) → v ≡ chosen f
+      → cond a Foreign (cond b Version (cond c Sizes (cond d Length (cond e Damaged v)))) ≡ judged f
+  unfolding judged
+  judged-by ha hb hc hd he hv = rw (ha, hb, hc, hd, he, hv)

@@ -1,0 +1,29 @@
+-- Q, q, ZT and ZB, N: what they do. Nothing refuses them.
+-- Assumes nothing.
+use mathlib.Core.Bool.{cond}
+use mathlib.Core.List.{[]}
+use lib.ListN.{length}
+use Rattle.cells.specs.Cell.{zeros}
+use Rattle.read.specs.declared.PageCommand.{PageCommand}
+use Rattle.read.specs.declared.PageCommand.the-variants.{Length, Width, Turn, White}
+use Rattle.session.specs.declared.Session.{Session}
+use Rattle.session.specs.declared.answers.Answer.the-variants.{Taken}
+use Rattle.session.specs.Session.{sized, turning}
+use Rattle.session.specs.Lent.{World}
+use Rattle.results.specs.World.{State, state, withBackground, inactive}
+use Rattle.results.specs.Result.{done, sixteenBits, Ran, ran}
+
+-- "Both whiten the background, as does `N`"
+abbrev pub whitened : World → World
+whitened w = withBackground w (zeros (length (w .background)))
+
+-- N "also ends the active form"
+abbrev pub pageRuns : World → Session → PageCommand → State
+pageRuns w s (Length l) = state (sized s (s .width) (sixteenBits (l .m))) (whitened w)
+pageRuns w s (Width m) = state (sized s (sixteenBits (m .m)) (s .length)) (whitened w)
+pageRuns w s (Turn t) = state (turning s (cond (t .half) 1 0)) w
+pageRuns w s White = inactive s (whitened w)
+
+-- what such a command leaves
+abbrev pub pageBy : World → Session → PageCommand → Ran
+pageBy w s c = ran (done Taken (pageRuns w s c .session) 0) (pageRuns w s c .world) []

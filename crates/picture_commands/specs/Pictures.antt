@@ -1,0 +1,37 @@
+-- GM, GK: their rows of the table, and what they do. more are the bytes behind a GM's line.
+-- Assumes nothing.
+use Prim.Native.Nat.{ℕ}
+use mathlib.Core.Bool.{true, not, cond}
+use mathlib.Core.List.{List, [], _∷_}
+use lib.ListN.{length}
+use Rattle.picture.specs.Rules.{legal as legalPicture}
+use Rattle.moves.specs.Start.{hasRoom, kept}
+use Rattle.read.specs.declared.PictureCommand.{PictureCommand}
+use Rattle.read.specs.declared.PictureCommand.the-variants.{Store, Erase}
+use Rattle.parts.specs.Names.{packedOf}
+use Rattle.forms.specs.Form.{isAt}
+use Rattle.session.specs.declared.Session.{Session}
+use Rattle.session.specs.declared.answers.Answer.the-variants.{InUse, Missing, Illegal, Full}
+use Rattle.session.specs.Answers.{Row, row, answerOf}
+use Rattle.session.specs.Lent.{World}
+use Rattle.results.specs.World.{State, state, memoryOf, withMemory}
+use Rattle.results.specs.Result.{Ran, ranBy}
+use Rattle.results.specs.Named.{lookup, named, notFound, erasedNamed, erasedEvery}
+
+-- [10] "name in use (FS, GM)", [16] "not a legal picture", [19] "no empty entry, or fewer free portions than needed"; [11] "name not found (.. GK ..)"
+abbrev pub pictureRows : World → List ℕ → List ℕ → PictureCommand → List Row
+pictureRows w line more (Store p) =
+    row InUse (isAt (lookup w true line (p .at) (p .length)))
+    ∷ row Illegal (not (legalPicture more))
+    ∷ row Full (not (hasRoom (w .links) (w .directory) (length more)))
+    ∷ []
+pictureRows w line more (Erase n) = row Missing (notFound w true line n) ∷ []
+
+-- `GK"*"` "erases all, none included"
+abbrev pub pictureRuns : World → Session → List ℕ → List ℕ → PictureCommand → State
+pictureRuns w s line more (Store p) = state s (withMemory w (kept (memoryOf w) 2 (packedOf line (p .at) (p .length)) more))
+pictureRuns w s line more (Erase n) = state s (cond (n .all) (erasedEvery w true) (erasedNamed w (named w true line n)))
+
+-- what such a command leaves
+abbrev pub pictureBy : World → Session → List ℕ → List ℕ → PictureCommand → Ran
+pictureBy w s line more c = ranBy (answerOf (pictureRows w line more c)) s w [] (pictureRuns w s line more c) []

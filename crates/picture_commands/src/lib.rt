@@ -1,0 +1,91 @@
+// Pictures: GM stores one, GK erases one or all.
+//
+// Paper 01: `GM"Name",n` with the n bytes behind its line, and `GK"Name"`, where `"*"` erases all. `run_picture` promises one equation with `pictureBy`
+// (specs/Pictures.antt): its rows of the table, then what it does.
+ghost use mathlib.Core.Path.{_≡_};
+ghost use mathlib.Core.List.{[]};
+ghost use Rattle.read.specs.declared.PictureCommand.the-variants.{Store as Keep, Erase};
+ghost use Rattle.session.specs.Lent.{world};
+ghost use Rattle.results.specs.Result.{ran};
+ghost use Rattle.picture_commands.specs.Pictures.{pictureBy};
+use parts::packed;
+use read::Named;
+use read::PictureCommand;
+use read::StorePicture;
+use results::Done;
+use results::answered;
+use results::names::entry_of;
+use results::names::erase_found;
+use results::names::is_at;
+use results::names::is_missing;
+use results::taken;
+use session::Answer;
+use session::Session;
+
+fn keep_picture(
+    session: Session,
+    line: &[u8],
+    p: StorePicture,
+    more: &[u8],
+    store: &mut [u8],
+    links: &mut [u16],
+    directory: &mut [u8],
+) -> Done
+    ensures { λ r. ⌜ ran r (world [] (now (store .exit)) (now (links .exit)) (now (directory .exit)) []) [] ≡ pictureBy (world [] (now (store .entry)) (now (links .entry)) (now (directory .entry)) []) session (now (line .entry)) (now (more .entry)) (Keep p) ⌝ }
+{
+    let at = p.at;
+    let length = p.length;
+    let title = packed(line, at, length);
+    if is_at(store::find(directory, true, title)) {
+        return answered(Answer::InUse, session);
+    }
+    if !picture::is_legal(more) {
+        return answered(Answer::Illegal, session);
+    }
+    if !moves::has_room(links, directory, more.len()) {
+        return answered(Answer::Full, session);
+    }
+    moves::keep(store, links, directory, 2, title, more);
+    taken(session)
+}
+
+fn erase_picture(
+    session: Session,
+    line: &[u8],
+    n: Named,
+    store: &mut [u8],
+    links: &mut [u16],
+    directory: &mut [u8],
+) -> Done
+    ensures { λ r. ⌜ ran r (world [] (now (store .exit)) (now (links .exit)) (now (directory .exit)) []) [] ≡ pictureBy (world [] (now (store .entry)) (now (links .entry)) (now (directory .entry)) []) session (now (line .entry)) [] (Erase n) ⌝ }
+{
+    let all = n.all;
+    let found = entry_of(directory, true, line, n);
+    if is_missing(n, found) {
+        return answered(Answer::Missing, session);
+    }
+    if all {
+        moves::erase_all(store, links, directory, true);
+        return taken(session);
+    }
+    erase_found(store, links, directory, found);
+    taken(session)
+}
+
+// A command of pictures, with the bytes behind a GM's line.
+pub fn run_picture(
+    session: Session,
+    command: PictureCommand,
+    line: &[u8],
+    more: &[u8],
+    store: &mut [u8],
+    links: &mut [u16],
+    directory: &mut [u8],
+) -> Done
+    ensures { λ r. ⌜ ran r (world [] (now (store .exit)) (now (links .exit)) (now (directory .exit)) []) [] ≡ pictureBy (world [] (now (store .entry)) (now (links .entry)) (now (directory .entry)) []) session (now (line .entry)) (now (more .entry)) command ⌝ }
+{
+    match command {
+        PictureCommand::Store(p) => keep_picture(session, line, p, more, store, links, directory),
+        PictureCommand::Erase(n) => erase_picture(session, line, n, store, links, directory),
+    }
+}

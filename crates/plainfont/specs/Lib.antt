@@ -1,0 +1,3 @@
+pub mod Drawing
+pub mod Plain
+pub mod Cases

@@ -1,0 +1,25 @@
+-- The letters in which the grammar writes a command, and the field that each stands for.
+-- Assumes nothing.
+use Prim.Native.Nat.{ℕ}
+use Prim.Native.Char.{code}
+use mathlib.Core.Bool.{cond, _||_}
+use mathlib.Core.List.{List}
+use lib.Dec.{eqb}
+use Rattle.fields.specs.Field.{numberAt, textAt, signedAt, byteAt, letterAt, typeAt}
+use Rattle.fields.specs.Data.{dataAt}
+use Rattle.fields.specs.declared.Class.the-variants.{Mode, Side}
+use Rattle.fields.specs.declared.Field.{Field}
+
+-- n and w stand for a number, t, a, z and u for a quoted text, s for a number with or without sign, m and j for one letter (mode,
+-- justification), k for a bar type and d for data; any other byte stands for itself. A letter for a piece that may be absent would answer a field
+-- that ends where it starts
+unfoldable pub fieldAt : ℕ → List ℕ → ℕ → Field
+fieldAt f s at =
+    cond (eqb f (code "n") || eqb f (code "w")) (numberAt s at)
+    (cond (eqb f (code "t") || (eqb f (code "a") || (eqb f (code "z") || eqb f (code "u")))) (textAt s at)
+    (cond (eqb f (code "s")) (signedAt s at)
+    (cond (eqb f (code "m")) (letterAt Mode s at)
+    (cond (eqb f (code "j")) (letterAt Side s at)
+    (cond (eqb f (code "k")) (typeAt s at)
+    (cond (eqb f (code "d")) (dataAt s at)
+    (byteAt f s at)))))))

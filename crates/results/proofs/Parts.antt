@@ -1,0 +1,86 @@
+-- What a command leaves of the lists it was lent, put back into all that is lent; and how an answer ends it.
+-- Assumes nothing.
+use mathlib.Core.Path.{_≡_, sym, ap, _∙_}
+use mathlib.Core.Bool.{Bool, true, false, not, cond}
+use mathlib.Core.List.{List, []}
+use Prim.Native.Nat.{ℕ}
+use borrow.Author.Tests.{not-true, not-false}
+use Rattle.values.specs.Stored.{unset}
+use Rattle.store.specs.declared.Found.{Found}
+use Rattle.store.specs.declared.Found.the-variants.{At, Nothing}
+use Rattle.moves.specs.Memory.{Memory}
+use Rattle.session.specs.declared.Session.{Session}
+use Rattle.session.specs.declared.answers.Answer.{Answer}
+use Rattle.session.specs.Answers.{isTaken}
+use Rattle.session.specs.Lent.{World, world}
+use Rattle.results.specs.declared.Done.{Done}
+use Rattle.results.specs.World.{unsetIn}
+use Rattle.results.specs.Result.{done, Ran, ran}
+use Rattle.results.specs.Named.{erasedNamed}
+use Rattle.results.proofs.Answers.{cond-map, cond-true, cond-false}
+
+-- ---- a part put back
+
+abbrev pub inMemory : Done → List ℕ → List ℕ → List ℕ → Memory → Ran
+inMemory r b v o m = ran r (world b (m .store) (m .links) (m .directory) v) o
+
+abbrev pub inWorld : Done → List ℕ → World → Ran
+inWorld r o w = ran r w o
+
+abbrev pub onBackground : List ℕ → List ℕ → List ℕ → List ℕ → List ℕ → Ran → Ran
+onBackground s l d v o x = ran (x .done) (world (x .world .background) s l d v) o
+
+abbrev pub onMemory : List ℕ → List ℕ → List ℕ → Ran → Ran
+onMemory b v o x = ran (x .done) (world b (x .world .store) (x .world .links) (x .world .directory) v) o
+
+abbrev pub onDirectory : List ℕ → List ℕ → Ran → Ran
+onDirectory s l x = ran (x .done) (world [] s l (x .world .directory) []) []
+
+abbrev pub onValues : List ℕ → List ℕ → List ℕ → List ℕ → List ℕ → Ran → Ran
+onValues b s l d o x = ran (x .done) (world b s l d (x .world .values)) o
+
+abbrev pub onForms : List ℕ → List ℕ → Ran → Ran
+onForms b o x = ran (x .done) (world b (x .world .store) (x .world .links) (x .world .directory) (x .world .values)) o
+
+abbrev pub onPage : List ℕ → List ℕ → List ℕ → List ℕ → Ran → Ran
+onPage s l d o x = ran (x .done) (world (x .world .background) s l d (x .world .values)) o
+
+abbrev pub onOutput : World → Ran → Ran
+onOutput w x = ran (x .done) w (x .output)
+
+abbrev pub onNothing : World → List ℕ → Ran → Ran
+onNothing w o x = ran (x .done) w o
+
+abbrev pub inOutput : World → Done × List ℕ → Ran
+inOutput w p = ran (p .0) w (p .1)
+
+pub lifted : {A B : Type 0} (f : A → B) (r : A) (a : Answer) (x y : A) → r ≡ cond (isTaken a) x y → f r ≡ cond (isTaken a) (f x) (f y)
+lifted f r a x y e = ap f e ∙ cond-map f (isTaken a) x y
+
+-- ---- by an answer
+
+pub refused-by :
+    (a a' : Answer) (b : Bool) (s : Session) (w : World) (o : List ℕ) (x : Ran) → a ≡ a' → b ≡ isTaken a → not b ≡ true →
+    ran (done a s 0) w o ≡ cond (isTaken a') x (ran (done a' s 0) w o)
+refused-by a a' b s w o x e f n =
+    ap (λ (k : Answer). ran (done k s 0) w o) e
+    ∙ sym (cond-false (isTaken a') x (ran (done a' s 0) w o) (sym (ap isTaken e) ∙ sym f ∙ not-true b n))
+
+pub taken-by :
+    (a a' : Answer) (b : Bool) (x y z : Ran) → a ≡ a' → b ≡ isTaken a → not b ≡ false → z ≡ x → z ≡ cond (isTaken a') x y
+taken-by a a' b x y z e f n g = g ∙ sym (cond-true (isTaken a') x y (sym (ap isTaken e) ∙ sym f ∙ not-false b n))
+
+-- ---- erasing
+
+pub erased-by :
+    (f : Found) (b v s l d s' l' d' : List ℕ) →
+    world [] s' l' d' [] ≡ erasedNamed (world [] s l d []) f → world b s' l' d' v ≡ erasedNamed (world b s l d v) f
+erased-by (At i) b v s l d s' l' d' e = ap (λ (w : World). world b (w .store) (w .links) (w .directory) v) e
+erased-by Nothing b v s l d s' l' d' e = ap (λ (w : World). world b (w .store) (w .links) (w .directory) v) e
+
+pub erased-unset :
+    (f : Found) (b v s l d s' l' d' : List ℕ) →
+    world [] s' l' d' [] ≡ erasedNamed (world [] s l d []) f →
+    world b s' l' d' (unset v) ≡ unsetIn (erasedNamed (world b s l d v) f)
+erased-unset (At i) b v s l d s' l' d' e = ap (λ (w : World). world b (w .store) (w .links) (w .directory) (unset v)) e
+erased-unset Nothing b v s l d s' l' d' e = ap (λ (w : World). world b (w .store) (w .links) (w .directory) (unset v)) e

@@ -1,0 +1,63 @@
+// The entry of a form or a picture by the name that a command gives.
+ghost use mathlib.Core.Path.{_≡_};
+ghost use mathlib.Core.Bool.{not, _&&_};
+ghost use mathlib.Core.List.{[]};
+ghost use Rattle.store.specs.Find.{titledAt};
+ghost use Rattle.parts.specs.Names.{packedOf};
+ghost use Rattle.forms.specs.Form.{isAt};
+ghost use Rattle.session.specs.Lent.{world};
+ghost use Rattle.results.specs.Named.{placeOf, erasedNamed};
+use crate::sixteen_bits;
+use parts::packed;
+use read::Named;
+use session::NO_FORM;
+use store::Found;
+
+pub fn is_at(found: Found) -> bool
+    ensures { λ r. ⌜ r ≡ isAt found ⌝ }
+{
+    match found {
+        Found::At(_) => true,
+        Found::Nothing => false,
+    }
+}
+
+// The entry of a form, or of a picture, by the name that a command gives.
+pub fn entry_of(directory: &[u8], picture: bool, line: &[u8], n: Named) -> Found
+    ensures { λ r. ⌜ r ≡ titledAt (now (directory .entry)) picture (packedOf (now (line .entry)) (n .at) (n .length)) ⌝ }
+{
+    let at = n.at;
+    let length = n.length;
+    let title = packed(line, at, length);
+    store::find(directory, picture, title)
+}
+
+// [11]: no entry has the name, and it is not the star that means all.
+pub fn is_missing(n: Named, found: Found) -> bool
+    ensures { λ r. ⌜ r ≡ (not (n .all) && not (isAt found)) ⌝ }
+{
+    let all = n.all;
+    if all { false } else { !is_at(found) }
+}
+
+// An entry's number as a session keeps it, `NO_FORM` for none.
+pub fn place_of(found: Found) -> u16
+    ensures { λ r. ⌜ r ≡ placeOf found ⌝ }
+{
+    match found {
+        Found::At(i) => sixteen_bits(i),
+        Found::Nothing => NO_FORM,
+    }
+}
+
+// The memory without an entry that was found.
+pub fn erase_found(store: &mut [u8], links: &mut [u16], directory: &mut [u8], found: Found)
+    ensures { λ _. ⌜ world [] (now (store .exit)) (now (links .exit)) (now (directory .exit)) [] ≡ erasedNamed (world [] (now (store .entry)) (now (links .entry)) (now (directory .entry)) []) found ⌝ }
+{
+    match found {
+        Found::At(i) => {
+            moves::erase(store, links, directory, i);
+        }
+        Found::Nothing => {}
+    }
+}

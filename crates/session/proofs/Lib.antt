@@ -1,0 +1,4 @@
+pub mod Rows
+pub mod Lengths
+pub mod ActiveForm
+pub mod LabelMade

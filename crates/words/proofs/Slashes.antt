@@ -1,0 +1,19 @@
+-- The last `/` of a path, byte by byte.
+use mathlib.Core.Path.{_≡_}
+use mathlib.Core.Bool.{cond}
+use mathlib.Core.List.{List}
+use Prim.Native.Nat.{ℕ, _+_, _≤_, _<_}
+use native.Mathlib.Numerals.{add-one}
+use lib.Dec.{eqb}
+use lib.ListN.{length, getD, drop, drop-of-length-le}
+use lib.Seq.{drop-cons}
+use Rattle.words.specs.Words.{lastSlash}
+
+module _ (path : List ℕ) (i best : ℕ) where
+  pub slash-next : i < length path → lastSlash i best (drop i path) ≡ lastSlash (i + 1) (cond (eqb (getD path i 0) 47) (i + 1) best) (drop (i + 1) path)
+  unfolding lastSlash
+  slash-next h = rw (add-one, drop-cons path i 0 h)
+
+  pub slash-end : length path ≤ i → lastSlash i best (drop i path) ≡ best
+  unfolding lastSlash
+  slash-end h = rw (drop-of-length-le path h)

@@ -1,0 +1,76 @@
+use Rattle.words.specs.Words.{sizeOf}
+use Rattle.normal.proofs.Writes.{wrote-then}
+use borrow.Author.Needs.{needs}
+use Rattle.words.proofs.put_size.Statement.{statement}
+use Rattle.words.proofs.put_size.Tie as tie
+
+-- src/lib.rt:123:26
+slice-aggregate-put : tie.Need-slice-aggregate-put
+slice-aggregate-put c = search needs
+
+-- src/lib.rt:123:9
+put-requires : tie.Need-put-requires
+put-requires c κs = search needs
+
+-- src/lib.rt:124:9
+put-decimal-requires : tie.Need-put-decimal-requires
+put-decimal-requires c κs = search needs
+
+-- src/lib.rt:125:25
+slice-aggregate-put-2 : tie.Need-slice-aggregate-put-2
+slice-aggregate-put-2 c = search needs
+
+-- src/lib.rt:125:9
+put-requires-2 : tie.Need-put-requires-2
+put-requires-2 c κs = search needs
+
+-- src/lib.rt:126:9
+put-decimal-requires-2 : tie.Need-put-decimal-requires-2
+put-decimal-requires-2 c κs = search needs
+
+-- src/lib.rt:127:25
+slice-aggregate-put-3 : tie.Need-slice-aggregate-put-3
+slice-aggregate-put-3 c = search needs
+
+-- src/lib.rt:127:9
+put-requires-3 : tie.Need-put-requires-3
+put-requires-3 c κs = search needs
+
+-- src/lib.rt:128:9
+put-decimal-requires-3 : tie.Need-put-decimal-requires-3
+put-decimal-requires-3 c κs = search needs
+
+-- src/lib.rt:129:17
+slice-aggregate-put-4 : tie.Need-slice-aggregate-put-4
+slice-aggregate-put-4 c = search needs
+
+-- src/lib.rt:129:5
+put-requires-4 : tie.Need-put-requires-4
+put-requires-4 c κs = search needs
+
+-- src/lib.rt:120:1
+same-length : tie.Need-same-length
+same-length c = search needs
+
+-- src/lib.rt:120:1
+returns : tie.Need-returns
+unfolding sizeOf
+returns c = wrote-then (c .before .before .before .before .before .before .before .before .before .before .before .before .before .before .before .before .before .before .before .before .before .before .before .before .before .before .before .before .before .put .ensures) (wrote-then (c .before .before .before .before .before .before .before .before .before .before .before .before .before .before .before .before .before .before .before .before .before .before .before .before .before .put-decimal .ensures) (wrote-then (c .before .before .before .before .before .before .before .before .before .before .before .before .before .before .before .before .before .before .before .before .put2 .ensures) (wrote-then (c .before .before .before .before .before .before .before .before .before .before .before .before .before .before .before .before .put-decimal2 .ensures) (wrote-then (c .before .before .before .before .before .before .before .before .before .before .before .put3 .ensures) (wrote-then (c .before .before .before .before .before .before .before .put-decimal3 .ensures) (c .before .before .put4 .ensures))))))
+
+pub put-size-spec : {M : Type 1} → statement M
+put-size-spec =
+    tie.close
+    (tie.spec
+    slice-aggregate-put
+    put-requires
+    put-decimal-requires
+    slice-aggregate-put-2
+    put-requires-2
+    put-decimal-requires-2
+    slice-aggregate-put-3
+    put-requires-3
+    put-decimal-requires-3
+    slice-aggregate-put-4
+    put-requires-4
+    same-length
+    returns)
