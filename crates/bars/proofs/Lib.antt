@@ -1,10 +1,3 @@
-pub mod Lists
-pub mod Checks
-pub mod Tables
-pub mod Fill128
-pub mod Fill39
-pub mod Fill25
-pub mod FillEan
-pub mod Strokes
-pub mod Fits
-pub mod Rule
+pub mod Limits
+pub mod Stroking
+pub mod Totals

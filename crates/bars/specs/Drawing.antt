@@ -11,7 +11,8 @@ use Rattle.kinds.specs.Fit.{fit}
 use Rattle.dots.specs.declared.Ink.the-variants.{Black}
 use Rattle.dots.specs.Dots.{within, drawn, cut}
 use Rattle.figures.specs.Figures.{placed}
-use Rattle.bars.specs.Elements.{elements}
+use Rattle.code128.specs.Widths.{sum}
+use Rattle.symbols.specs.Elements.{elements}
 
 -- "narrow e 1..6; wide f 2..10 and above e, else 7; height g 24..1000"
 unfoldable pub inLimits : ℕ → ℕ → ℕ → Bool
@@ -28,11 +29,6 @@ dotsOf Code128 e f w = w * e
 -- the elements' widths in dots; element k is a bar where k is even, else a space
 unfoldable pub widths : Kind → ℕ → ℕ → List ℕ → List ℕ
 widths kind e f s = map (dotsOf kind e f) (elements kind s)
-
--- the total width
-unfoldable pub sum : List ℕ → ℕ
-sum [] = 0
-sum (w ∷ ws) = w + sum ws
 
 -- whether dot u is in a bar, of elements from dot `at` on, the first of which is a bar or not
 unfoldable pub inBar : Bool → ℕ → List ℕ → ℕ → Bool

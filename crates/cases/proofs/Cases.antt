@@ -3,9 +3,9 @@
 use mathlib.Core.Path.{_≡_, refl, ap}
 use mathlib.Core.List.{List, [], _∷_, _++_}
 use lib.ListN.{replicate}
-use Rattle.fields.specs.Text.{bytes}
-use Rattle.values.specs.Counters.{counterValue}
-use Rattle.session.specs.declared.answers.Answer.the-variants.{Taken, Unended, Long, Limits, Illegal}
+use Rattle.kinds.specs.Text.{bytes}
+use Rattle.counters.specs.Counters.{counterValue}
+use Rattle.answers.specs.declared.Answer.the-variants.{Taken, Unended, Long, Limits, Illegal}
 use Rattle.cases.specs.Calls.{Stand, start, calls}
 use Rattle.cases.specs.Table.{Case, gives, wrongPicture, table, given, expected}
 use Rattle.cases.proofs.Opened.{computed, bars}

@@ -13,21 +13,24 @@ use Rattle.cells.specs.Count.{allZero}
 use Rattle.cells.proofs.Counts.{all-of}
 use Rattle.dots.specs.declared.Ink.the-variants.{Black}
 use Rattle.dots.specs.Dots.{within, rows, byteDrawn, redrawnFrom, redrawn, drawn, cut, box}
-use Rattle.dots.specs.Whole.{white, blackIn, blackDots}
-use Rattle.dots.proofs.WholePages.{white-outside-white}
+use Rattle.pages.specs.Pages.{white, blackIn, blackDots}
+use Rattle.outside.proofs.WhiteOutside.{white-outside-white}
 use Rattle.font.specs.Rules.{legal}
 use Rattle.store.specs.Chain.{isFree, portion}
 use Rattle.store_sound.specs.Sound.{lentOk, kindsOk, namesOk, uniquesOk, singlesOk, chainsOk, emptiesOk, freeOk, freesOk, tailsOk, storeSound}
-use Rattle.sound.specs.Sound.{numbersOk, backgroundOk, contentsOk, activeBytes, activitySound, sound}
-use Rattle.read.specs.Front.{frontOf}
+use Rattle.sound.specs.Sound.{numbersOk, backgroundOk, activeBytes, sound}
+use Rattle.content_check.specs.Contents.{contentsOk}
+use Rattle.activity_check.specs.Activity.{activitySound}
+use Rattle.front.specs.Front.{frontOf}
 use Rattle.session.specs.declared.Session.{Session}
-use Rattle.session.specs.declared.answers.Answer.{Answer}
-use Rattle.session.specs.declared.answers.Answer.the-variants.{Taken}
-use Rattle.session.specs.Answers.{numberOf, isTaken, answerOf}
-use Rattle.session.specs.Lent.{World, rowsOf, wrongLent}
-use Rattle.station.specs.Outcomes.{After, Drawn, drawnBy, labelled}
-use Rattle.station.specs.Table.{commandTable, labelTable}
-use Rattle.station.specs.Station.{readBy, doesFront, listsFront, accepted, refused, commanded, labelPage, labelSession, labelledBy}
+use Rattle.answers.specs.declared.Answer.{Answer}
+use Rattle.answers.specs.declared.Answer.the-variants.{Taken}
+use Rattle.answers.specs.Answers.{numberOf, isTaken, answerOf}
+use Rattle.lent.specs.Lent.{World, rowsOf, wrongLent}
+use Rattle.calls.specs.Outcomes.{After, Drawn, drawnBy, labelled}
+use Rattle.calls.specs.Table.{commandTable, labelTable}
+use Rattle.unread.specs.Front.{readBy}
+use Rattle.calls.specs.Station.{doesFront, listsFront, accepted, refused, commanded, labelPage, labelSession, labelledBy}
 use Rattle.ground.proofs.Tests.{and-left, and-right, and-both, not-below}
 use Rattle.cases.specs.Calls.{Stand, stand, start, font, output, calls, afterCall, labels, afterLabel}
 

@@ -4,79 +4,95 @@
 use mathlib.Core.Bool.{Bool, true}
 use Rattle.kinds.specs.Bytes as FitBytes
 use Rattle.kinds.specs.Fit as Fit
-use Rattle.fields.specs.Bytes as FieldBytes
+use Rattle.classes.specs.Bytes as FieldBytes
+use Rattle.numbers.specs.Number as Number
 use Rattle.fields.specs.Field as Field
-use Rattle.fields.specs.Data as Elements
-use Rattle.read.specs.Grammar as Grammar
+use Rattle.elements.specs.Elements as Elements
+use Rattle.reader.specs.Letters as Letters
+use Rattle.grammar.specs.Forms as Grammar
+use Rattle.heads.specs.Heads as Heads
+use Rattle.row_fields.specs.Reading as Reading
+use Rattle.row_limits.specs.Limits as Limits
 use Rattle.read.specs.Commands as Commands
-use Rattle.read.specs.Front as Front
+use Rattle.front.specs.Front as Front
 use Rattle.parts.specs.Names as Names
+use Rattle.writing.specs.Writing as Writing
 use Rattle.normal.specs.Written as Written
 use Rattle.listing.specs.Listing as Listing
 use Rattle.cells.specs.Cell as Cell
 use Rattle.cells.specs.Scan as Scan
 use Rattle.store.specs.Entry as Entry
-use Rattle.store.specs.Find as Find
-use Rattle.store.specs.Content as Content
-use Rattle.store.specs.Lines as Lines
-use Rattle.moves.specs.Grow as Grow
-use Rattle.moves.specs.Start as Start
+use Rattle.finding.specs.Find as Find
+use Rattle.contents.specs.Content as Content
+use Rattle.content_lines.specs.Lines as Lines
+use Rattle.growing.specs.Grow as Grow
+use Rattle.room.specs.Room as Room
+use Rattle.starting.specs.Start as Start
 use Rattle.store_sound.specs.Sound as Shelves
 use Rattle.sound.specs.Sound as Sound
-use Rattle.values.specs.Declarations as Declarations
-use Rattle.values.specs.Counters as Counters
-use Rattle.values.specs.Stored as Stored
-use Rattle.values.specs.Data as Data
+use Rattle.content_check.specs.Contents as Contents
+use Rattle.activity_check.specs.Activity as Activity
+use Rattle.declarations.specs.Declarations as Declarations
+use Rattle.counters.specs.Counters as Counters
+use Rattle.stored_values.specs.Stored as Stored
+use Rattle.padding.specs.Padding as Padding
+use Rattle.values.specs.Sound as Values
+use Rattle.pieces.specs.Data as Data
 use Rattle.forms.specs.Form as Form
-use Rattle.forms.specs.Judged as Judged
-use Rattle.forms.specs.Draw as Draw
+use Rattle.recording.specs.Judged as Judged
+use Rattle.form_lines.specs.Held as Held
+use Rattle.item_drawing.specs.Draw as ItemDraw
+use Rattle.form_drawing.specs.Draw as FormDraw
 use Rattle.item_commands.specs.Items as Items
-use Rattle.picture.specs.Rules as Pictures
-use Rattle.picture.specs.Cases as Picture
+use Rattle.pcx.specs.Rules as Pictures
+use Rattle.pcx.specs.Cases as Picture
 use Rattle.font.specs.Rules as Fonts
-use Rattle.dots.specs.Whole as Whole
-use Rattle.bars.specs.Tables as Tables
-use Rattle.bars.specs.Elements as Bars
+use Rattle.pages.specs.Pages as Whole
+use Rattle.symbols.specs.Tables as Tables
+use Rattle.code128.specs.Code128 as Code128
+use Rattle.symbols.specs.Elements as Bars
+use Rattle.code128.specs.Widths as Widths
 use Rattle.bars.specs.Drawing as Drawing
-use Rattle.session.specs.Answers as Answers
-use Rattle.session.specs.Lent as Lent
-use Rattle.station.specs.Table as Rows
-use Rattle.station.specs.Station as Station
+use Rattle.answers.specs.Answers as Answers
+use Rattle.lent.specs.Lent as Lent
+use Rattle.calls.specs.Table as Rows
+use Rattle.calls.specs.Station as Station
+use Rattle.unread.specs.Front as Fronts
 use Rattle.cases.specs.Calls as Calls
 
 -- reading a line, and writing it in normal form
 unfoldable pub lines : Bool
-unfolding FitBytes.between FieldBytes.run FieldBytes.valueFrom Field.numberAt Field.textAt Field.signedAt Field.byteAt Grammar.find Grammar.headBy Grammar.headOf Grammar.fieldAt Grammar.fieldsFrom Grammar.spread Grammar.meets Grammar.fieldLimits Grammar.limitsFrom Commands.itemOf Commands.pageOf Commands.formOf Commands.pictureOf Commands.valueOf Commands.listingOf Commands.orderOf Commands.judged Commands.headed Commands.readOf Front.sizeOf Front.askedBy Front.lineFront Front.frontOf Names.capital Names.nameByte Written.digits Written.signed Written.cased Written.writtenField Written.writtenFrom Written.writtenOf Written.headWritten Written.equal Written.isNormal
+unfolding FitBytes.between FieldBytes.run Number.valueFrom Number.numberAt Field.textAt Number.signedAt Field.byteAt Heads.find Heads.headBy Heads.headOf Letters.fieldAt Reading.fieldsFrom Grammar.spread Limits.meets Limits.fieldLimits Limits.limitsFrom Grammar.inOrder Commands.judged Commands.headed Commands.readOf Front.sizeOf Front.askedBy Front.lineFront Front.frontOf Names.capital Names.nameByte Writing.digits Writing.signed Writing.cased Written.writtenField Written.writtenFrom Written.writtenOf Written.headWritten Writing.equal Written.isNormal
 lines = true
 
 -- the store, and what moves in it
 unfoldable pub memory : Bool
-unfolding Cell.cell Cell.zeros Scan.lowestFrom Entry.name Entry.first Entry.size Entry.many Find.found Find.sameName Find.titled Content.portionAfter Content.placeAfter Content.bytesFrom Content.extent Content.contentOf Lines.linesOf Grow.nextLast Grow.nextLinks Grow.lastOf Grow.withSize Grow.grown Grow.canGrow Start.hasRoom Start.nameEnd Start.newEntry Start.begun Start.finished Listing.listingLine Listing.listingFrom Listing.listing
+unfolding Cell.cell Cell.zeros Scan.lowestFrom Entry.name Entry.first Entry.size Entry.many Find.found Find.sameName Find.titled Content.portionAfter Content.placeAfter Content.bytesFrom Content.extent Content.contentOf Lines.linesOf Grow.nextLast Grow.nextLinks Entry.lastOf Grow.withSize Grow.grown Room.canGrow Room.hasRoom Start.nameEnd Start.newEntry Start.begun Start.finished Listing.listingLine Listing.listingFrom Listing.listing
 memory = true
 
 -- values and data
 unfoldable pub values : Bool
-unfolding Elements.modifierAt Elements.heldAt Elements.elementAt Elements.elementsFrom Elements.elements Declarations.nothing Declarations.withVariable Declarations.withCounter Counters.tenTo Counters.noneSet Counters.counterEntered Counters.moved Counters.movedAt Counters.movedAll Stored.enters Stored.padded Stored.field Stored.fieldAt Stored.valueIn Stored.variableIn Stored.variableEntered Stored.unset Stored.fieldSound Stored.counterSound Stored.valuesSound Stored.allSet Data.partOf Data.pieceOf
+unfolding Elements.modifierAt Elements.heldAt Elements.elementAt Elements.elementsFrom Elements.elements Declarations.nothing Declarations.withVariable Declarations.withCounter Counters.tenTo Counters.noneSet Counters.counterEntered Counters.moved Counters.movedAt Counters.movedAll Padding.enters Padding.padded Stored.field Stored.fieldAt Stored.valueIn Stored.variableIn Stored.variableEntered Stored.unset Stored.fieldSound Counters.counterSound Values.valuesSound Values.allSet Data.partOf Data.pieceOf
 values = true
 
 -- forms, pictures and fonts
 unfoldable pub forms : Bool
-unfolding Form.itemIn Form.takes Form.declaring Form.takesAll Form.declaredBy Form.formOk Form.declaredOf Form.hasPicture Form.hasAll Form.picturesStored Judged.judged Judged.declares Items.declaredBefore Items.notDeclared Items.reachesPast Items.unfitData Draw.far Draw.drawsItem Draw.drawsLine Draw.drawsLines Draw.formDrawn Pictures.headed Pictures.times Pictures.next Pictures.given Pictures.emptyRun Pictures.noEmptyRun Pictures.waiting Pictures.filled Pictures.legal Picture.header Fonts.headed Fonts.fieldsFrom Fonts.legal Whole.copied
+unfolding Held.itemIn Form.takes Form.declaring Form.takesAll Form.declaredBy Form.formOk Form.declaredOf Judged.hasPicture Form.hasAll Form.picturesStored Judged.judged Judged.declares Items.declaredBefore Items.notDeclared Items.reachesPast Items.unfitData ItemDraw.far ItemDraw.drawsItem FormDraw.drawsLine FormDraw.drawsLines FormDraw.formDrawn Pictures.headed Pictures.times Pictures.next Pictures.given Pictures.emptyRun Pictures.noEmptyRun Pictures.waiting Pictures.filled Pictures.legal Picture.header Fonts.headed Fonts.fieldsFrom Fonts.legal Whole.copied
 forms = true
 
 -- the clauses of sound
 unfoldable pub clauses : Bool
-unfolding Shelves.lentOk Shelves.kindsOk Shelves.legalByte Shelves.nameByteOk Shelves.nameOk Shelves.namesOk Shelves.uniqueOk Shelves.uniquesOk Shelves.singleOk Shelves.singlesOk Shelves.portionOk Shelves.linksOk Shelves.emptiesOk Shelves.tailOf Shelves.tailsOk Sound.numbersOk Sound.contentOk Sound.contentsOk Sound.activeOk Sound.activeBytes Sound.owedOk Sound.activitySound
+unfolding Shelves.lentOk Shelves.kindsOk Shelves.legalByte Shelves.nameByteOk Shelves.nameOk Shelves.namesOk Shelves.uniqueOk Shelves.uniquesOk Shelves.singleOk Shelves.singlesOk Shelves.portionOk Shelves.linksOk Shelves.emptiesOk Shelves.tailOf Shelves.tailsOk Sound.numbersOk Contents.contentOk Contents.contentsOk Activity.activeOk Sound.activeBytes Activity.owedOk Activity.activitySound
 clauses = true
 
 -- the calls
 unfoldable pub calls : Bool
-unfolding Answers.numberOf Answers.isTaken Answers.answerOf Lent.pageWrong Lent.storeWrong Lent.directoryWrong Lent.lengthsWrong Rows.commandTable Station.cleared Station.opened Station.readBy Station.labelPage Station.labelSession Calls.lent Calls.start
+unfolding Answers.numberOf Answers.isTaken Answers.answerOf Lent.pageWrong Lent.storeWrong Lent.directoryWrong Lent.lengthsWrong Rows.commandTable Station.cleared Station.opened Fronts.readBy Station.labelPage Station.labelSession Calls.lent Calls.start
 calls = true
 
 -- bars
 unfoldable pub bars : Bool
-unfolding FitBytes.between Fit.inClass Fit.fitLength Fit.fit Field.kindFrom Tables.rows128 Tables.rows39 Tables.rows25 Bars.digits Bars.each Bars.six Bars.weighed Bars.check128 Bars.elements128 Bars.nine Bars.spaced Bars.elements39 Bars.five Bars.woven Bars.pairs Bars.elements25 Bars.weights Bars.checkDigit Bars.elementsIn Bars.elements Drawing.dotsOf Drawing.widths Drawing.sum
+unfolding FitBytes.between Fit.inClass Fit.fitLength Fit.fit Field.kindFrom Code128.rows128 Tables.rows39 Tables.rows25 Widths.digits Widths.each Code128.six Code128.weighed Code128.check128 Code128.elements128 Bars.nine Bars.spaced Bars.elements39 Bars.five Bars.woven Bars.pairs Bars.elements25 Bars.weights Bars.checkDigit Bars.elementsIn Bars.elements Drawing.dotsOf Drawing.widths Widths.sum
 bars = true
 
 unfoldable pub computed : Bool

@@ -3,12 +3,12 @@
 use Prim.Native.Nat.{ℕ, zero, suc, _*_}
 use mathlib.Core.List.{List, [], _∷_, _++_}
 use lib.ListN.{take, drop, replicate}
-use Rattle.dots.specs.Whole.{blackDots}
+use Rattle.pages.specs.Pages.{blackDots}
 use Rattle.session.specs.declared.Session.{Session}
-use Rattle.session.specs.Lent.{World, world}
-use Rattle.session.specs.Answers.{numberOf}
-use Rattle.station.specs.Outcomes.{After, Drawn, Opened}
-use Rattle.station.specs.Station.{opened, commanded, labelledBy}
+use Rattle.lent.specs.Lent.{World, world}
+use Rattle.answers.specs.Answers.{numberOf}
+use Rattle.calls.specs.Outcomes.{After, Drawn, Opened}
+use Rattle.calls.specs.Station.{opened, commanded, labelledBy}
 
 -- "240 rows, 64 portions, 8 entries"
 abbrev pub rows : ℕ

@@ -1,22 +1,25 @@
 -- Paper 01, "Proof cases": "One statement over one table covers these ten". What each case asks, of which bytes, and what it expects.
 -- Assumes nothing.
+use Prim.Native.Char.{code}
 use Prim.Native.Nat.{ℕ, min}
 use mathlib.Core.Bool.{cond}
 use mathlib.Core.List.{List, [], _∷_, _++_, map}
 use lib.ListN.{replicate}
 use lib.Dec.{eqb}
-use Rattle.fields.specs.Text.{bytes}
+use Rattle.kinds.specs.Text.{bytes}
 use Rattle.fields.specs.Field.{kindFrom}
-use Rattle.bars.specs.Elements.{checkDigit, check128}
-use Rattle.bars.specs.Drawing.{widths, sum}
-use Rattle.dots.specs.Dots.{frame}
+use Rattle.symbols.specs.Elements.{checkDigit}
+use Rattle.code128.specs.Code128.{check128}
+use Rattle.bars.specs.Drawing.{widths}
+use Rattle.code128.specs.Widths.{sum}
+use Rattle.frames.specs.Frame.{frame}
 use Rattle.dots.specs.Cases.{countBelow}
-use Rattle.picture.specs.Cases.{header}
-use Rattle.values.specs.declared.declarations.Declared.{Declared}
-use Rattle.values.specs.Declarations.{nothing, withVariable}
-use Rattle.values.specs.Counters.{counterValue, noneSet}
-use Rattle.values.specs.Stored.{variableEntered}
-use Rattle.values.specs.Data.{dataOf, valuesIn}
+use Rattle.pcx.specs.Cases.{header}
+use Rattle.declarations.specs.declared.Declared.{Declared}
+use Rattle.declarations.specs.Declarations.{nothing, withVariable}
+use Rattle.counters.specs.Counters.{counterValue, noneSet}
+use Rattle.stored_values.specs.Stored.{variableEntered}
+use Rattle.pieces.specs.Data.{dataOf, valuesIn}
 use Rattle.cases.specs.Calls.{start, calls, labels}
 
 -- ---- what is asked
@@ -33,11 +36,11 @@ pub data Asked : Type 0 where
   Wide : ℕ → ℕ → ℕ → List ℕ → Asked
   -- the dots of a frame's first row and first column
   Framed : ℕ → ℕ → ℕ → ℕ → ℕ → Asked
-  -- what data show where V0 of length m, left justified (76), has a value
+  -- what data show where V0 of length m, left justified, has a value
   Shows : ℕ → List ℕ → List ℕ → Asked
 
 abbrev pub V0 : ℕ → Declared
-V0 m = withVariable nothing 0 m 76
+V0 m = withVariable nothing 0 m (code "L")
 
 -- ---- what the definitions give
 abbrev pub gives : Asked → List ℕ

@@ -8,20 +8,20 @@ use lib.ListN.{length}
 use lib.Dec.{ltb}
 use denote.Enum.Declared as Enum
 use types.Run.{OneOf, miss}
-use Rattle.read.proofs.Command as Commands
-use Rattle.read.specs.declared.Command.{Command}
-use Rattle.read.specs.declared.Command.the-variants.{Item as item, End, Page, Forms, Pictures, Values, Listing}
+use Rattle.grammar.proofs.Command as Commands
+use Rattle.grammar.specs.declared.Command.{Command}
+use Rattle.grammar.specs.declared.Command.the-variants.{Item as item, End, Page, Forms, Pictures, Values, Listing}
 use Rattle.read.specs.declared.Fault.{Fault}
 use Rattle.read.specs.declared.Fault.the-variants.{Form as form, Limit}
 use Rattle.read.specs.declared.Read.{Read}
 use Rattle.read.specs.declared.Read.the-variants.{Refused}
 use Rattle.read.specs.Commands.{readOf}
 use Rattle.session.specs.declared.Session.{Session}
-use Rattle.session.specs.declared.answers.Answer.{Answer}
-use Rattle.session.specs.declared.answers.Answer.the-variants.{Taken, Lengths, Long, Misplaced}
-use Rattle.session.specs.Answers.{answerOf, isTaken, numberOf}
-use Rattle.session.specs.Lent.{World, world, rowsOf, wrongLent}
-use Rattle.session.proofs.Rows.{answer-skip}
+use Rattle.answers.specs.declared.Answer.{Answer}
+use Rattle.answers.specs.declared.Answer.the-variants.{Taken, Lengths, Long, Misplaced}
+use Rattle.answers.specs.Answers.{answerOf, isTaken, numberOf}
+use Rattle.lent.specs.Lent.{World, world, rowsOf, wrongLent}
+use Rattle.answers.proofs.Rows.{answer-skip}
 use Rattle.results.specs.Result.{done, Ran, ran, ranBy}
 use Rattle.results.proofs.Answers.{cond-map}
 use Rattle.results.proofs.Parts.{onMemory}

@@ -2,18 +2,18 @@
 -- Assumes nothing.
 use Prim.Native.Nat.{ℕ}
 use mathlib.Core.List.{List, [], _∷_, _++_}
-use Rattle.store.specs.declared.Found.{Found}
-use Rattle.store.specs.declared.Found.the-variants.{At, Nothing}
-use Rattle.store.specs.Find.{recorded}
-use Rattle.moves.specs.Grow.{appended}
-use Rattle.moves.specs.Start.{finished}
-use Rattle.read.specs.declared.Command.{Command}
-use Rattle.read.specs.declared.Command.the-variants.{Item as item, End, Page, Forms, Pictures, Values, Listing}
+use Rattle.finding.specs.declared.Found.{Found}
+use Rattle.finding.specs.declared.Found.the-variants.{At, Nothing}
+use Rattle.finding.specs.Find.{recorded}
+use Rattle.growing.specs.Grow.{appended}
+use Rattle.starting.specs.Start.{finished}
+use Rattle.grammar.specs.declared.Command.{Command}
+use Rattle.grammar.specs.declared.Command.the-variants.{Item as item, End, Page, Forms, Pictures, Values, Listing}
 use Rattle.read.specs.declared.Read.{Read}
 use Rattle.read.specs.declared.Read.the-variants.{Taken as Reads, Refused}
 use Rattle.normal.specs.Written.{normal}
 use Rattle.session.specs.declared.Session.{Session}
-use Rattle.session.specs.Lent.{World, world}
+use Rattle.lent.specs.Lent.{World, world}
 use Rattle.results.specs.World.{State, state, memoryOf, withMemory}
 use Rattle.item_commands.specs.Items.{itemRuns}
 use Rattle.page_commands.specs.Page.{pageRuns}

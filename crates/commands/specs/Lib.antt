@@ -1,4 +1,3 @@
-pub mod Places
 pub mod Rows
 pub mod Does
 pub mod Running

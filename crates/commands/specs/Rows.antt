@@ -5,34 +5,35 @@ use mathlib.Core.Bool.{true, not}
 use mathlib.Core.List.{List, [], _∷_}
 use lib.ListN.{length}
 use lib.Dec.{ltb}
-use Rattle.values.specs.Declarations.{nothing}
-use Rattle.store.specs.declared.Found.{Found}
-use Rattle.store.specs.declared.Found.the-variants.{At, Nothing}
+use Rattle.declarations.specs.Declarations.{nothing}
+use Rattle.finding.specs.declared.Found.{Found}
+use Rattle.finding.specs.declared.Found.the-variants.{At, Nothing}
 use Rattle.store.specs.Entry.{entry}
-use Rattle.store.specs.Find.{recorded}
-use Rattle.moves.specs.Grow.{canGrow}
-use Rattle.read.specs.declared.Command.{Command}
-use Rattle.read.specs.declared.Command.the-variants.{Item as item, End, Page, Forms, Pictures, Values, Listing}
+use Rattle.finding.specs.Find.{recorded}
+use Rattle.room.specs.Room.{canGrow}
+use Rattle.grammar.specs.declared.Command.{Command}
+use Rattle.grammar.specs.declared.Command.the-variants.{Item as item, End, Page, Forms, Pictures, Values, Listing}
 use Rattle.read.specs.declared.Fault.{Fault}
 use Rattle.read.specs.declared.Fault.the-variants.{Form as form, Limit}
 use Rattle.read.specs.declared.Read.{Read}
 use Rattle.read.specs.declared.Read.the-variants.{Taken as Reads, Refused}
 use Rattle.normal.specs.Written.{normal}
-use Rattle.forms.specs.declared.Stored.{Stored}
-use Rattle.forms.specs.declared.Stored.the-variants.{Holds, Nothing as NoItem}
-use Rattle.forms.specs.Form.{declaredOf, heldCommand}
+use Rattle.form_lines.specs.declared.Stored.{Stored}
+use Rattle.form_lines.specs.declared.Stored.the-variants.{Holds, Nothing as NoItem}
+use Rattle.forms.specs.Form.{declaredOf}
+use Rattle.form_lines.specs.Held.{heldCommand}
 use Rattle.session.specs.declared.Session.{Session}
-use Rattle.session.specs.declared.answers.Answer.{Answer}
-use Rattle.session.specs.declared.answers.Answer.the-variants.{Unwritten, Limits, Owing, Misplaced, Full}
-use Rattle.session.specs.Answers.{Row, row}
-use Rattle.session.specs.Lent.{World}
+use Rattle.answers.specs.declared.Answer.{Answer}
+use Rattle.answers.specs.declared.Answer.the-variants.{Unwritten, Limits, Owing, Misplaced, Full}
+use Rattle.answers.specs.Answers.{Row, row}
+use Rattle.lent.specs.Lent.{World}
 use Rattle.results.specs.World.{contentAt}
 use Rattle.item_commands.specs.Items.{itemRows}
 use Rattle.form_commands.specs.Forms.{formRows}
 use Rattle.picture_commands.specs.Pictures.{pictureRows}
 use Rattle.value_commands.specs.Values.{valueRows}
 use Rattle.listing_commands.specs.Listings.{listingRows}
-use Rattle.commands.specs.Places.{placesOf}
+use Rattle.places.specs.Places.{placesOf}
 
 -- ---- 9 and later
 

@@ -4,17 +4,17 @@ use Prim.Native.Nat.{ℕ, _<_}
 use mathlib.Core.List.{List, _∷_}
 use lib.ListN.{length}
 use lib.Dec.{ltb}
-use Rattle.read.specs.declared.Command.{Command}
+use Rattle.grammar.specs.declared.Command.{Command}
 use Rattle.read.specs.declared.Read.{Read}
 use Rattle.read.specs.Commands.{readOf}
 use Rattle.normal.specs.Written.{normal}
-use Rattle.forms.specs.declared.Stored.{Stored}
-use Rattle.forms.specs.declared.Stored.the-variants.{Holds, Nothing as NoItem}
-use Rattle.forms.specs.Form.{heldCommand}
+use Rattle.form_lines.specs.declared.Stored.{Stored}
+use Rattle.form_lines.specs.declared.Stored.the-variants.{Holds, Nothing as NoItem}
+use Rattle.form_lines.specs.Held.{heldCommand}
 use Rattle.session.specs.declared.Session.{Session}
-use Rattle.session.specs.declared.answers.Answer.the-variants.{Lengths, Long}
-use Rattle.session.specs.Answers.{Row, row, answerOf}
-use Rattle.session.specs.Lent.{World, rowsOf, wrongLent}
+use Rattle.answers.specs.declared.Answer.the-variants.{Lengths, Long}
+use Rattle.answers.specs.Answers.{Row, row, answerOf}
+use Rattle.lent.specs.Lent.{World, rowsOf, wrongLent}
 use Rattle.results.specs.Result.{Ran, ranBy}
 use Rattle.commands.specs.Rows.{recordRows, runRows, lineRows}
 use Rattle.commands.specs.Does.{records, runs, listed, doesLine, listsLine}

@@ -1,20 +1,20 @@
 // One line that was read at the front of the input: run, or recorded.
 ghost use mathlib.Core.Path.{_≡_};
-ghost use Rattle.session.specs.Lent.{world};
+ghost use Rattle.lent.specs.Lent.{world};
 ghost use Rattle.read.specs.declared.Read.the-variants.{Taken as Reads};
 ghost use Rattle.results.specs.Result.{ran};
 ghost use Rattle.commands.specs.Rows.{faultAnswer};
 ghost use Rattle.commands.specs.Running.{ranRead, lineBy, short};
 use crate::records::record;
 use crate::runs::run;
-use read::Command;
+use answers::Answer;
+use finding::Found;
+use grammar::Command;
 use read::Fault;
 use read::Read;
 use results::Done;
 use results::answered;
-use session::Answer;
 use session::Session;
-use store::Found;
 
 // [6] or [7].
 fn fault_answer(fault: Fault) -> Answer
@@ -47,7 +47,7 @@ fn on_command(
     if 0 < owed {
         return answered(Answer::Owing, session);
     }
-    match store::recording(directory) {
+    match finding::recording(directory) {
         Found::At(i) => record(session, command, line, i, store, links, directory),
         Found::Nothing => run(
             session,
@@ -80,7 +80,7 @@ pub fn run_line(
 ) -> Done
     ensures { λ r. ⌜ ran r (world (now (background .exit)) (now (store .exit)) (now (links .exit)) (now (directory .exit)) (now (values .exit))) (now (output .exit)) ≡ lineBy (now (font .entry)) (world (now (background .entry)) (now (store .entry)) (now (links .entry)) (now (directory .entry)) (now (values .entry))) session (now (line .entry)) (now (more .entry)) (now (output .entry)) ⌝ }
 {
-    if session::lengths_wrong(
+    if lent::lengths_wrong(
         background.len(),
         store.len(),
         links.len(),

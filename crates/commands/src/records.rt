@@ -5,27 +5,27 @@ ghost use mathlib.Core.List.{[], _∷_};
 ghost use Prim.Native.Nat.{_+_, _<_};
 ghost use lib.ListN.{length};
 ghost use Rattle.store.specs.Entry.{entry};
-ghost use Rattle.store.specs.Content.{content};
-ghost use Rattle.read.specs.declared.Command.the-variants.{Item as It, End};
+ghost use Rattle.contents.specs.Content.{content};
+ghost use Rattle.grammar.specs.declared.Command.the-variants.{Item as It, End};
 ghost use Rattle.normal.specs.Written.{normal};
 ghost use Rattle.forms.specs.Form.{declaredOf};
-ghost use Rattle.moves.specs.Grow.{canGrow};
-ghost use Rattle.session.specs.declared.answers.Answer.the-variants.{Full};
-ghost use Rattle.session.specs.Answers.{row, answerOf};
-ghost use Rattle.session.specs.Lent.{world};
+ghost use Rattle.room.specs.Room.{canGrow};
+ghost use Rattle.answers.specs.declared.Answer.the-variants.{Full};
+ghost use Rattle.answers.specs.Answers.{row, answerOf};
+ghost use Rattle.lent.specs.Lent.{world};
 ghost use Rattle.results.specs.Result.{ran};
 ghost use Rattle.item_commands.specs.Items.{itemRows};
 ghost use Rattle.commands.specs.Running.{recordBy, short};
+use answers::Answer;
+use answers::is_taken;
+use grammar::Command;
+use grammar::Item;
 use item_commands::item_answer;
 use parts::first;
-use read::Command;
-use read::Item;
 use results::Done;
 use results::answered;
 use results::taken;
-use session::Answer;
 use session::Session;
-use session::answers::is_taken;
 
 // [11] to [15], then [19], for an item recorded in entry i as n bytes and LF.
 fn record_answer(
@@ -45,7 +45,7 @@ fn record_answer(
     if !is_taken(a) {
         return a;
     }
-    if moves::can_grow(links, directory, i, n + 1) {
+    if room::can_grow(links, directory, i, n + 1) {
         return Answer::Taken;
     }
     Answer::Full
@@ -71,7 +71,7 @@ fn record_item(
     if !is_taken(a) {
         return answered(a, session);
     }
-    moves::append(store, links, directory, i, first(&buffer, n + 1));
+    growing::append(store, links, directory, i, first(&buffer, n + 1));
     taken(session)
 }
 
@@ -79,7 +79,7 @@ fn record_item(
 fn end_form(session: Session, directory: &mut [u8], i: usize) -> Done
     ensures { λ r. ⌜ ran r (world [] [] [] (now (directory .exit)) []) [] ≡ recordBy (world [] [] [] (now (directory .entry)) []) session [] i [] End ⌝ }
 {
-    moves::finish(directory, i);
+    starting::finish(directory, i);
     taken(session)
 }
 

@@ -1,21 +1,19 @@
 -- The dots of a byte: a byte is what its eight dots say, and what `|` and `^` do to them.
 -- Assumes nothing.
 use mathlib.Core.Path.{_≡_, refl, sym, ap, _∙_}
-use mathlib.Core.Bool.{Bool, true, false, not, cond, _&&_, _||_}
-use Prim.Native.Nat.{ℕ, zero, suc, _+_, _-_, _*_, _/_, _%_, _^_, _≤_, _<_}
+use mathlib.Core.Bool.{Bool, true, false, not, cond, _&&_, _||_, and-false}
+use Prim.Native.Nat.{ℕ, zero, suc, _+_, _-_, _*_, _/_, _%_, _^_, _≤_, _<_, min}
 use native.Mathlib.Nat.{mod-lt, le-of-suc-le-suc, not-suc-le-zero}
 use native.Mathlib.Omega.{arith}
-use native.Mathlib.Decide.{ℕ-discrete}
+use native.Mathlib.Decide.{ℕ-discrete, decLt}
 use lib.Dec.{leb, eqb, lit<}
-use lib.Count.{ones, onesIn}
 use lib.Bits.{bitAnd, bitOr, bitXor, and-shr, and-mod, or-shr, or-mod, xor-shr, xor-mod, or-lt, xor-lt}
-use borrow.Author.Tests.{leb-true, eqb-true, le-leb}
-use Rattle.ground.proofs.Tests.{and-true}
+use borrow.Author.Tests.{leb-true, eqb-true, le-leb, lt-leb, lt-ltb}
+use Rattle.ground.proofs.Tests.{and-true, not-below}
 use Rattle.ground.specs.Numbers.{one}
 use Rattle.dots.specs.declared.Ink.{Ink}
 use Rattle.dots.specs.declared.Ink.the-variants.{Black, White, Inverted}
 use Rattle.dots.specs.Dots.{bitOf, byteOf, within, inked}
-use Rattle.dots.specs.Whole.{blackIn}
 
 pub one-le : (b : Bool) → one b ≤ 1
 one-le true = omega arith
@@ -175,18 +173,15 @@ all-below (suc n) f e k h =
     let both = and-true (f n) (allBelow n f) e in
     at-or-below n f k h (both .0) (all-below n f (both .1) k) (ℕ-discrete k n)
 
--- what `count_ones` gives for a byte
-rightly : ℕ → Bool
-unfolding ones onesIn
-rightly b = eqb (ones b) (blackIn b)
+-- two tests compared by a computed test
+abbrev pub sameb : Bool → Bool → Bool
+sameb true b = b
+sameb false b = not b
 
-all-rightly : allBelow 256 rightly ≡ true
-unfolding rightly ones onesIn
-all-rightly = refl
-
-pub ones-black : (b : ℕ) → b < 256 → ones b ≡ blackIn b
-unfolding rightly
-ones-black b h = eqb-true (ones b) (blackIn b) (all-below 256 rightly all-rightly b h)
+pub sameb-true : (a b : Bool) → sameb a b ≡ true → a ≡ b
+sameb-true true b e = sym e
+sameb-true false true e = e
+sameb-true false false e = refl
 
 -- what `span_mask` computes: a byte whose first n dots are white and whose others are black, and the difference of two
 abbrev pub from : ℕ → ℕ
@@ -205,3 +200,12 @@ span-byte lo hi h k =
     let e : right lo hi ≡ true = all-below 9 (right lo) (all-below 9 (λ n. allBelow 9 (right n)) all-right lo (omega arith)) hi (omega arith) in
     let b = and-true (leb (from hi) (from lo)) _ (rw (le-leb lo hi h) at e) in
     (leb-true (from hi) (from lo) (b .0), eqb-true _ _ (b .1))
+
+-- of any span only the part is seen that a byte has
+pub span-cut : (lo hi start end : ℕ) → end ≡ min hi 8 → start ≡ min lo end → byteOf (within start end) ≡ byteOf (within lo hi)
+span-cut lo hi start end e s = byte-cong (within start end) (within lo hi) (λ k t. at k t (decLt k hi) (decLt k lo))
+  where
+    at : (k : ℕ) → k < 8 → Dec (k < hi) → Dec (k < lo) → within start end k ≡ within lo hi k
+    at k t (no h) d = rw (not-below k hi (omega arith), not-below k end (omega arith), and-false (leb start k), and-false (leb lo k))
+    at k t (yes h) (no d) = rw (le-leb lo k (omega arith), le-leb start k (omega arith), lt-ltb k hi h, lt-ltb k end (omega arith))
+    at k t (yes h) (yes d) = rw (lt-leb lo k d, lt-leb start k (omega arith))

@@ -2,6 +2,3 @@
 pub mod Bits
 pub mod Pages
 pub mod Shapes
-pub mod EightDots
-pub mod WholePages
-pub mod Turned

@@ -4,7 +4,7 @@
 -- So a row has 608 dots, and dot x of row y is in byte y * 76 + x / 8. A page may be of any length here: bytes after the last whole row are no dots
 -- of the page, and no drawing touches them.
 -- Assumes nothing.
-use Prim.Native.Nat.{ℕ, suc, _+_, _-_, _*_, _/_, _%_, _^_, min, max}
+use Prim.Native.Nat.{ℕ, suc, _+_, _-_, _*_, _/_, _%_, _^_}
 use mathlib.Core.Bool.{Bool, true, false, not, cond, _&&_}
 use mathlib.Core.List.{List, [], _∷_}
 use lib.ListN.{length, getD}
@@ -41,7 +41,7 @@ dotsARow = 608
 abbrev pub rows : List ℕ → ℕ
 rows page = length page / bytesARow
 
--- whether dot x of row y is black: "dot x is in byte x/8"
+-- whether dot x of row y is black: "Dot x is in byte x/8"
 unfoldable pub dotAt : List ℕ → ℕ → ℕ → Bool
 dotAt page x y = bitOf (getD page (y * bytesARow + x / 8) 0) (x % 8)
 
@@ -77,15 +77,3 @@ cut width length shape x y = (ltb x width && ltb y length) && shape x y
 -- "dots a to a+c-1, b to b+d-1" is box a b (a + c) (b + d)
 abbrev pub box : ℕ → ℕ → ℕ → ℕ → ℕ → ℕ → Bool
 box x0 y0 x1 y1 x y = within x0 x1 x && within y0 y1 y
-
--- the eight dots of the byte m, from x on, in each row from y0 up to, not including, y1
-unfoldable pub eights : ℕ → ℕ → ℕ → ℕ → ℕ → ℕ → Bool
-eights x y0 y1 m a b = box x y0 (x + 8) y1 a b && bitOf m (a - x)
-
--- a box less the box that is shrunk by c on each side
-abbrev pub hollow : ℕ → ℕ → ℕ → ℕ → ℕ → ℕ → ℕ → Bool
-hollow c x0 y0 x1 y1 x y = box x0 y0 x1 y1 x y && not (box (x0 + c) (y0 + c) (x1 - c) (y1 - c) x y)
-
--- "Dots from the lesser coordinate up to, not including, the greater, less the rectangle shrunk by c on each side."
-abbrev pub frame : ℕ → ℕ → ℕ → ℕ → ℕ → ℕ → ℕ → Bool
-frame a b c d e = hollow c (min a d) (min b e) (max a d) (max b e)

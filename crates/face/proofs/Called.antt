@@ -1,49 +1,24 @@
 -- What the calls leave, from what the functions they call ensure.
-use mathlib.Core.Path.{_≡_, refl, sym, _∙_}
+use mathlib.Core.Path.{_≡_, sym, _∙_}
 use mathlib.Core.Bool.{Bool, true, false, _||_}
-use mathlib.Core.List.{List, [], _∷_}
+use mathlib.Core.List.{List}
 use Prim.Native.Nat.{ℕ}
-use native.Mathlib.Omega.{arith}
-use lib.ListN.{length, set}
+use lib.ListN.{length}
 use lib.Dec.{eqb}
 use lib.Seq.{sets}
 use borrow.Author.Tests.{eq-eqb, ne-eqb, eqb-true, not-false}
 use Rattle.session.specs.declared.Session.{Session}
-use Rattle.session.specs.declared.answers.Answer.the-variants.{Lengths}
-use Rattle.session.specs.Answers.{numberOf}
-use Rattle.session.specs.Lent.{World}
-use Rattle.station.specs.declared.Outcome.{Outcome}
-use Rattle.session.specs.declared.answers.Labelled.{Labelled}
-use Rattle.station.specs.Outcomes.{after, drawnBy, openedBy}
-use Rattle.station.specs.Station.{opened, commanded, labelledBy}
-use Rattle.ground.proofs.Stores.{sets-all}
-use Rattle.face.specs.Image.{imageSize, bytesOf, counterBytes, sessionOf, imageOf}
-use Rattle.face.specs.Face.{countsSize, countsStored, imageWrong, countsWrong, opening, commanding, labelling, openedFace, commandedFace, labelledFace}
-
--- ---- counts
-
-pub counts-two : (l : List ℕ) (r w : ℕ) → length l ≡ countsSize → set (set l 0 r) 1 w ≡ countsStored l r w
-unfolding countsStored
-counts-two [] r w h = absurd (omega arith)
-counts-two (x ∷ []) r w h = absurd (omega arith)
-counts-two (x ∷ y ∷ []) r w h = refl
-counts-two (x ∷ y ∷ z ∷ l) r w h = absurd (omega arith)
-
-pub counts-other : (l : List ℕ) (r w : ℕ) → (length l ≡ countsSize → ⊥) → l ≡ countsStored l r w
-unfolding countsStored
-counts-other l r w h = rw (ne-eqb (length l) countsSize h)
-
--- ---- the image
-
-pub length-image : (s : Session) → length (imageOf s) ≡ imageSize
-unfolding imageOf bytesOf counterBytes
-length-image s = refl
-
--- an image stored over 65 bytes is all there is
-whole : (i : List ℕ) (s : Session) → length i ≡ imageSize → sets i 0 (imageOf s) ≡ imageOf s
-whole i s h = sets-all i (imageOf s) (length-image s ∙ sym h)
-
--- ---- the calls
+use Rattle.answers.specs.declared.Answer.the-variants.{Lengths}
+use Rattle.answers.specs.Answers.{numberOf}
+use Rattle.lent.specs.Lent.{World}
+use Rattle.calls.specs.declared.Outcome.{Outcome}
+use Rattle.session.specs.declared.Labelled.{Labelled}
+use Rattle.calls.specs.Outcomes.{after, drawnBy, openedBy}
+use Rattle.calls.specs.Station.{opened, commanded, labelledBy}
+use Rattle.image.specs.Image.{imageSize, sessionOf, imageOf}
+use Rattle.image.proofs.Inverse.{whole}
+use Rattle.exported.proofs.Kept.{neither}
+use Rattle.exported.specs.Face.{countsStored, imageWrong, countsWrong, opening, commanding, labelling, openedFace, commandedFace, labelledFace}
 
 module _ (i p : List ℕ) (w : World) where
   pub open-wrong : (r : ℕ) → (length i ≡ imageSize → ⊥) → r ≡ numberOf Lengths → opening r i p w ≡ openedFace i p w
@@ -64,10 +39,6 @@ module _ (i f : List ℕ) (w : World) (p : List ℕ) where
       → i' ≡ sets i 0 (imageOf (o .session)) → r ≡ numberOf (o .answer) → labelling r i' p' ≡ labelledFace i f w p
   unfolding labelledFace
   label-done s o i' p' r h d e q n = rw (eq-eqb (length i) imageSize h, ← d, ← e, n, q, whole i (o .session) h)
-
-pub neither : (a b : Bool) → (a || b) ≡ false → a ≡ false
-neither true b e = e
-neither false b e = refl
 
 module _ (i cs f : List ℕ) (w : World) (out input : List ℕ) (wrong : Bool) (is : wrong ≡ (imageWrong i || countsWrong cs)) where
   pub command-wrong : (cs' : List ℕ) (r : ℕ) → wrong ≡ true → cs' ≡ countsStored cs 0 0 → r ≡ numberOf Lengths

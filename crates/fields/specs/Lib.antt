@@ -1,5 +1,2 @@
-pub mod Text
-pub mod Bytes
 pub mod Field
-pub mod Data
 pub mod Samples

@@ -1,8 +1,7 @@
 -- Figures: dots of their own in a box, which stand on a page scaled and turned. A glyph and a row of bars are figures.
 -- Dot (u, v) of a figure is u to the right of the upper left corner of its box and v below it.
 -- Assumes nothing.
-use mathlib.Core.Path.{_≡_}
-use Prim.Native.Nat.{ℕ, zero, suc, _+_, _-_, _*_, _/_, _%_, _≤_, _<_}
+use Prim.Native.Nat.{ℕ, zero, suc, _+_, _-_, _*_, _/_, _%_}
 use mathlib.Core.Bool.{Bool, _&&_}
 use mathlib.Core.List.{List}
 use lib.ListN.{getD}
@@ -47,9 +46,3 @@ scaled w h hm vm picture u v = box 0 0 (w * hm) (h * vm) u v && picture (u / hm)
 -- a figure that starts d dots to the right of the corner
 abbrev pub shifted : ℕ → (ℕ → ℕ → Bool) → ℕ → ℕ → Bool
 shifted d figure u v = leb d u && figure (u - d) v
-
--- serves the code alone: where a run of equal dots ends that starts at dot g of a row of w dots: no dot of the run differs from its first
-pub record Run (row : ℕ → Bool) (g w r : ℕ) : Type 0 where
-  pub more : g < r
-  pub inside : r ≤ w
-  pub same : (k : ℕ) → g ≤ k → k < r → row k ≡ row g

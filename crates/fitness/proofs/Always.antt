@@ -3,7 +3,8 @@ use mathlib.Core.Path.{_≡_, refl, sym, ap, _∙_}
 use mathlib.Core.Bool.{Bool, true, false, _&&_, _||_, cond, false≢true, true≢false}
 use mathlib.Core.List.{List, [], _∷_}
 use mathlib.Core.Logic.{_↔_, ⊎-elim}
-use Prim.Native.Nat.{ℕ, _≤_}
+use Prim.Native.Char.{code}
+use Prim.Native.Nat.{ℕ, zero, suc, _+_, _/_, _%_, _^_, _≤_}
 use native.Mathlib.Nat.{one-le-pow}
 use native.Mathlib.Omega.{arith}
 use lib.ListN.{length, replicate, length-append, length-replicate}
@@ -13,20 +14,21 @@ use Rattle.kinds.specs.declared.Kind.{Kind}
 use Rattle.kinds.specs.declared.Kind.the-variants.{Shown, Code39, Interleaved, Ean13, Code128}
 use Rattle.kinds.specs.Bytes.{between, isDigit, allIn}
 use Rattle.kinds.specs.Fit.{inClass, fitLength, fit}
-use Rattle.fields.specs.declared.Part.{Part}
-use Rattle.fields.specs.declared.What.{What}
-use Rattle.fields.specs.declared.What.the-variants.{Text, Variable, Counter}
-use Rattle.fields.specs.declared.Element.{Element}
-use Rattle.values.specs.declared.declarations.Declared.{Declared}
-use Rattle.values.specs.Declarations.{lengthAt, sideAt, widthAt}
-use Rattle.values.specs.Counters.{digits}
-use Rattle.values.specs.Stored.{legal, fits}
-use Rattle.values.specs.Data.{partOf, pieceFrom, pieceOf, pieceAt, Values, valueOf, assembled}
-use Rattle.values.proofs.Lists.{in-range, range-low, range-high, all-join, all-first, all-second, all-none, all-wider, all-replicate, replicate-some, length-digits, all-digits}
-use Rattle.values.proofs.Fields.{zero-digit}
+use Rattle.elements.specs.declared.Part.{Part}
+use Rattle.elements.specs.declared.What.{What}
+use Rattle.elements.specs.declared.What.the-variants.{Text, Variable, Counter}
+use Rattle.elements.specs.declared.Element.{Element}
+use Rattle.declarations.specs.declared.Declared.{Declared}
+use Rattle.declarations.specs.Declarations.{lengthAt, sideAt, widthAt}
+use Rattle.counters.specs.Counters.{digits}
+use Rattle.padding.specs.Padding.{legal, fits}
+use Rattle.pieces.specs.Data.{partOf, pieceFrom, pieceOf, pieceAt, Values, valueOf, assembled}
+use Rattle.padding.proofs.Ranges.{in-range, range-low, range-high, all-join, all-first, all-second, all-none, all-wider, all-replicate, replicate-some}
+use Rattle.counters.proofs.Tens.{length-digits}
+use Rattle.padding.proofs.Padded.{zero-digit}
 use Rattle.ground.proofs.Tests.{or-first, or-second, and-left, and-right, and-both}
 use Rattle.fitness.specs.Permitted.{Permitted, AlwaysFit}
-use Rattle.fitness.specs.Summary.{partLength, fewest, leastOf, mostOf, takesAll, goodOf, least, most, good, judged}
+use Rattle.summary.specs.Summary.{partLength, fewest, leastOf, mostOf, takesAll, goodOf, least, most, good, judged}
 use Rattle.fitness.proofs.Parts.{length-part, all-part, part-replicate, part-grows}
 
 -- ---- classes
@@ -57,7 +59,7 @@ digit-legal b h =
     or-second (between 32 33 b) (between 35 126 b) (in-range 35 126 b (omega (arith, range-low 48 57 b h)) (omega (arith, range-high 48 57 b h)))
 
 -- the star is legal, and of a kind's class exactly when every legal byte is
-pub star-in : (c : Kind) → inClass c 42 ≡ takesAll c
+pub star-in : (c : Kind) → inClass c (code "*") ≡ takesAll c
 unfolding inClass between
 star-in Shown = refl
 star-in Code39 = refl
@@ -65,9 +67,18 @@ star-in Interleaved = refl
 star-in Ean13 = refl
 star-in Code128 = refl
 
-star-legal : legal 42 ≡ true
+star-legal : legal (code "*") ≡ true
 unfolding between
 star-legal = refl
+
+-- a counter shows digits alone
+one-digit : (x : ℕ) → isDigit (48 + x % 10) ≡ true
+one-digit x = in-range 48 57 (48 + x % 10) (omega arith) (omega arith)
+
+all-digits : (w n : ℕ) → allIn isDigit (digits w n) ≡ true
+unfolding digits
+all-digits zero n = refl
+all-digits (suc w) n = and-both (isDigit (48 + n / 10 ^ w % 10)) (allIn isDigit (digits w n)) (one-digit (n / 10 ^ w)) (all-digits w n)
 
 -- ---- lengths
 
@@ -88,20 +99,20 @@ pub record Fitting (side m : ℕ) (v : List ℕ) : Type 0 where
   pub atLeast : fewest side m ≤ length v
   pub atMost : length v ≤ m
   pub legals : allIn legal v ≡ true
-  pub digitsOnly : eqb side 90 ≡ true → allIn isDigit v ≡ true
+  pub digitsOnly : eqb side (code "Z") ≡ true → allIn isDigit v ≡ true
 
 pub fits-facts : (side m : ℕ) (v : List ℕ) → fits side m v ≡ true → Fitting side m v
 unfolding fits
-fits-facts side m v h = go (eqb side 78) (eqb side 90) refl refl h
+fits-facts side m v h = go (eqb side (code "N")) (eqb side (code "Z")) refl refl h
   where
-    go : (a b : Bool) → eqb side 78 ≡ a → eqb side 90 ≡ b
+    go : (a b : Bool) → eqb side (code "N") ≡ a → eqb side (code "Z") ≡ b
         → cond a (leb (length v) m && allIn legal v) (cond b (eqb (length v) m && allIn isDigit v) (eqb (length v) m && allIn legal v)) ≡ true
         → Fitting side m v
     go true b p q f = record {
       atLeast = rw p (omega arith);
       atMost = leb-true (length v) m (and-left (leb (length v) m) (allIn legal v) f);
       legals = and-right (leb (length v) m) (allIn legal v) f;
-      digitsOnly = λ z. absurd (omega (arith, eqb-true side 78 p, eqb-true side 90 z));
+      digitsOnly = λ z. absurd (omega (arith, eqb-true side (code "N") p, eqb-true side (code "Z") z));
     }
     go false true p q f =
         let e = eqb-true (length v) m (and-left (eqb (length v) m) (allIn isDigit v) f) in
@@ -123,10 +134,10 @@ fits-facts side m v h = go (eqb side 78) (eqb side 90) refl refl h
 -- ---- the two extremes: every variable as short as it may be, and as long
 
 pub lowValue : ℕ → ℕ → List ℕ
-lowValue side m = cond (eqb side 78) [] (cond (eqb side 90) (replicate m 48) (replicate m 42))
+lowValue side m = cond (eqb side (code "N")) [] (cond (eqb side (code "Z")) (replicate m (code "0")) (replicate m (code "*")))
 
 pub highValue : ℕ → ℕ → List ℕ
-highValue side m = cond (eqb side 90) (replicate m 48) (replicate m 42)
+highValue side m = cond (eqb side (code "Z")) (replicate m (code "0")) (replicate m (code "*"))
 
 pub low : Declared → Values
 low d = record { variable = λ k. lowValue (sideAt d k) (lengthAt d k); counter = λ k. 0 }
@@ -142,22 +153,22 @@ at-most-same q m x h = and-both (leb (length (replicate m x)) m) (allIn q (repli
 
 low-fits : (side m : ℕ) → fits side m (lowValue side m) ≡ true
 unfolding fits lowValue
-low-fits side m = go (eqb side 78) (eqb side 90) refl refl
+low-fits side m = go (eqb side (code "N")) (eqb side (code "Z")) refl refl
   where
-    go : (a b : Bool) → eqb side 78 ≡ a → eqb side 90 ≡ b → fits side m (lowValue side m) ≡ true
+    go : (a b : Bool) → eqb side (code "N") ≡ a → eqb side (code "Z") ≡ b → fits side m (lowValue side m) ≡ true
     go true b p q = rw p (and-both (leb 0 m) true (le-leb 0 m (omega arith)) refl)
     go false true p q = rw (p, q) (all-same isDigit m 48 zero-digit)
-    go false false p q = rw (p, q) (all-same legal m 42 star-legal)
+    go false false p q = rw (p, q) (all-same legal m (code "*") star-legal)
 
 high-fits : (side m : ℕ) → fits side m (highValue side m) ≡ true
 unfolding fits highValue
-high-fits side m = go (eqb side 78) (eqb side 90) refl refl
+high-fits side m = go (eqb side (code "N")) (eqb side (code "Z")) refl refl
   where
-    go : (a b : Bool) → eqb side 78 ≡ a → eqb side 90 ≡ b → fits side m (highValue side m) ≡ true
-    go true true p q = absurd (omega (arith, eqb-true side 78 p, eqb-true side 90 q))
-    go true false p q = rw (p, q) (at-most-same legal m 42 star-legal)
+    go : (a b : Bool) → eqb side (code "N") ≡ a → eqb side (code "Z") ≡ b → fits side m (highValue side m) ≡ true
+    go true true p q = absurd (omega (arith, eqb-true side (code "N") p, eqb-true side (code "Z") q))
+    go true false p q = rw (p, q) (at-most-same legal m (code "*") star-legal)
     go false true p q = rw (p, q) (all-same isDigit m 48 zero-digit)
-    go false false p q = rw (p, q) (all-same legal m 42 star-legal)
+    go false false p q = rw (p, q) (all-same legal m (code "*") star-legal)
 
 pub low-permitted : (d : Declared) → Permitted d (low d)
 unfolding low
@@ -169,20 +180,20 @@ high-permitted d = record { variables = λ k. high-fits (sideAt d k) (lengthAt d
 
 low-length : (side m : ℕ) → length (lowValue side m) ≡ fewest side m
 unfolding lowValue
-low-length side m = go (eqb side 78) (eqb side 90) refl refl
+low-length side m = go (eqb side (code "N")) (eqb side (code "Z")) refl refl
   where
-    go : (a b : Bool) → eqb side 78 ≡ a → eqb side 90 ≡ b → length (lowValue side m) ≡ fewest side m
+    go : (a b : Bool) → eqb side (code "N") ≡ a → eqb side (code "Z") ≡ b → length (lowValue side m) ≡ fewest side m
     go true b p q = rw p
-    go false true p q = rw (p, q) (length-replicate m 48)
-    go false false p q = rw (p, q) (length-replicate m 42)
+    go false true p q = rw (p, q) (length-replicate m (code "0"))
+    go false false p q = rw (p, q) (length-replicate m (code "*"))
 
 high-length : (side m : ℕ) → length (highValue side m) ≡ m
 unfolding highValue
-high-length side m = go (eqb side 90) refl
+high-length side m = go (eqb side (code "Z")) refl
   where
-    go : (b : Bool) → eqb side 90 ≡ b → length (highValue side m) ≡ m
-    go true q = rw q (length-replicate m 48)
-    go false q = rw q (length-replicate m 42)
+    go : (b : Bool) → eqb side (code "Z") ≡ b → length (highValue side m) ≡ m
+    go true q = rw q (length-replicate m (code "0"))
+    go false q = rw q (length-replicate m (code "*"))
 
 -- ---- one element
 
@@ -204,7 +215,7 @@ module _ (line : List ℕ) (d : Declared) (v : Values) (h : Permitted d v) (e : 
   piece-most (Variable k p) = rw length-part (part-grows p (length (v .variable k)) (lengthAt d k) (fact k .atMost))
   piece-most (Counter k p) = rw (length-part, length-digits) (omega arith)
 
-  variable-good : (c : Kind) (k : ℕ) (p : Part) (t z n : Bool) → takesAll c ≡ t → eqb (sideAt d k) 90 ≡ z → eqb (partLength p (lengthAt d k)) 0 ≡ n
+  variable-good : (c : Kind) (k : ℕ) (p : Part) (t z n : Bool) → takesAll c ≡ t → eqb (sideAt d k) (code "Z") ≡ z → eqb (partLength p (lengthAt d k)) 0 ≡ n
       → (t || (z || n)) ≡ true → allIn (inClass c) (partOf p (v .variable k)) ≡ true
   variable-good c k p true z n et ez en g = all-part (inClass c) p (v .variable k) (all-wider legal (inClass c) (v .variable k) (legal-in c et) (fact k .legals))
   variable-good c k p false true n et ez en g = all-part (inClass c) p (v .variable k) (all-wider isDigit (inClass c) (v .variable k) (digit-in c) (fact k .digitsOnly ez))
@@ -215,23 +226,23 @@ module _ (line : List ℕ) (d : Declared) (v : Values) (h : Permitted d v) (e : 
 
   pub piece-good : (c : Kind) (w : What) → goodOf c line d e w ≡ true → allIn (inClass c) (pieceBy line d v e w) ≡ true
   piece-good c Text g = g
-  piece-good c (Variable k p) g = variable-good c k p (takesAll c) (eqb (sideAt d k) 90) (eqb (partLength p (lengthAt d k)) 0) refl refl refl g
+  piece-good c (Variable k p) g = variable-good c k p (takesAll c) (eqb (sideAt d k) (code "Z")) (eqb (partLength p (lengthAt d k)) 0) refl refl refl g
   piece-good c (Counter k p) g =
       all-part (inClass c) p (digits (widthAt d k) (v .counter k))
       (all-wider isDigit (inClass c) (digits (widthAt d k) (v .counter k)) (digit-in c) (all-digits (widthAt d k) (v .counter k)))
 
 -- of a strict kind a good element has one length
-variable-steady : (d : Declared) (k : ℕ) (p : Part) (a z n : Bool) → eqb (sideAt d k) 78 ≡ a → eqb (sideAt d k) 90 ≡ z → eqb (partLength p (lengthAt d k)) 0 ≡ n
+variable-steady : (d : Declared) (k : ℕ) (p : Part) (a z n : Bool) → eqb (sideAt d k) (code "N") ≡ a → eqb (sideAt d k) (code "Z") ≡ z → eqb (partLength p (lengthAt d k)) 0 ≡ n
     → (z || n) ≡ true → partLength p (fewest (sideAt d k) (lengthAt d k)) ≡ partLength p (lengthAt d k)
 variable-steady d k p false z n ea ez en g = rw ea
-variable-steady d k p true true n ea ez en g = absurd (omega (arith, eqb-true (sideAt d k) 78 ea, eqb-true (sideAt d k) 90 ez))
+variable-steady d k p true true n ea ez en g = absurd (omega (arith, eqb-true (sideAt d k) (code "N") ea, eqb-true (sideAt d k) (code "Z") ez))
 variable-steady d k p true false true ea ez en g = rw ea (omega (arith, part-grows p 0 (lengthAt d k) (omega arith), eqb-true (partLength p (lengthAt d k)) 0 en))
 variable-steady d k p true false false ea ez en g = absurd (false≢true g)
 
 pub piece-steady : (line : List ℕ) (d : Declared) (e : Element) (c : Kind) → takesAll c ≡ false → (w : What) → goodOf c line d e w ≡ true → leastOf line d e w ≡ mostOf line d e w
 piece-steady line d e c s Text g = refl
 piece-steady line d e c s (Variable k p) g =
-    variable-steady d k p (eqb (sideAt d k) 78) (eqb (sideAt d k) 90) (eqb (partLength p (lengthAt d k)) 0) refl refl refl (rw s at g)
+    variable-steady d k p (eqb (sideAt d k) (code "N")) (eqb (sideAt d k) (code "Z")) (eqb (partLength p (lengthAt d k)) 0) refl refl refl (rw s at g)
 piece-steady line d e c s (Counter k p) g = refl
 
 module _ (line : List ℕ) (d : Declared) (e : Element) where
@@ -247,20 +258,20 @@ module _ (line : List ℕ) (d : Declared) (e : Element) where
   piece-high (Variable k p) = rw (length-part, high-length)
   piece-high (Counter k p) = rw (length-part, length-digits)
 
-  variable-high : (c : Kind) (k : ℕ) (p : Part) (z : Bool) → eqb (sideAt d k) 90 ≡ z → allIn (inClass c) (partOf p (highValue (sideAt d k) (lengthAt d k))) ≡ true
+  variable-high : (c : Kind) (k : ℕ) (p : Part) (z : Bool) → eqb (sideAt d k) (code "Z") ≡ z → allIn (inClass c) (partOf p (highValue (sideAt d k) (lengthAt d k))) ≡ true
       → goodOf c line d e (Variable k p) ≡ true
   unfolding highValue
-  variable-high c k p true ez g = or-second (takesAll c) (eqb (sideAt d k) 90 || eqb (partLength p (lengthAt d k)) 0) (or-first (eqb (sideAt d k) 90) (eqb (partLength p (lengthAt d k)) 0) ez)
+  variable-high c k p true ez g = or-second (takesAll c) (eqb (sideAt d k) (code "Z") || eqb (partLength p (lengthAt d k)) 0) (or-first (eqb (sideAt d k) (code "Z")) (eqb (partLength p (lengthAt d k)) 0) ez)
   variable-high c k p false ez g = ⊎-elim
-      (λ (e : partLength p (lengthAt d k) ≡ 0). or-second (takesAll c) (eqb (sideAt d k) 90 || eqb (partLength p (lengthAt d k)) 0)
-      (or-second (eqb (sideAt d k) 90) (eqb (partLength p (lengthAt d k)) 0) (eq-eqb (partLength p (lengthAt d k)) 0 e)))
-      (λ (e : inClass c 42 ≡ true). or-first (takesAll c) (eqb (sideAt d k) 90 || eqb (partLength p (lengthAt d k)) 0) (sym (star-in c) ∙ e))
-      (replicate-some (inClass c) (partLength p (lengthAt d k)) 42 (rw (ez, part-replicate) at g))
+      (λ (e : partLength p (lengthAt d k) ≡ 0). or-second (takesAll c) (eqb (sideAt d k) (code "Z") || eqb (partLength p (lengthAt d k)) 0)
+      (or-second (eqb (sideAt d k) (code "Z")) (eqb (partLength p (lengthAt d k)) 0) (eq-eqb (partLength p (lengthAt d k)) 0 e)))
+      (λ (e : inClass c (code "*") ≡ true). or-first (takesAll c) (eqb (sideAt d k) (code "Z") || eqb (partLength p (lengthAt d k)) 0) (sym (star-in c) ∙ e))
+      (replicate-some (inClass c) (partLength p (lengthAt d k)) (code "*") (rw (ez, part-replicate) at g))
 
   pub good-high : (c : Kind) (w : What) → allIn (inClass c) (pieceBy line d (high d) e w) ≡ true → goodOf c line d e w ≡ true
   unfolding high
   good-high c Text g = g
-  good-high c (Variable k p) g = variable-high c k p (eqb (sideAt d k) 90) refl g
+  good-high c (Variable k p) g = variable-high c k p (eqb (sideAt d k) (code "Z")) refl g
   good-high c (Counter k p) g = refl
 
 -- ---- all elements

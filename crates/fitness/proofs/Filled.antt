@@ -13,18 +13,23 @@ use borrow.Author.Tests.{lt-ltb, le-ltb}
 use Rattle.kinds.specs.declared.Kind.{Kind}
 use Rattle.kinds.specs.Bytes.{allIn}
 use Rattle.kinds.specs.Fit.{fit}
-use Rattle.fields.specs.declared.Element.{Element}
-use Rattle.values.specs.declared.declarations.Declared.{Declared}
-use Rattle.values.specs.declared.counters.Counters.{Counters}
-use Rattle.values.specs.Declarations.{tenth, lengthAt, sideAt, widthAt, variableDeclared, counterDeclared}
-use Rattle.values.specs.Counters.{tenTo, counterSet, counterValue}
-use Rattle.values.specs.Stored.{fieldAt, valueIn, variableIn, fieldSet, fits, isZero, keeps, fieldSound, counterSound, valuesSound, allSet}
-use Rattle.values.specs.Data.{assembled, valuesIn}
-use Rattle.values.proofs.Tens.{ten-is}
-use Rattle.values.proofs.Sound.{sound-at, set-at, zero-at, field-sound-facts, counter-sound-facts}
+use Rattle.elements.specs.declared.Element.{Element}
+use Rattle.declarations.specs.declared.Declared.{Declared}
+use Rattle.counters.specs.declared.Counters.{Counters}
+use Rattle.declarations.specs.Declarations.{tenth, lengthAt, sideAt, widthAt, variableDeclared, counterDeclared}
+use Rattle.counters.specs.Counters.{tenTo, counterSet, counterValue}
+use Rattle.stored_values.specs.Stored.{fieldAt, valueIn, variableIn, fieldSet, isZero, keeps, fieldSound}
+use Rattle.padding.specs.Padding.{fits}
+use Rattle.counters.specs.Counters.{counterSound}
+use Rattle.values.specs.Sound.{valuesSound, allSet}
+use Rattle.pieces.specs.Data.{assembled, valuesIn}
+use Rattle.counters.proofs.Tens.{ten-is}
+use Rattle.values.proofs.Sound.{sound-at, set-at}
+use Rattle.stored_values.proofs.Fields.{zero-at, field-sound-facts}
+use Rattle.counters.proofs.Sound.{counter-sound-facts}
 use Rattle.ground.proofs.Tests.{and-left, and-right}
 use Rattle.fitness.specs.Permitted.{Permitted}
-use Rattle.fitness.specs.Summary.{judged}
+use Rattle.summary.specs.Summary.{judged}
 use Rattle.fitness.proofs.Always.{judged-always}
 
 -- ---- variables

@@ -1,16 +1,17 @@
 -- Laws of `partOf`: how long a part is, what its bytes are, and parts of equal bytes.
 use mathlib.Core.Path.{_≡_, refl, ap}
 use mathlib.Core.Bool.{Bool, true}
-use mathlib.Core.List.{List}
-use Prim.Native.Nat.{ℕ, _-_, _≤_, min}
+use mathlib.Core.List.{List, _∷_}
+use Prim.Native.Nat.{ℕ, zero, suc, _-_, _≤_, min}
+use native.Mathlib.Nat.{zero-min, min-zero, suc-min-suc, sub-zero, zero-sub, suc-sub-suc}
 use native.Mathlib.Omega.{arith}
-use lib.ListN.{length, drop, replicate, length-take, length-drop, length-replicate}
+use lib.ListN.{length, take, drop, replicate, length-take, length-drop, length-replicate}
 use Rattle.kinds.specs.Bytes.{allIn}
-use Rattle.fields.specs.declared.Part.{Part}
-use Rattle.fields.specs.declared.Part.the-variants.{Whole, First, Last, Middle}
-use Rattle.values.specs.Data.{partOf}
-use Rattle.fitness.specs.Summary.{partLength}
-use Rattle.values.proofs.Lists.{all-take, all-drop, take-replicate, drop-replicate}
+use Rattle.elements.specs.declared.Part.{Part}
+use Rattle.elements.specs.declared.Part.the-variants.{Whole, First, Last, Middle}
+use Rattle.pieces.specs.Data.{partOf}
+use Rattle.summary.specs.Summary.{partLength}
+use Rattle.padding.proofs.Ranges.{all-take, all-drop}
 
 pub length-part : (p : Part) (v : List ℕ) → length (partOf p v) ≡ partLength p (length v)
 unfolding partOf partLength
@@ -25,6 +26,16 @@ all-part q Whole v h = h
 all-part q (First n) v h = all-take q n v h
 all-part q (Last n) v h = all-drop q (length v - n) v h
 all-part q (Middle p n) v h = all-take q n (drop (p - 1) v) (all-drop q (p - 1) v h)
+
+take-replicate : (n m x : ℕ) → take n (replicate m x) ≡ replicate (min n m) x
+take-replicate zero m x = rw zero-min
+take-replicate (suc n) zero x = rw min-zero
+take-replicate (suc n) (suc m) x = rw suc-min-suc (ap (λ (t : List ℕ). x ∷ t) (take-replicate n m x))
+
+drop-replicate : (n m x : ℕ) → drop n (replicate m x) ≡ replicate (m - n) x
+drop-replicate zero m x = rw sub-zero
+drop-replicate (suc n) zero x = rw zero-sub
+drop-replicate (suc n) (suc m) x = rw suc-sub-suc (drop-replicate n m x)
 
 pub part-replicate : (p : Part) (m x : ℕ) → partOf p (replicate m x) ≡ replicate (partLength p m) x
 unfolding partOf partLength

@@ -4,19 +4,19 @@ use mathlib.Core.Bool.{Bool, true, false, cond, _||_}
 use mathlib.Core.List.{List}
 use Prim.Native.Nat.{ℕ}
 use Rattle.kinds.specs.declared.Kind.{Kind}
-use Rattle.fields.specs.declared.Element.{Element}
-use Rattle.fields.specs.declared.Step.the-variants.{Next, Stop}
-use Rattle.fields.specs.Data.{elementAt, elements, after}
-use Rattle.fields.proofs.Steps.{elements-next, elements-stop}
-use Rattle.values.specs.declared.declarations.Declared.{Declared}
-use Rattle.fitness.specs.declared.answers.DataAnswer.the-variants.{Good, Past as Reaches}
-use Rattle.fitness.specs.declared.judging.Judgement.the-variants.{Undeclared}
-use Rattle.fitness.specs.declared.summary.Summary.{Summary as Sum}
-use Rattle.fitness.specs.Answers.{undeclaredBy, pastBy, answered, dataAnswer}
-use Rattle.fitness.specs.Summary.{judged, summary, summaryOf, joined, decided}
+use Rattle.elements.specs.declared.Element.{Element}
+use Rattle.elements.specs.declared.Step.the-variants.{Next, Stop}
+use Rattle.elements.specs.Elements.{elementAt, elements, after}
+use Rattle.elements.proofs.Steps.{elements-next, elements-stop}
+use Rattle.declarations.specs.declared.Declared.{Declared}
+use Rattle.reach.specs.declared.DataAnswer.the-variants.{Good, Past as Reaches}
+use Rattle.fitness.specs.declared.Judgement.the-variants.{Undeclared}
+use Rattle.summary.specs.declared.Summary.{Summary as Sum}
+use Rattle.reach.specs.Answers.{undeclaredBy, pastBy, answered, dataAnswer}
+use Rattle.summary.specs.Summary.{judged, summary, summaryOf, joined, decided}
 use Rattle.fitness.specs.Judged.{withFit, dataJudged}
-use Rattle.fitness.proofs.Answering.{answered-undeclared, answered-next, answered-stop}
-use Rattle.fitness.proofs.Summing.{summed, decided-judged}
+use Rattle.reach.proofs.Answering.{answered-undeclared, answered-next, answered-stop}
+use Rattle.summary.proofs.Summing.{summed, decided-judged}
 
 pub record Walked (line : List ℕ) (at : ℕ) (d : Declared) (kind : Kind) (past : Bool) (s : Sum) (i : ℕ) : Type 0 where
   pub answer : answered d past (elements line i) ≡ dataAnswer d (elements line at)

@@ -6,11 +6,11 @@ use mathlib.Core.Bool.{true}
 use mathlib.Core.List.{List}
 use Rattle.kinds.specs.declared.Kind.{Kind}
 use Rattle.kinds.specs.Fit.{fit}
-use Rattle.fields.specs.declared.Element.{Element}
-use Rattle.values.specs.declared.declarations.Declared.{Declared}
-use Rattle.values.specs.Declarations.{lengthAt, sideAt, widthAt}
-use Rattle.values.specs.Stored.{fits}
-use Rattle.values.specs.Data.{Values, assembled}
+use Rattle.elements.specs.declared.Element.{Element}
+use Rattle.declarations.specs.declared.Declared.{Declared}
+use Rattle.declarations.specs.Declarations.{lengthAt, sideAt, widthAt}
+use Rattle.padding.specs.Padding.{fits}
+use Rattle.pieces.specs.Data.{Values, assembled}
 
 -- every variable holds a value that fits its declaration, every counter a number of its width, independently; one that is not declared
 -- has length or width 0. A variable has one value however often it is named

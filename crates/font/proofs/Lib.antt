@@ -2,5 +2,3 @@
 pub mod Passes
 pub mod Enough
 pub mod Writing
-pub mod Cells
-pub mod Lines

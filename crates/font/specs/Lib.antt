@@ -1,4 +1,3 @@
 pub mod Rules
 pub mod Written
-pub mod Text
 pub mod Samples

@@ -5,18 +5,19 @@ use mathlib.Core.Bool.{Bool, true, false, cond}
 use mathlib.Core.List.{List, [], _∷_}
 use Prim.Native.Nat.{ℕ}
 use lib.Dec.{eqb}
-use Rattle.store.specs.declared.Found.{Found}
-use Rattle.store.specs.declared.Found.the-variants.{At, Nothing}
-use Rattle.moves.specs.Memory.{Memory}
-use Rattle.moves.specs.Start.{hasRoom, started, begun}
-use Rattle.read.specs.declared.FormCommand.{FormCommand}
-use Rattle.read.specs.declared.FormCommand.the-variants.{Start, Retrieve, Erase}
+use Rattle.finding.specs.declared.Found.{Found}
+use Rattle.finding.specs.declared.Found.the-variants.{At, Nothing}
+use Rattle.memory.specs.Memory.{Memory}
+use Rattle.room.specs.Room.{hasRoom}
+use Rattle.starting.specs.Start.{started, begun}
+use Rattle.grammar.specs.declared.FormCommand.{FormCommand}
+use Rattle.grammar.specs.declared.FormCommand.the-variants.{Start, Retrieve, Erase}
 use Rattle.session.specs.declared.Session.{Session}
-use Rattle.session.specs.declared.answers.Answer.{Answer}
-use Rattle.session.specs.declared.answers.Answer.the-variants.{Taken, Missing}
-use Rattle.session.specs.Answers.{Row, row, answerOf, isTaken}
+use Rattle.answers.specs.declared.Answer.{Answer}
+use Rattle.answers.specs.declared.Answer.the-variants.{Taken, Missing}
+use Rattle.answers.specs.Answers.{Row, row, answerOf, isTaken}
 use Rattle.session.specs.Session.{activated}
-use Rattle.session.specs.Lent.{World, world}
+use Rattle.lent.specs.Lent.{World, world}
 use Rattle.results.specs.World.{state, unsetIn, inactive}
 use Rattle.results.specs.Result.{done, Ran, ran, ranBy}
 use Rattle.results.specs.Named.{placeOf, named, notFound, erasedNamed, erasedEvery}

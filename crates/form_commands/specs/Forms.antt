@@ -4,17 +4,18 @@ use Prim.Native.Nat.{ℕ}
 use mathlib.Core.Bool.{true, false, not, cond}
 use mathlib.Core.List.{List, [], _∷_}
 use lib.Dec.{eqb}
-use Rattle.store.specs.declared.Found.{Found}
-use Rattle.moves.specs.Start.{hasRoom, started}
-use Rattle.read.specs.declared.FormCommand.{FormCommand}
-use Rattle.read.specs.declared.FormCommand.the-variants.{Start, Retrieve, Erase}
+use Rattle.finding.specs.declared.Found.{Found}
+use Rattle.room.specs.Room.{hasRoom}
+use Rattle.starting.specs.Start.{started}
+use Rattle.grammar.specs.declared.FormCommand.{FormCommand}
+use Rattle.grammar.specs.declared.FormCommand.the-variants.{Start, Retrieve, Erase}
 use Rattle.parts.specs.Names.{packedOf}
-use Rattle.forms.specs.Form.{isAt}
+use Rattle.recording.specs.Judged.{isAt}
 use Rattle.session.specs.declared.Session.{Session}
-use Rattle.session.specs.declared.answers.Answer.the-variants.{InUse, Missing, Full}
-use Rattle.session.specs.Answers.{Row, row, answerOf}
+use Rattle.answers.specs.declared.Answer.the-variants.{InUse, Missing, Full}
+use Rattle.answers.specs.Answers.{Row, row, answerOf}
 use Rattle.session.specs.Session.{activated}
-use Rattle.session.specs.Lent.{World}
+use Rattle.lent.specs.Lent.{World}
 use Rattle.results.specs.World.{State, state, memoryOf, withMemory, unsetIn, inactive}
 use Rattle.results.specs.Result.{Ran, ranBy}
 use Rattle.results.specs.Named.{placeOf, named, notFound, erasedNamed, erasedEvery}

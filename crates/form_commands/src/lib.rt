@@ -4,13 +4,14 @@
 // A starting form takes one portion." `run_form` promises one equation with `formBy` (specs/Forms.antt): its rows of the table, then what it does.
 ghost use mathlib.Core.Path.{_≡_};
 ghost use mathlib.Core.List.{[]};
-ghost use Rattle.read.specs.declared.FormCommand.the-variants.{Start, Retrieve, Erase};
-ghost use Rattle.session.specs.Lent.{world};
+ghost use Rattle.grammar.specs.declared.FormCommand.the-variants.{Start, Retrieve, Erase};
+ghost use Rattle.lent.specs.Lent.{world};
 ghost use Rattle.results.specs.Result.{ran};
 ghost use Rattle.form_commands.specs.Forms.{formBy};
+use answers::Answer;
+use grammar::FormCommand;
+use grammar::Named;
 use parts::packed;
-use read::FormCommand;
-use read::Named;
 use results::Done;
 use results::activate;
 use results::answered;
@@ -20,7 +21,6 @@ use results::names::is_at;
 use results::names::is_missing;
 use results::names::place_of;
 use results::taken;
-use session::Answer;
 use session::NO_FORM;
 use session::Session;
 
@@ -37,13 +37,13 @@ fn start_form(
     let at = n.at;
     let length = n.length;
     let title = packed(line, at, length);
-    if is_at(store::find(directory, false, title)) {
+    if is_at(finding::find(directory, false, title)) {
         return answered(Answer::InUse, session);
     }
-    if !moves::has_room(links, directory, 0) {
+    if !room::has_room(links, directory, 0) {
         return answered(Answer::Full, session);
     }
-    moves::start(store, links, directory, 3, title);
+    starting::start(store, links, directory, 3, title);
     taken(session)
 }
 
@@ -74,7 +74,7 @@ fn erase_form(
         return answered(Answer::Missing, session);
     }
     if all {
-        moves::erase_all(store, links, directory, false);
+        erasing::erase_all(store, links, directory, false);
         return activate(session, NO_FORM, values);
     }
     let i = place_of(found);

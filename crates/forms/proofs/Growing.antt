@@ -1,7 +1,7 @@
 -- A form that grows by a line: recording is one step of the fold. And the empty form.
 -- Assumes nothing.
 use mathlib.Core.Path.{_≡_, refl, sym, ap, _∙_}
-use mathlib.Core.Bool.{Bool, true, _&&_}
+use mathlib.Core.Bool.{Bool, true, _&&_, and-assoc}
 use mathlib.Core.List.{List, [], _∷_, _++_}
 use mathlib.Core.Logic.{_⊎_, ⊎-elim}
 use Prim.Native.Nat.{ℕ}
@@ -9,13 +9,11 @@ use native.Mathlib.Omega.{arith}
 use lib.ListN.{length}
 use lib.Dec.{eqb}
 use borrow.Author.Tests.{eq-eqb, ne-eqb, eqb-true}
-use Rattle.store.specs.Lines.{Lines, lines, onto, withByte, linesOf}
-use Rattle.values.specs.declared.declarations.Declared.{Declared}
-use Rattle.values.specs.Declarations.{nothing}
+use Rattle.content_lines.specs.Lines.{Lines, lines, onto, withByte, linesOf}
+use Rattle.declarations.specs.declared.Declared.{Declared}
+use Rattle.declarations.specs.Declarations.{nothing}
 use Rattle.ground.proofs.Tests.{same?, and-left, and-right}
 use Rattle.forms.specs.Form.{takes, declaring, takesAll, declaredBy, hasAll, formOk, declaredOf, picturesStored}
-use Rattle.forms.specs.Draw.{Setting, Drawing, drawsLine, drawsLines, formDrawn}
-use Rattle.forms.proofs.Bytes.{and-assoc}
 
 -- ---- the fold over appended lines is the fold continued
 
@@ -30,11 +28,6 @@ pub declaredBy-append : (d : Declared) (ks ls : List (List ℕ)) → declaredBy 
 unfolding declaredBy
 declaredBy-append d [] ls = refl
 declaredBy-append d (k ∷ ks) ls = declaredBy-append (declaring d k) ks ls
-
-pub drawsLines-append : (g : Setting) (w : Drawing) (ks ls : List (List ℕ)) → drawsLines g w (ks ++ ls) ≡ drawsLines g (drawsLines g w ks) ls
-unfolding drawsLines
-drawsLines-append g w [] ls = refl
-drawsLines-append g w (k ∷ ks) ls = drawsLines-append g (drawsLine g w k) ks ls
 
 -- ---- a line more
 
@@ -101,7 +94,3 @@ declaredOf-empty = refl
 pub picturesStored-empty : (directory : List ℕ) → picturesStored directory [] ≡ true
 unfolding picturesStored linesOf hasAll
 picturesStored-empty directory = refl
-
-pub formDrawn-empty : (g : Setting) (x y : ℕ) (page : List ℕ) → formDrawn g x y [] page ≡ page
-unfolding formDrawn linesOf drawsLines
-formDrawn-empty g x y page = refl

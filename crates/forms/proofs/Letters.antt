@@ -3,30 +3,30 @@
 use mathlib.Core.Path.{_≡_, _∙_, refl, sym}
 use mathlib.Core.Bool.{Bool, true, false, not, cond, _&&_, _||_, false≢true}
 use mathlib.Core.List.{List, [], _∷_}
+use Prim.Native.Char.{code}
 use Prim.Native.Nat.{ℕ, suc}
 use native.Mathlib.Omega.{arith}
 use lib.ListN.{length, getD}
 use lib.Dec.{eqb}
-use borrow.Author.Tests.{ne-eqb, not-true}
-use Rattle.fields.specs.declared.Limits.{Limits}
-use Rattle.fields.specs.declared.Limits.the-variants.{Within, Outside}
-use Rattle.values.specs.declared.declarations.Declared.{Declared}
-use Rattle.grammar.specs.declared.Head.{Head}
-use Rattle.grammar.specs.declared.Head.the-variants.{Row, Unknown}
-use Rattle.read.specs.declared.Item.{Item}
-use Rattle.read.specs.declared.Command.{Command}
-use Rattle.grammar.specs.Heads.{capitals, lettersOf, begins, orElse}
-use Rattle.read.specs.Grammar.{Form, forms, find, headBy, headOf, Got, good, bad, rowOf, boundsOf, fieldsFrom, limitsFrom}
-use Rattle.read.specs.Commands.{itemOf, orderOf, isItem, isForm, isPicture, isValue, isListing, commandOf, decided, judged, headed, readOf}
+use borrow.Author.Tests.{ne-eqb}
+use Rattle.data_field.specs.declared.Limits.{Limits}
+use Rattle.data_field.specs.declared.Limits.the-variants.{Within, Outside}
+use Rattle.declarations.specs.declared.Declared.{Declared}
+use Rattle.heads.specs.declared.Head.{Head}
+use Rattle.heads.specs.declared.Head.the-variants.{Row, Unknown}
+use Rattle.heads.specs.Heads.{capitals, lettersOf, begins, orElse, find, headBy, headOf}
+use Rattle.grammar.specs.Named.{GG, VARIABLE, COUNTER}
+use Rattle.grammar.specs.Forms.{Form, forms, rowOf, boundsOf, commandOf, inOrder}
+use Rattle.grammar.proofs.Rows.{_&_, Each, each-row}
+use Rattle.row_fields.specs.Reading.{Got, good, bad, fieldsFrom}
+use Rattle.row_limits.specs.Limits.{limitsFrom}
+use Rattle.read.specs.Commands.{decided, judged, headed, readOf}
 use Rattle.normal.specs.Written.{isNormal}
-use Rattle.forms.specs.declared.Stored.{Stored}
-use Rattle.forms.specs.declared.Stored.the-variants.{Holds, Nothing}
-use Rattle.forms.specs.Judged.{declares}
-use Rattle.forms.specs.Form.{heldCommand, heldRead, itemIn, declaring, declaresStored, hasPicture, hasStored}
-
-choice : {A : Type 0} (q : A → Type 0) (b : Bool) {x y : A} → q x → q y → q (cond b x y)
-choice q true f g = f
-choice q false f g = g
+use Rattle.form_lines.specs.declared.Stored.{Stored}
+use Rattle.form_lines.specs.declared.Stored.the-variants.{Holds, Nothing}
+use Rattle.recording.specs.Judged.{declares, hasPicture}
+use Rattle.form_lines.specs.Held.{heldCommand, heldRead, itemIn}
+use Rattle.forms.specs.Form.{declaring, declaresStored, hasStored}
 
 -- ---- the rows that a letter can name
 
@@ -79,19 +79,16 @@ found-head ok a b c h r e = by (find 3 forms 0 s) (find 2 forms 0 s) refl refl e
 
 -- ---- what a line holds, by its row
 
--- what is no item is not recorded
-order-none : (r : ℕ) (s v p : List ℕ) → heldCommand (orderOf r s v p) ≡ Nothing
-unfolding orderOf
-order-none r s v p =
-    let q : (Command → Type 0) = λ c. heldCommand c ≡ Nothing in
-    choice q (eqb r 13) refl
-    (choice q (isValue r) refl (choice q (isForm r) refl (choice q (isPicture r) refl (choice q (isListing r) refl refl))))
+-- what a row that `ok` names makes, held as a line of a form
+abbrev Holding : (Stored → Type 0) → (ℕ → Bool) → ℕ → Form → Type 0
+Holding q ok k f = ok k ≡ true → (s : List ℕ) (v p : ℕ → ℕ) → q (heldCommand (f .makes s v p))
 
--- what holds of nothing and of each item of the rows that `ok` names holds of a line whose letters name no other row
-module _ (q : Stored → Type 0) (none : q Nothing) (ok : ℕ → Bool) (items : (r : ℕ) (v p : List ℕ) → ok r ≡ true → q (Holds (itemOf r v p)))
-    (line : List ℕ) (rows : others ok (getD line 0 0) forms 0 ≡ true) where
+-- what holds of nothing and of each row that `ok` names holds of a line whose letters name no other row
+module _ (q : Stored → Type 0) (none : q Nothing) (ok : ℕ → Bool) (makes : Each (Holding q ok) forms) (line : List ℕ)
+    (rows : others ok (getD line 0 0) forms 0 ≡ true) where
   command-is : (r : ℕ) (v p : List ℕ) → ok r ≡ true → q (heldCommand (commandOf r line v p))
-  command-is r v p h = choice (λ (c : Command). q (heldCommand c)) (isItem r) (items r v p h) (rw (order-none r line v p) none)
+  command-is r v p h =
+      each-row (Holding q ok) makes r h line (λ i. getD (inOrder (rowOf r .fields) 0 v) i 0) (λ i. getD (inOrder (rowOf r .fields) 0 p) i 0)
 
   read-is : q (heldRead (readOf 1 line))
   unfolding readOf headed judged headOf
@@ -119,50 +116,88 @@ module _ (q : Stored → Type 0) (none : q Nothing) (ok : ℕ → Bool) (items :
 
 -- ---- the letters of pictures and declarations
 
-pub has-other : (directory line : List ℕ) (a : ℕ) → a ≡ getD line 0 0 → (a ≡ 71 → ⊥) → true ≡ hasStored directory line (itemIn line)
-unfolding itemOf hasPicture others
+pub has-other : (directory line : List ℕ) (a : ℕ) → a ≡ getD line 0 0 → (a ≡ code "G" → ⊥) → true ≡ hasStored directory line (itemIn line)
+unfolding hasPicture others
 has-other directory line a e n =
-    sym (item-is (λ (s : Stored). hasStored directory line s ≡ true) refl other items line rows)
+    sym (item-is (λ (s : Stored). hasStored directory line s ≡ true) refl other makes line rows)
   where
     other : ℕ → Bool
-    other r = not (eqb r 11)
+    other r = not (eqb r GG)
 
-    q : Item → Type 0
-    q it = hasPicture directory line it ≡ true
-
-    items : (r : ℕ) (v p : List ℕ) → other r ≡ true → q (itemOf r v p)
-    items r v p h =
-        choice q (eqb r 2) refl
-        (choice q (eqb r 8) refl
-        (choice q (eqb r 9) refl
-        (choice q (eqb r 10) refl
-        (rw (not-true (eqb r 11) h)
-        (choice q (eqb r 22) refl
-        (choice q (eqb r 23) refl refl))))))
+    makes : Each (Holding (λ (s : Stored). hasStored directory line s ≡ true) other) forms
+    makes =
+        (λ e s v p. refl)
+        & (λ e s v p. refl)
+        & (λ e s v p. refl)
+        & (λ e s v p. refl)
+        & (λ e s v p. refl)
+        & (λ e s v p. refl)
+        & (λ e s v p. refl)
+        & (λ e s v p. refl)
+        & (λ e s v p. refl)
+        & (λ e s v p. refl)
+        & (λ e s v p. refl)
+        & (λ e s v p. absurd (false≢true e))
+        & (λ e s v p. refl)
+        & (λ e s v p. refl)
+        & (λ e s v p. refl)
+        & (λ e s v p. refl)
+        & (λ e s v p. refl)
+        & (λ e s v p. refl)
+        & (λ e s v p. refl)
+        & (λ e s v p. refl)
+        & (λ e s v p. refl)
+        & (λ e s v p. refl)
+        & (λ e s v p. refl)
+        & (λ e s v p. refl)
+        & (λ e s v p. refl)
+        & (λ e s v p. refl)
+        & (λ e s v p. refl)
+        & (λ e s v p. refl)
+        & (λ k e s v p. refl)
 
     rows : others other (getD line 0 0) forms 0 ≡ true
-    rows = rw (← e, ne-eqb a 71 n)
+    rows = rw (← e, ne-eqb a (code "G") n)
 
-pub declaring-other : (d : Declared) (line : List ℕ) (a : ℕ) → a ≡ getD line 0 0 → (a ≡ 86 → ⊥) → (a ≡ 67 → ⊥) → d ≡ declaring d line
-unfolding itemOf declares declaring others
+pub declaring-other : (d : Declared) (line : List ℕ) (a : ℕ) → a ≡ getD line 0 0 → (a ≡ code "V" → ⊥) → (a ≡ code "C" → ⊥) → d ≡ declaring d line
+unfolding declares declaring others
 declaring-other d line a e n m =
-    sym (item-is (λ (s : Stored). declaresStored d s ≡ d) refl other items line rows)
+    sym (item-is (λ (s : Stored). declaresStored d s ≡ d) refl other makes line rows)
   where
     other : ℕ → Bool
-    other r = not (eqb r 22) && not (eqb r 23)
+    other r = not (eqb r VARIABLE) && not (eqb r COUNTER)
 
-    q : Item → Type 0
-    q it = declares d it ≡ d
-
-    items : (r : ℕ) (v p : List ℕ) → other r ≡ true → q (itemOf r v p)
-    items r v p h =
-        let n = both (not (eqb r 22)) (not (eqb r 23)) h in
-        choice q (eqb r 2) refl
-        (choice q (eqb r 8) refl
-        (choice q (eqb r 9) refl
-        (choice q (eqb r 10) refl
-        (choice q (eqb r 11) refl
-        (rw (not-true (eqb r 22) (n .0), not-true (eqb r 23) (n .1)))))))
+    makes : Each (Holding (λ (s : Stored). declaresStored d s ≡ d) other) forms
+    makes =
+        (λ e s v p. refl)
+        & (λ e s v p. refl)
+        & (λ e s v p. refl)
+        & (λ e s v p. refl)
+        & (λ e s v p. refl)
+        & (λ e s v p. refl)
+        & (λ e s v p. refl)
+        & (λ e s v p. refl)
+        & (λ e s v p. refl)
+        & (λ e s v p. refl)
+        & (λ e s v p. refl)
+        & (λ e s v p. refl)
+        & (λ e s v p. refl)
+        & (λ e s v p. refl)
+        & (λ e s v p. refl)
+        & (λ e s v p. refl)
+        & (λ e s v p. refl)
+        & (λ e s v p. refl)
+        & (λ e s v p. refl)
+        & (λ e s v p. refl)
+        & (λ e s v p. refl)
+        & (λ e s v p. refl)
+        & (λ e s v p. absurd (false≢true e))
+        & (λ e s v p. absurd (false≢true e))
+        & (λ e s v p. refl)
+        & (λ e s v p. refl)
+        & (λ e s v p. refl)
+        & (λ e s v p. refl)
+        & (λ k e s v p. refl)
 
     rows : others other (getD line 0 0) forms 0 ≡ true
-    rows = rw (← e, ne-eqb a 86 n, ne-eqb a 67 m)
+    rows = rw (← e, ne-eqb a (code "V") n, ne-eqb a (code "C") m)

@@ -1,148 +1,85 @@
--- A reader that goes along a form's lines, and the walks over a form.
+-- Walks over a form: a line more, and from start to end.
 -- Assumes nothing.
 use mathlib.Core.Path.{_≡_, refl, sym, ap, _∙_}
-use mathlib.Core.Bool.{Bool, true, false, cond, _&&_}
-use mathlib.Core.List.{List, []}
-use Prim.Native.Nat.{ℕ, zero, suc, _-_, _≤_, _<_}
+use mathlib.Core.Bool.{Bool, true, false, _&&_, and-false, and-true, and-assoc}
+use mathlib.Core.List.{List, [], _∷_}
+use Prim.Native.Nat.{ℕ, zero, suc, _≤_, _<_}
 use native.Mathlib.Omega.{arith}
 use native.Mathlib.Decide.{decLe}
-use lib.ListN.{length, take}
-use lib.Seq.{take-all}
-use borrow.Author.Tests.{eq-eqb, ne-eqb, lt-ltb, le-ltb}
-use Rattle.cells.proofs.Counts.{drop-none}
-use Rattle.cells.proofs.Sets.{sets-front}
-use Rattle.store.specs.declared.Cursor.{Cursor}
-use Rattle.store.specs.declared.Next.the-variants.{Line, End, Bad}
-use Rattle.store.specs.Content.{bytesFrom, contentOf, content, ahead, onward, after}
-use Rattle.store.specs.Lines.{linesOf, lineOf, nextLine, lined}
-use Rattle.store.proofs.Reading.{length-bytes, length-ahead, ahead-after}
-use Rattle.store.proofs.Lines.{line-most}
-use Rattle.values.specs.declared.declarations.Declared.{Declared}
-use Rattle.forms.specs.declared.walked.Walk.{Walk}
-use Rattle.forms.specs.Form.{itemIn, takes, declaring, takesAll, declaredBy, hasStored, hasAll, formOk, declaredOf, picturesStored}
-use Rattle.forms.specs.Walk.{lineIn, behind, started, restOk, walkOk, walkDeclared, walkHas}
-use Rattle.forms.proofs.Bytes.{and-true, and-assoc}
-use Rattle.forms.proofs.Folding.{behind-less, behind-tail, line-good, line-long, line-cut, rest-step, declared-step, has-step}
+use lib.ListN.{length}
+use lib.Dec.{eqb}
+use borrow.Author.Tests.{ne-eqb}
+use Rattle.contents.specs.Content.{bytesFrom, contentOf, content}
+use Rattle.content_lines.specs.Lines.{linesOf, lineOf}
+use Rattle.contents.proofs.Reading.{length-bytes}
+use Rattle.declarations.specs.declared.Declared.{Declared}
+use Rattle.grammar.specs.declared.Item.{Item}
+use Rattle.form_lines.specs.declared.Stored.the-variants.{Holds, Nothing}
+use Rattle.form_lines.specs.Held.{itemIn}
+use Rattle.form_lines.specs.Walk.{lineIn, behind}
+use Rattle.form_lines.proofs.Folding.{lines-next, lines-last, line-good, line-long, line-cut, item-empty, item-long, fold-step}
+use Rattle.recording.specs.Judged.{declares}
+use Rattle.forms.specs.declared.Walk.{Walk}
+use Rattle.forms.specs.Form.{takes, declaring, takesAll, declaredBy, hasStored, hasAll, formOk, declaredOf, picturesStored}
+use Rattle.forms.specs.Walk.{started, restOk, walkOk, walkDeclared, walkHas}
 
--- ---- what the next line says
+-- ---- what a line holds
 
-module _ (store links : List ℕ) (c : Cursor) where
-  abbrev a : List ℕ
-  a = ahead store links c
+module _ (l : List ℕ) (e : itemIn l ≡ Nothing) where
+  pub takes-none : (d : Declared) → takes d l ≡ false
+  unfolding takes
+  takes-none d = rw e
 
-  abbrev n₀ : ℕ
-  n₀ = length (lineOf a)
+  pub declaring-none : (d : Declared) → declaring d l ≡ d
+  unfolding declaring
+  declaring-none d = rw e
 
-  is-long : 255 < n₀ → nextLine store links c ≡ Bad
-  unfolding nextLine
-  is-long h = rw (lt-ltb 255 n₀ h)
+  pub has-none : (directory : List ℕ) (b : Bool) → (b && hasStored directory l (itemIn l)) ≡ b
+  has-none directory b = rw e (and-true b)
 
-  is-line : n₀ ≤ 255 → n₀ < c .left → nextLine store links c ≡ Line n₀ (after links c (suc n₀))
-  unfolding nextLine
-  is-line h k = rw (le-ltb 255 n₀ h, lt-ltb n₀ (c .left) k)
+pub declaring-holds : (d : Declared) (l : List ℕ) (it : Item) → itemIn l ≡ Holds it → declaring d l ≡ declares d it
+unfolding declaring
+declaring-holds d l it e = rw e
 
-  is-end : c .left ≡ 0 → nextLine store links c ≡ End
-  unfolding nextLine
-  is-end e =
-      rw (le-ltb 255 n₀ (omega (arith, line-most a, length-ahead store links c)), le-ltb n₀ (c .left) (omega (arith, e)), eq-eqb (c .left) 0 e)
+-- ---- a step of a fold
 
-  is-cut : n₀ ≤ 255 → c .left ≤ n₀ → (c .left ≡ 0 → ⊥) → nextLine store links c ≡ Bad
-  unfolding nextLine
-  is-cut h k e = rw (le-ltb 255 n₀ h, le-ltb n₀ (c .left) k, ne-eqb (c .left) 0 e)
+and-swap : (a b c : Bool) → (a && (b && c)) ≡ (b && (a && c))
+and-swap true b c = refl
+and-swap false true c = refl
+and-swap false false c = refl
 
-  pub record Found (n : ℕ) (c′ : Cursor) : Type 0 where
-    pub size : n ≡ n₀
-    pub few : n₀ ≤ 255
-    pub within : n₀ < c .left
-    pub place : c′ ≡ after links c (suc n₀)
+pub declared-step : (d : Declared) (a : List ℕ) → declaredBy (declaring d (lineIn a)) (linesOf (behind a) .whole) ≡ declaredBy d (linesOf a .whole)
+unfolding declaredBy
+declared-step d a = fold-step declaredBy declaring (λ s l ls. refl) (λ s l e. declaring-none l e s) d a
 
-  pub line-says : (n : ℕ) (c′ : Cursor) → nextLine store links c ≡ Line n c′ → Found n c′
-  line-says n c′ e = go (decLe n₀ 255) (decLe (suc n₀) (c .left)) (decLe (c .left) 0)
-    where
-      go : Dec (n₀ ≤ 255) → Dec (suc n₀ ≤ c .left) → Dec (c .left ≤ 0) → Found n c′
-      go (yes h) (yes k) z =
-          let q : Line n₀ (after links c (suc n₀)) ≡ Line n c′ = sym (is-line h (omega arith)) ∙ e in
-          record { size = let m : n ≡ n₀ = cc in m; few = h; within = omega arith; place = let m : c′ ≡ after links c (suc n₀) = cc in m }
-      go (no h) k z = let q : Bad ≡ Line n c′ = sym (is-long (omega arith)) ∙ e in absurd (let y : _≡_ {A = ℕ} 0 1 = cc in let w : ⊥ = omega arith in w)
-      go (yes h) (no k) (yes z) = let q : End ≡ Line n c′ = sym (is-end (omega arith)) ∙ e in absurd (let y : _≡_ {A = ℕ} 0 1 = cc in let w : ⊥ = omega arith in w)
-      go (yes h) (no k) (no z) =
-          let q : Bad ≡ Line n c′ = sym (is-cut h (omega arith) (λ (y : c .left ≡ 0). omega arith)) ∙ e in
-          absurd (let y : _≡_ {A = ℕ} 0 1 = cc in let w : ⊥ = omega arith in w)
+abbrev hasTo : List ℕ → Bool → List (List ℕ) → Bool
+hasTo directory b ls = b && hasAll directory ls
 
-  pub end-says : nextLine store links c ≡ End → c .left ≡ 0
-  end-says e = go (decLe n₀ 255) (decLe (suc n₀) (c .left)) (decLe (c .left) 0)
-    where
-      go : Dec (n₀ ≤ 255) → Dec (suc n₀ ≤ c .left) → Dec (c .left ≤ 0) → c .left ≡ 0
-      go h k (yes z) = omega arith
-      go (no h) k (no z) = let q : Bad ≡ End = sym (is-long (omega arith)) ∙ e in absurd (let y : _≡_ {A = ℕ} 0 1 = cc in let w : ⊥ = omega arith in w)
-      go (yes h) (yes k) (no z) =
-          let q : Line n₀ (after links c (suc n₀)) ≡ End = sym (is-line h (omega arith)) ∙ e in
-          absurd (let y : _≡_ {A = ℕ} 0 1 = cc in let w : ⊥ = omega arith in w)
-      go (yes h) (no k) (no z) =
-          let q : Bad ≡ End = sym (is-cut h (omega arith) (λ (y : c .left ≡ 0). omega arith)) ∙ e in
-          absurd (let y : _≡_ {A = ℕ} 0 1 = cc in let w : ⊥ = omega arith in w)
+abbrev hasMore : List ℕ → Bool → List ℕ → Bool
+hasMore directory b l = b && hasStored directory l (itemIn l)
 
-  -- no line that a form may have: bytes are there, and none of them is taken
-  pub bad-says : nextLine store links c ≡ Bad → (0 < n₀) × (lineIn a ≡ [])
-  bad-says e = go (decLe n₀ 255) (decLe (suc n₀) (c .left)) (decLe (c .left) 0)
-    where
-      go : Dec (n₀ ≤ 255) → Dec (suc n₀ ≤ c .left) → Dec (c .left ≤ 0) → (0 < n₀) × (lineIn a ≡ [])
-      go (no h) k z = (omega arith, line-long a (omega arith))
-      go (yes h) (yes k) z =
-          let q : Line n₀ (after links c (suc n₀)) ≡ Bad = sym (is-line h (omega arith)) ∙ e in
-          absurd (let y : _≡_ {A = ℕ} 0 1 = cc in let w : ⊥ = omega arith in w)
-      go (yes h) (no k) (yes z) = let q : End ≡ Bad = sym (is-end (omega arith)) ∙ e in absurd (let y : _≡_ {A = ℕ} 0 1 = cc in let w : ⊥ = omega arith in w)
-      go (yes h) (no k) (no z) = (omega arith, line-cut a (omega (arith, length-ahead store links c)))
+has-more : (directory : List ℕ) (b : Bool) (l : List ℕ) (ls : List (List ℕ)) → hasTo directory b (l ∷ ls) ≡ hasTo directory (hasMore directory b l) ls
+unfolding hasAll
+has-more directory b l ls = sym (and-assoc b (hasStored directory l (itemIn l)) (hasAll directory ls))
 
-  -- ---- what is ahead then
+pub has-step : (directory : List ℕ) (b : Bool) (a : List ℕ)
+    → ((b && hasStored directory (lineIn a) (itemIn (lineIn a))) && hasAll directory (linesOf (behind a) .whole)) ≡ (b && hasAll directory (linesOf a .whole))
+has-step directory b a = fold-step (hasTo directory) (hasMore directory) (has-more directory) (λ s l e. has-none l e directory s) b a
 
-  pub line-behind : (n : ℕ) (c′ : Cursor) → nextLine store links c ≡ Line n c′ → ahead store links c′ ≡ behind a
-  unfolding behind
-  line-behind n c′ e =
-      let f = line-says n c′ e in
-      ap (ahead store links) (f .place) ∙ ahead-after store links c (suc n₀) (omega (arith, f .within))
-
-  pub end-behind : nextLine store links c ≡ End → a ≡ behind a
-  unfolding behind
-  end-behind e =
-      let z = end-says e in
-      drop-none a 0 (omega (arith, length-ahead store links c)) ∙ sym (drop-none a (suc n₀) (omega (arith, length-ahead store links c)))
-
-  pub bad-behind : nextLine store links c ≡ Bad → behind (ahead store links (onward links c)) ≡ behind a
-  unfolding after
-  bad-behind e =
-      let b = bad-says e in
-      ap behind (ahead-after store links c 1 (omega (arith, b .0, line-most a, length-ahead store links c))) ∙ behind-tail a (b .0)
-
-  pub bad-less : nextLine store links c ≡ Bad → suc (c .left - 1) ≤ c .left
-  bad-less e = omega (arith, bad-says e .0, line-most a, length-ahead store links c)
-
-  -- ---- the line at the front of a buffer
-
-  pub line-front : (n : ℕ) (c′ : Cursor) (buffer buffer′ : List ℕ) → length buffer ≡ 256 → nextLine store links c ≡ Line n c′
-      → buffer′ ≡ lined store links c buffer → take n buffer′ ≡ lineIn a
-  unfolding lined
-  line-front n c′ buffer buffer′ l e b =
-      let f = line-says n c′ e in
-      rw (b, f .size, take-all 255 (lineOf a) (f .few))
-      (sets-front buffer (lineOf a) (omega (arith, f .few)) ∙ sym (line-good a (omega (arith, f .within, length-ahead store links c)) (f .few)))
-
-  pub end-front : nextLine store links c ≡ End → [] ≡ lineIn a
-  end-front e = sym (line-cut a (omega (arith, end-says e, length-ahead store links c)))
-
--- ---- a search for the end of a line
-
-pub search-goes : (g : Bool) (x y z : List ℕ) → g ≡ true → cond g x y ≡ z → x ≡ z
-search-goes true x y z h e = e
-search-goes false x y z h e = absurd (let y : _≡_ {A = ℕ} 0 1 = cc in let w : ⊥ = omega arith in w)
-
-pub search-ends : (g : Bool) (x y z : List ℕ) → g ≡ false → cond g x y ≡ z → y ≡ z
-search-ends false x y z h e = e
-search-ends true x y z h e = absurd (let y : _≡_ {A = ℕ} 0 1 = cc in let w : ⊥ = omega arith in w)
-
-pub search-less : (g : Bool) (m n : ℕ) → g ≡ true → m ≤ n → m < cond g (suc n) 0
-search-less true m n h k = omega arith
-search-less false m n h k = absurd (let y : _≡_ {A = ℕ} 0 1 = cc in let w : ⊥ = omega arith in w)
+pub rest-step : (d : Declared) (a : List ℕ) → 0 < length a → (takes d (lineIn a) && restOk (declaring d (lineIn a)) (behind a)) ≡ restOk d a
+unfolding restOk takesAll
+rest-step d a h = go (decLe (length a) (length (lineOf a))) (decLe (length (lineOf a)) 255)
+  where
+    go : Dec (length a ≤ length (lineOf a)) → Dec (length (lineOf a) ≤ 255)
+        → (takes d (lineIn a) && (eqb (length (linesOf (behind a) .rest)) 0 && takesAll (declaring d (lineIn a)) (linesOf (behind a) .whole)))
+        ≡ (eqb (length (linesOf a .rest)) 0 && takesAll d (linesOf a .whole))
+    go (yes c) k = rw (line-cut a c, takes-none [] item-empty d, lines-last a c, ne-eqb (length a) 0 (λ (z : length a ≡ 0). omega arith))
+    go (no c) (yes k) =
+        rw (line-good a (omega arith) k, lines-next a (omega arith))
+        (and-swap (takes d (lineOf a)) (eqb (length (linesOf (behind a) .rest)) 0) (takesAll (declaring d (lineOf a)) (linesOf (behind a) .whole)))
+    go (no c) (no k) =
+        rw (line-long a (omega arith), takes-none [] item-empty d, lines-next a (omega arith), takes-none (lineOf a) (item-long (lineOf a) (omega arith)) d)
+        (sym (and-false (eqb (length (linesOf (behind a) .rest)) 0)))
 
 -- ---- a line more of a walk
 
@@ -153,11 +90,6 @@ module _ (store links : List ℕ) (p at left p′ at′ left′ : ℕ) (line : L
 
   some : 0 < length b
   some = omega (arith, length-bytes store links p at left)
-
-  pub walk-less : left′ < left
-  walk-less =
-      let e : length (bytesFrom store links p′ at′ left′) ≡ length (behind b) = ap length there in
-      omega (arith, e, behind-less b some, length-bytes store links p at left, length-bytes store links p′ at′ left′)
 
   pub walk-ok : (d d′ : Declared) (g g′ s : Bool) → d′ ≡ declaring d line → s ≡ takes d line → g′ ≡ (g && s)
       → (g′ && restOk d′ (bytesFrom store links p′ at′ left′)) ≡ (g && restOk d b)

@@ -1,27 +1,17 @@
--- A form's lines as the code reads them, one after another. No public contract cites these: the functions on a whole form are proved to answer by
--- the definitions of Form and Draw.
+-- Serves the code alone: a walk over a form, what is still to be read, and what was found. The functions on a whole form are proved to answer by the
+-- definitions of Form.
 -- Assumes nothing.
-use Prim.Native.Nat.{ℕ, suc}
-use mathlib.Core.Bool.{Bool, true, cond, _&&_}
-use mathlib.Core.List.{List, []}
-use lib.ListN.{length, drop}
-use lib.Dec.{eqb, leb, ltb}
-use Rattle.values.specs.declared.declarations.Declared.{Declared}
-use Rattle.values.specs.Declarations.{nothing}
-use Rattle.store.specs.Content.{ahead, cursorAt}
-use Rattle.store.specs.Lines.{linesOf, lineOf}
+use Prim.Native.Nat.{ℕ}
+use mathlib.Core.Bool.{Bool, true, _&&_}
+use mathlib.Core.List.{List}
+use lib.ListN.{length}
+use lib.Dec.{eqb}
+use Rattle.declarations.specs.declared.Declared.{Declared}
+use Rattle.declarations.specs.Declarations.{nothing}
+use Rattle.contents.specs.Content.{ahead, cursorAt}
+use Rattle.content_lines.specs.Lines.{linesOf}
 use Rattle.forms.specs.Form.{takesAll, declaredBy, hasAll}
-use Rattle.forms.specs.declared.walked.Walk.{Walk}
-
--- the first line of some bytes. What no form may have, a line of more than 255 bytes or bytes with no LF, is as an empty line
-unfoldable pub lineIn : List ℕ → List ℕ
-lineIn a = cond (ltb (length (lineOf a)) (length a) && leb (length (lineOf a)) 255) (lineOf a) []
-
--- what stands behind the first LF
-unfoldable pub behind : List ℕ → List ℕ
-behind a = drop (suc (length (lineOf a))) a
-
--- ---- a walk over a form: what is still to be read, and what was found
+use Rattle.forms.specs.declared.Walk.{Walk}
 
 -- a walk at the start of the form of entry i
 abbrev pub started : List ℕ → List ℕ → ℕ → Walk

@@ -7,10 +7,31 @@ use native.Mathlib.Omega.{arith}
 use native.Mathlib.Decide.{decLt}
 use lib.Dec.{T, leb, ltb, leb→le, ltb→lt}
 use lib.ListN.{length, getD, take, replicate, length-append, length-take, List·getD-append, List·getD-eq-default}
-use Rattle.fields.proofs.Laws.{and-T}
+use Rattle.classes.proofs.Laws.{and-T}
 use Rattle.grammar.specs.Forms.{Form, forms, none, rowOf, boundsOf, spread, free}
-use Rattle.grammar.specs.Codes.{bound, boundBy, codes, codeAt, filledUp, lineUp}
-use Rattle.grammar.specs.declared.Bounds.{Bounds}
+use Rattle.grammar.specs.Codes.{codes, codeAt, filledUp, lineUp}
+use Rattle.bounds.specs.Letters.{bound, boundBy}
+use Rattle.bounds.specs.declared.Bounds.{Bounds}
+
+-- ---- what holds of every row
+
+infixr 5 _&_
+-- one entry and the entries behind it
+abbrev pub _&_ : {A B : Type 0} → A → B → A × B
+a & b = (a, b)
+
+-- a fact of each row, row by row: a row more is one entry more. The last entry is for what is past the last row
+abbrev pub Each : (ℕ → Form → Type 0) → List Form → Type 0
+Each q [] = (k : ℕ) → q k none
+Each q (f ∷ fs) = q 0 f × Each (λ k. q (suc k)) fs
+
+each-at : (q : ℕ → Form → Type 0) (fs : List Form) → Each q fs → (row : ℕ) → q row (getD fs row none)
+each-at q [] h row = h row
+each-at q (f ∷ fs) h zero = h .0
+each-at q (f ∷ fs) h (suc row) = each-at (λ k. q (suc k)) fs (h .1) row
+
+pub each-row : (q : ℕ → Form → Type 0) → Each q forms → (row : ℕ) → q row (rowOf row)
+each-row q h row = each-at q forms h row
 
 -- ---- tables
 

@@ -1,4 +1,4 @@
+pub mod Makers
 pub mod Forms
 pub mod Named
-pub mod Heads
 pub mod Codes

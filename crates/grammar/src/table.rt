@@ -2,13 +2,13 @@
 // row is read once for a line: its bytes are quickly at hand, and a whole table would be copied each time.
 ghost use mathlib.Core.Path.{_≡_};
 ghost use Prim.Native.Nat.{_≤_, _<_};
-ghost use Rattle.grammar.specs.Codes.{lineUp, boundBy};
-use crate::Bounds;
+ghost use Rattle.grammar.specs.Named.{LO, FS, VC};
+ghost use Rattle.grammar.specs.Codes.{lineUp};
 use crate::row;
 
 // The page: Q, q, R, ZT, ZB.
 fn page_rows(row: usize) -> [u8; 36]
-    requires { ⌜ row < 5 ⌝ }
+    requires { ⌜ row < LO ⌝ }
     ensures { λ r. ⌜ r ≡ lineUp row ⌝ }
 {
     match row {
@@ -22,7 +22,7 @@ fn page_rows(row: usize) -> [u8; 36]
 
 // What is drawn: LO, LE, LW, X, A, B, GG.
 fn drawn_rows(row: usize) -> [u8; 36]
-    requires { ⌜ (5 ≤ row) × (row < 12) ⌝ }
+    requires { ⌜ (LO ≤ row) × (row < FS) ⌝ }
     ensures { λ r. ⌜ r ≡ lineUp row ⌝ }
 {
     match row {
@@ -38,7 +38,7 @@ fn drawn_rows(row: usize) -> [u8; 36]
 
 // What is kept: forms and pictures.
 fn kept_rows(row: usize) -> [u8; 36]
-    requires { ⌜ (12 ≤ row) × (row < 21) ⌝ }
+    requires { ⌜ (FS ≤ row) × (row < VC) ⌝ }
     ensures { λ r. ⌜ r ≡ lineUp row ⌝ }
 {
     match row {
@@ -56,7 +56,7 @@ fn kept_rows(row: usize) -> [u8; 36]
 
 // Values and labels: VC, V, C, ?V, ?C, P, N. Past the last row there is none.
 fn value_rows(row: usize) -> [u8; 36]
-    requires { ⌜ 21 ≤ row ⌝ }
+    requires { ⌜ VC ≤ row ⌝ }
     ensures { λ r. ⌜ r ≡ lineUp row ⌝ }
 {
     match row {
@@ -75,60 +75,14 @@ fn value_rows(row: usize) -> [u8; 36]
 pub fn line_up(row: usize) -> [u8; 36]
     ensures { λ r. ⌜ r ≡ lineUp row ⌝ }
 {
-    if row < 5 {
+    if row < row::LO {
         return page_rows(row);
     }
-    if row < 12 {
+    if row < row::FS {
         return drawn_rows(row);
     }
-    if row < 21 {
+    if row < row::VC {
         return kept_rows(row);
     }
     value_rows(row)
-}
-
-// The bounds that a letter stands for, on a page of so many rows.
-pub fn bound_by(code: u8, rows: usize) -> Bounds
-    ensures { λ r. ⌜ r ≡ boundBy code rows ⌝ }
-{
-    match code {
-        b'N' => Bounds { low: 1, high: rows },
-        b'a' => Bounds { low: 0, high: 2047 },
-        b'b' => Bounds { low: 1, high: 2047 },
-        b'c' => Bounds { low: 0, high: 4095 },
-        b'd' => Bounds { low: 1, high: 80 },
-        b'e' => Bounds { low: 0, high: 3 },
-        b'f' => Bounds { low: 1, high: 6 },
-        b'g' => Bounds { low: 1, high: 9 },
-        b'h' => Bounds { low: 2, high: 10 },
-        b'i' => Bounds {
-            low: 24,
-            high: 1000,
-        },
-        b'j' => Bounds { low: 0, high: 2048 },
-        b'k' => Bounds { low: 0, high: 4096 },
-        b'l' => Bounds { low: 0, high: 240 },
-        b'm' => Bounds { low: 80, high: 608 },
-        b'n' => Bounds { low: 0, high: 9 },
-        b'o' => Bounds { low: 1, high: 32 },
-        b'p' => Bounds { low: 0, high: 24 },
-        b'q' => Bounds { low: 1, high: 8 },
-        b'r' => Bounds {
-            low: 1,
-            high: 32768,
-        },
-        b's' => Bounds {
-            low: 999900001,
-            high: 1000099999,
-        },
-        b't' => Bounds {
-            low: 1,
-            high: 65535,
-        },
-        b'v' => Bounds {
-            low: 0,
-            high: 999999999,
-        },
-        _ => Bounds { low: 0, high: 0 },
-    }
 }

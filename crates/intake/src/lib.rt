@@ -4,9 +4,9 @@
 ghost use mathlib.Core.Path.{_≡_};
 ghost use lib.ListN.{length, take, drop};
 ghost use lib.Seq.{sets};
-ghost use Rattle.fields.specs.declared.Class.the-variants.{Inside};
-ghost use Rattle.fields.specs.Bytes.{run};
-use fields::Class;
+ghost use Rattle.classes.specs.declared.Class.the-variants.{Inside};
+ghost use Rattle.classes.specs.Bytes.{run};
+use classes::Class;
 use ground::back;
 use ground::front;
 use ground::least;
@@ -36,5 +36,5 @@ pub fn shift(window: &mut [u8], start: usize, end: usize) -> usize
 pub fn line_length(input: &[u8]) -> usize
     ensures { λ r. ⌜ r ≡ run Inside (now (input .entry)) ⌝ }
 {
-    fields::run_end(input, Class::Inside, 0)
+    classes::run_end(input, Class::Inside, 0)
 }

@@ -5,16 +5,16 @@ use mathlib.Core.Bool.{Bool, true, false, not, cond}
 use mathlib.Core.List.{List, [], _∷_}
 use Prim.Native.Nat.{ℕ}
 use borrow.Author.Tests.{not-true, not-false}
-use Rattle.values.specs.declared.declarations.Declared.{Declared}
-use Rattle.values.specs.Declarations.{nothing}
-use Rattle.read.specs.declared.Item.{Item}
-use Rattle.forms.specs.Form.{hasPicture}
+use Rattle.declarations.specs.declared.Declared.{Declared}
+use Rattle.declarations.specs.Declarations.{nothing}
+use Rattle.grammar.specs.declared.Item.{Item}
+use Rattle.recording.specs.Judged.{hasPicture}
 use Rattle.session.specs.declared.Session.{Session}
-use Rattle.session.specs.declared.answers.Answer.{Answer}
-use Rattle.session.specs.declared.answers.Answer.the-variants.{Taken, Missing, Again, Undeclared, Past, Unfit, Full}
-use Rattle.session.specs.Answers.{Row, row, answerOf, isTaken, numberOf}
-use Rattle.session.specs.Lent.{world}
-use Rattle.session.proofs.Rows.{answer-skip, answer-stop}
+use Rattle.answers.specs.declared.Answer.{Answer}
+use Rattle.answers.specs.declared.Answer.the-variants.{Taken, Missing, Again, Undeclared, Past, Unfit, Full}
+use Rattle.answers.specs.Answers.{Row, row, answerOf, isTaken, numberOf}
+use Rattle.lent.specs.Lent.{world}
+use Rattle.answers.proofs.Rows.{answer-skip, answer-stop}
 use Rattle.results.specs.Result.{done, ran, ranBy}
 use Rattle.results.proofs.Answers.{cond-map, cond-true, cond-false}
 use Rattle.results.proofs.Parts.{onBackground}

@@ -6,22 +6,22 @@ use mathlib.Core.List.{List, [], _∷_}
 use Prim.Native.Nat.{ℕ}
 use Rattle.kinds.specs.declared.Kind.{Kind}
 use Rattle.kinds.specs.declared.Kind.the-variants.{Shown}
-use Rattle.fields.specs.Data.{elements}
-use Rattle.fields.specs.declared.Element.{Element}
-use Rattle.values.specs.declared.declarations.Declared.{Declared}
-use Rattle.values.specs.Declarations.{variableDeclared, counterDeclared}
-use Rattle.fitness.specs.declared.answers.DataAnswer.the-variants.{Good as InReach, Undeclared as Unnamed, Past as TooFar}
-use Rattle.fitness.specs.Answers.{undeclaredBy, pastBy, someOf, dataAnswer}
-use Rattle.fitness.specs.Summary.{judged as fitAlways}
+use Rattle.elements.specs.Elements.{elements}
+use Rattle.elements.specs.declared.Element.{Element}
+use Rattle.declarations.specs.declared.Declared.{Declared}
+use Rattle.declarations.specs.Declarations.{variableDeclared, counterDeclared}
+use Rattle.reach.specs.declared.DataAnswer.the-variants.{Good as InReach, Undeclared as Unnamed, Past as TooFar}
+use Rattle.reach.specs.Answers.{undeclaredBy, pastBy, someOf, dataAnswer}
+use Rattle.summary.specs.Summary.{judged as fitAlways}
 use Rattle.fitness.specs.Judged.{withFit, dataJudged}
-use Rattle.read.specs.declared.Item.{Item}
-use Rattle.read.specs.declared.Item.the-variants.{Origin, Variable, Counter, Text, Bars, Box, Frame, Picture}
-use Rattle.forms.specs.declared.Verdict.{Verdict}
-use Rattle.forms.specs.declared.Verdict.the-variants.{Taken as Fine, Again as Before, Undeclared as Unknown, Past as Reaches, Unfit as Wrong}
-use Rattle.forms.specs.Judged.{ofData, judged}
-use Rattle.session.specs.declared.answers.Answer.{Answer}
-use Rattle.session.specs.declared.answers.Answer.the-variants.{Taken, Again, Undeclared, Past, Unfit}
-use Rattle.session.specs.Answers.{Row, row, answerOf}
+use Rattle.grammar.specs.declared.Item.{Item}
+use Rattle.grammar.specs.declared.Item.the-variants.{Origin, Variable, Counter, Text, Bars, Box, Frame, Picture}
+use Rattle.recording.specs.declared.Verdict.{Verdict}
+use Rattle.recording.specs.declared.Verdict.the-variants.{Taken as Fine, Again as Before, Undeclared as Unknown, Past as Reaches, Unfit as Wrong}
+use Rattle.recording.specs.Judged.{ofData, judged}
+use Rattle.answers.specs.declared.Answer.{Answer}
+use Rattle.answers.specs.declared.Answer.the-variants.{Taken, Again, Undeclared, Past, Unfit}
+use Rattle.answers.specs.Answers.{Row, row, answerOf}
 use Rattle.item_commands.specs.Items.{declaredBefore, notDeclared, reachesPast, unfitData, shownBy, fitRows, verdictAnswer, judgementAnswer, dataAnswerOf}
 
 -- the first of four tests that applies

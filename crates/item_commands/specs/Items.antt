@@ -3,29 +3,29 @@
 use Prim.Native.Nat.{ℕ}
 use mathlib.Core.Bool.{Bool, true, false, not}
 use mathlib.Core.List.{List, [], _∷_}
-use Rattle.values.specs.declared.declarations.Declared.{Declared}
-use Rattle.values.specs.Declarations.{nothing, variableDeclared, counterDeclared}
+use Rattle.declarations.specs.declared.Declared.{Declared}
+use Rattle.declarations.specs.Declarations.{nothing, variableDeclared, counterDeclared}
 use Rattle.kinds.specs.declared.Kind.{Kind}
 use Rattle.kinds.specs.declared.Kind.the-variants.{Shown}
-use Rattle.fields.specs.Data.{elements}
-use Rattle.fitness.specs.declared.answers.DataAnswer.{DataAnswer}
-use Rattle.fitness.specs.declared.answers.DataAnswer.the-variants.{Good as InReach, Undeclared as Unnamed, Past as TooFar}
-use Rattle.fitness.specs.declared.judging.Judgement.{Judgement}
-use Rattle.fitness.specs.declared.judging.Judgement.the-variants.{Fit as AlwaysFit, Undeclared as NamesUndeclared, Past as GoesPast, Unfit as NotFit}
-use Rattle.fitness.specs.Answers.{undeclaredBy, pastBy, someOf}
-use Rattle.fitness.specs.Summary.{judged as fitAlways}
-use Rattle.read.specs.declared.Item.{Item}
-use Rattle.read.specs.declared.Item.the-variants.{Origin, Variable, Counter, Text, Bars, Box, Frame, Picture}
-use Rattle.forms.specs.declared.Verdict.{Verdict}
-use Rattle.forms.specs.declared.Verdict.the-variants.{Taken as Fine, Again as Before, Undeclared as Unknown, Past as Reaches, Unfit as Wrong}
-use Rattle.forms.specs.Form.{hasPicture}
-use Rattle.forms.specs.Draw.{setting, drawsItem}
+use Rattle.elements.specs.Elements.{elements}
+use Rattle.reach.specs.declared.DataAnswer.{DataAnswer}
+use Rattle.reach.specs.declared.DataAnswer.the-variants.{Good as InReach, Undeclared as Unnamed, Past as TooFar}
+use Rattle.fitness.specs.declared.Judgement.{Judgement}
+use Rattle.fitness.specs.declared.Judgement.the-variants.{Fit as AlwaysFit, Undeclared as NamesUndeclared, Past as GoesPast, Unfit as NotFit}
+use Rattle.reach.specs.Answers.{undeclaredBy, pastBy, someOf}
+use Rattle.summary.specs.Summary.{judged as fitAlways}
+use Rattle.grammar.specs.declared.Item.{Item}
+use Rattle.grammar.specs.declared.Item.the-variants.{Origin, Variable, Counter, Text, Bars, Box, Frame, Picture}
+use Rattle.recording.specs.declared.Verdict.{Verdict}
+use Rattle.recording.specs.declared.Verdict.the-variants.{Taken as Fine, Again as Before, Undeclared as Unknown, Past as Reaches, Unfit as Wrong}
+use Rattle.recording.specs.Judged.{hasPicture}
+use Rattle.item_drawing.specs.Draw.{setting, drawsItem}
 use Rattle.session.specs.declared.Session.{Session}
-use Rattle.session.specs.declared.answers.Answer.{Answer}
-use Rattle.session.specs.declared.answers.Answer.the-variants.{Taken, Missing, Again, Undeclared, Past, Unfit}
-use Rattle.session.specs.Answers.{Row, row, answerOf}
+use Rattle.answers.specs.declared.Answer.{Answer}
+use Rattle.answers.specs.declared.Answer.the-variants.{Taken, Missing, Again, Undeclared, Past, Unfit}
+use Rattle.answers.specs.Answers.{Row, row, answerOf}
 use Rattle.session.specs.Session.{based}
-use Rattle.session.specs.Lent.{World}
+use Rattle.lent.specs.Lent.{World}
 use Rattle.results.specs.World.{State, state, withBackground}
 use Rattle.results.specs.Result.{sixteenBits, Ran, ranBy}
 

@@ -4,20 +4,20 @@
 // form, where "data elements find nothing declared". `run_item` draws one on the background and promises one equation with `itemBy` (specs/Items.antt).
 ghost use mathlib.Core.Path.{_≡_};
 ghost use mathlib.Core.List.{[]};
-ghost use Rattle.session.specs.Answers.{answerOf};
-ghost use Rattle.session.specs.Lent.{world};
+ghost use Rattle.answers.specs.Answers.{answerOf};
+ghost use Rattle.lent.specs.Lent.{world};
 ghost use Rattle.results.specs.Result.{ran};
 ghost use Rattle.item_commands.specs.Items.{verdictAnswer, itemRows, basedBy, itemBy};
-use forms::Verdict;
-use read::Item;
+use answers::Answer;
+use answers::is_taken;
+use declarations::Declared;
+use grammar::Item;
+use recording::Verdict;
 use results::Done;
 use results::answered;
 use results::sixteen_bits;
 use results::taken;
-use session::Answer;
 use session::Session;
-use session::answers::is_taken;
-use values::Declared;
 
 // What a verdict answers: [12] to [15], or taken.
 fn answer_of(v: Verdict) -> Answer
@@ -36,8 +36,8 @@ fn answer_of(v: Verdict) -> Answer
 pub fn item_answer(directory: &[u8], line: &[u8], item: Item, d: Declared) -> Answer
     ensures { λ r. ⌜ r ≡ answerOf (itemRows d (now (directory .entry)) (now (line .entry)) item []) ⌝ }
 {
-    if forms::has_picture(directory, line, item) {
-        return answer_of(forms::judge(line, item, d));
+    if recording::has_picture(directory, line, item) {
+        return answer_of(recording::judge(line, item, d));
     }
     Answer::Missing
 }
@@ -84,7 +84,7 @@ pub fn run_item<'a>(
     let length = session.length as usize;
     let x = session.x as usize;
     let y = session.y as usize;
-    forms::draw_item(
+    item_drawing::draw_item(
         background,
         font,
         store,

@@ -5,10 +5,10 @@ use mathlib.Core.Bool.{true}
 use mathlib.Core.List.{List, [], _∷_}
 use Prim.Native.Nat.{ℕ}
 use Rattle.sound.specs.Sound.{sound}
-use Rattle.session.specs.declared.answers.Answer.the-variants.{Taken, Unsound}
-use Rattle.session.specs.Lent.{World}
+use Rattle.answers.specs.declared.Answer.the-variants.{Taken, Unsound}
+use Rattle.lent.specs.Lent.{World}
 use Rattle.results.specs.World.{State}
-use Rattle.station.specs.Station.{opened, commanded, labelledBy}
+use Rattle.calls.specs.Station.{opened, commanded, labelledBy}
 use Rattle.keeps_sound.specs.Good.{Good}
 use Rattle.keeps_sound.specs.Tens.{Tens}
 use Rattle.keeps_sound.specs.Calls.{Call, command, label, called, through, openedState}

@@ -8,45 +8,46 @@ use native.Mathlib.Omega.{arith}
 use lib.ListN.{length, getD, take, length-take}
 use lib.Dec.{eqb, ltb, leb}
 use borrow.Author.Tests.{ltb-true, ltb-false}
-use Rattle.fields.specs.Bytes.{run}
-use Rattle.fields.specs.declared.Class.the-variants.{Inside}
-use Rattle.store.specs.declared.Found.{Found}
-use Rattle.store.specs.declared.Found.the-variants.{At, Nothing}
-use Rattle.store.specs.Find.{recorded}
-use Rattle.read.specs.declared.Command.{Command}
-use Rattle.read.specs.declared.Command.the-variants.{Item as item, End, Page, Forms, Pictures, Values, Listing}
-use Rattle.read.specs.declared.PageCommand.{PageCommand}
-use Rattle.read.specs.declared.PageCommand.the-variants.{Length, Width, Turn, White}
-use Rattle.read.specs.declared.FormCommand.{FormCommand}
-use Rattle.read.specs.declared.FormCommand.the-variants.{Start, Retrieve, Erase as EraseForm}
-use Rattle.read.specs.declared.PictureCommand.{PictureCommand}
-use Rattle.read.specs.declared.PictureCommand.the-variants.{Store, Erase as ErasePicture}
-use Rattle.read.specs.declared.ValueCommand.{ValueCommand}
-use Rattle.read.specs.declared.ValueCommand.the-variants.{Variable as EnterVariable, Counter as EnterCounter, Clear, Print}
-use Rattle.read.specs.declared.ListingCommand.{ListingCommand}
-use Rattle.read.specs.declared.ListingCommand.the-variants.{Forms as ListForms, Pictures as ListPictures, Form as ListForm}
-use Rattle.read.specs.declared.Front.{Front}
-use Rattle.read.specs.declared.Front.the-variants.{Short, Long as LongLine, Idle, Line}
+use Rattle.classes.specs.Bytes.{run}
+use Rattle.classes.specs.declared.Class.the-variants.{Inside}
+use Rattle.finding.specs.declared.Found.{Found}
+use Rattle.finding.specs.declared.Found.the-variants.{At, Nothing}
+use Rattle.finding.specs.Find.{recorded}
+use Rattle.grammar.specs.declared.Command.{Command}
+use Rattle.grammar.specs.declared.Command.the-variants.{Item as item, End, Page, Forms, Pictures, Values, Listing}
+use Rattle.grammar.specs.declared.PageCommand.{PageCommand}
+use Rattle.grammar.specs.declared.PageCommand.the-variants.{Length, Width, Turn, White}
+use Rattle.grammar.specs.declared.FormCommand.{FormCommand}
+use Rattle.grammar.specs.declared.FormCommand.the-variants.{Start, Retrieve, Erase as EraseForm}
+use Rattle.grammar.specs.declared.PictureCommand.{PictureCommand}
+use Rattle.grammar.specs.declared.PictureCommand.the-variants.{Store, Erase as ErasePicture}
+use Rattle.grammar.specs.declared.ValueCommand.{ValueCommand}
+use Rattle.grammar.specs.declared.ValueCommand.the-variants.{Variable as EnterVariable, Counter as EnterCounter, Clear, Print}
+use Rattle.grammar.specs.declared.ListingCommand.{ListingCommand}
+use Rattle.grammar.specs.declared.ListingCommand.the-variants.{Forms as ListForms, Pictures as ListPictures, Form as ListForm}
+use Rattle.front.specs.declared.Front.{Front}
+use Rattle.front.specs.declared.Front.the-variants.{Short, Long as LongLine, Idle, Line}
 use Rattle.read.specs.declared.Read.{Read}
 use Rattle.read.specs.declared.Read.the-variants.{Taken as Reads, Refused}
 use Rattle.read.specs.Commands.{readOf}
-use Rattle.read.specs.Front.{frontOf, lineFront, asked}
+use Rattle.front.specs.Front.{frontOf, lineFront, asked}
 use Rattle.sound.specs.Sound.{sound}
 use Rattle.session.specs.declared.Session.{Session}
-use Rattle.session.specs.declared.answers.Answer.the-variants.{
+use Rattle.answers.specs.declared.Answer.the-variants.{
   Taken,
   Lengths,
   Font,
   Unsound,
   Owing,
 }
-use Rattle.session.specs.Answers.{numberOf, isTaken, answerOf}
-use Rattle.session.specs.Lent.{World, rowsOf, wrongLent}
+use Rattle.answers.specs.Answers.{numberOf, isTaken, answerOf}
+use Rattle.lent.specs.Lent.{World, rowsOf, wrongLent}
 use Rattle.commands.specs.Rows.{runRows, placedRows, lineRows}
 use Rattle.commands.specs.Does.{runs, placed, doesLine}
-use Rattle.station.specs.Table.{lineOf, moreOf, frontRows, commandTable}
-use Rattle.station.specs.Outcomes.{After}
-use Rattle.station.specs.Station.{doesFront, commanded}
+use Rattle.unread.specs.Front.{lineOf, moreOf}
+use Rattle.calls.specs.Table.{frontRows, commandTable}
+use Rattle.calls.specs.Outcomes.{After}
+use Rattle.calls.specs.Station.{doesFront, commanded}
 use Rattle.keeps_sound.specs.Good.{Good}
 use Rattle.keeps_sound.specs.Tens.{Tens}
 use Rattle.keeps_sound.proofs.Layers.{good-sound, sound-good}

@@ -9,13 +9,13 @@ use Rattle.kinds.specs.Fit.{fit}
 use Rattle.dots.specs.declared.Ink.{Ink}
 use Rattle.dots.specs.Dots.{drawn, cut}
 use Rattle.dots.proofs.Pages.{length-drawn}
-use Rattle.dots.proofs.WholePages.{white-outside-drawn}
-use Rattle.font.specs.Text.{textDrawn, inMode, spotOf, glyphs, drawable}
+use Rattle.outside.proofs.WhiteOutside.{white-outside-drawn}
+use Rattle.text.specs.Text.{textDrawn, inMode, spotOf, glyphs, drawable}
 use Rattle.bars.specs.Drawing.{barsDrawn, inLimits}
-use Rattle.values.specs.declared.declarations.Declared.{Declared}
-use Rattle.read.specs.declared.Item.{Item}
-use Rattle.forms.specs.Draw.{Setting, drawsItem}
-use Rattle.forms.proofs.Keeping.{TextKeeps, BarsKeep, Long, Clear, item-keeps}
+use Rattle.declarations.specs.declared.Declared.{Declared}
+use Rattle.grammar.specs.declared.Item.{Item}
+use Rattle.item_drawing.specs.Draw.{Setting, drawsItem}
+use Rattle.item_drawing.proofs.Keeping.{TextKeeps, BarsKeep, Long, Clear, item-keeps}
 
 -- ---- whatever every drawing within width and length keeps, text and bars keep
 

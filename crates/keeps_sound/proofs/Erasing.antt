@@ -9,25 +9,25 @@ use lib.ListN.{getD}
 use lib.Dec.{eqb}
 use borrow.Author.Tests.{ne-eqb, eqb-false}
 use Rattle.cells.proofs.Scan.{lowest-passes}
-use Rattle.store.specs.declared.Found.{Found}
-use Rattle.store.specs.declared.Found.the-variants.{At, Nothing}
+use Rattle.finding.specs.declared.Found.{Found}
+use Rattle.finding.specs.declared.Found.the-variants.{At, Nothing}
 use Rattle.store.specs.Entry.{entries, entry, kind, ofKind}
-use Rattle.store.specs.Find.{sameName, titled, titledAt}
-use Rattle.store.proofs.Finding.{at-says}
-use Rattle.moves.specs.Memory.{Memory}
-use Rattle.moves.specs.Erase.{erasedAt, erasedAll}
+use Rattle.finding.specs.Find.{sameName, titled, titledAt}
+use Rattle.finding.proofs.Finding.{at-says}
+use Rattle.memory.specs.Memory.{Memory}
+use Rattle.erasing.specs.Erase.{erasedAt, erasedAll}
 use Rattle.store_sound.specs.Shelf.{Held, nothing, shelfOf, swept}
 use Rattle.store_sound.proofs.Listing.{shelf-at}
 use Rattle.store_sound.proofs.Moving.{Moved}
 use Rattle.store_sound.proofs.Erase.{erase-moved}
 use Rattle.store_sound.proofs.EraseAll.{Swept, erase-all-moved}
-use Rattle.read.specs.declared.Named.{Named}
-use Rattle.read.specs.declared.Command.the-variants.{Forms, Pictures}
-use Rattle.read.specs.declared.FormCommand.the-variants.{Erase as EraseForm}
-use Rattle.read.specs.declared.PictureCommand.the-variants.{Erase as ErasePicture}
+use Rattle.grammar.specs.declared.Named.{Named}
+use Rattle.grammar.specs.declared.Command.the-variants.{Forms, Pictures}
+use Rattle.grammar.specs.declared.FormCommand.the-variants.{Erase as EraseForm}
+use Rattle.grammar.specs.declared.PictureCommand.the-variants.{Erase as ErasePicture}
 use Rattle.parts.specs.Names.{packedOf}
 use Rattle.session.specs.declared.Session.{Session}
-use Rattle.session.specs.Lent.{World}
+use Rattle.lent.specs.Lent.{World}
 use Rattle.results.specs.World.{state, memoryOf, inactive}
 use Rattle.results.specs.Named.{named, erasedNamed, erasedEvery}
 use Rattle.results.specs.Result.{sixteenBits}

@@ -13,7 +13,7 @@ use Rattle.store_sound.specs.Sound.{lentOk}
 use Rattle.sound.specs.Sound.{numbersOk}
 use Rattle.results.proofs.Answers.{or-none}
 use Rattle.session.specs.declared.Session.{Session}
-use Rattle.session.specs.Lent.{World, wrongLent, lengthsWrong, pageWrong, storeWrong, directoryWrong, valuesWrong}
+use Rattle.lent.specs.Lent.{World, wrongLent, lengthsWrong, pageWrong, storeWrong, directoryWrong, valuesWrong}
 use Rattle.keeps_sound.proofs.Layers.{both, first-of, second-of}
 
 -- ---- lengths

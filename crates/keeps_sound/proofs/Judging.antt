@@ -8,42 +8,46 @@ use native.Mathlib.Omega.{arith}
 use lib.Dec.{T, eqb}
 use lib.ListN.{length, getD, take, drop, length-append}
 use lib.Seq.{take-append-seam}
-use borrow.Author.Tests.{eqb-true}
 use Rattle.kinds.specs.Bytes.{allIn}
 use Rattle.kinds.specs.declared.Kind.{Kind}
 use Rattle.kinds.specs.declared.Kind.the-variants.{Shown}
 use Rattle.kinds.specs.Fit.{inClass, fitLength}
 use Rattle.fields.specs.declared.Field.the-variants.{Is}
-use Rattle.fields.specs.declared.What.{What}
-use Rattle.fields.specs.declared.What.the-variants.{Text as Quote, Variable as VariableOf, Counter as CounterOf}
-use Rattle.fields.specs.declared.Element.{Element}
-use Rattle.fields.specs.Text.{bytes}
+use Rattle.elements.specs.declared.What.{What}
+use Rattle.elements.specs.declared.What.the-variants.{Text as Quote, Variable as VariableOf, Counter as CounterOf}
+use Rattle.elements.specs.declared.Element.{Element}
+use Rattle.kinds.specs.Text.{bytes}
 use Rattle.fields.specs.Field.{textAt}
-use Rattle.fields.specs.Data.{elements}
-use Rattle.fields.proofs.Laws.{and-T}
-use Rattle.values.specs.declared.declarations.Declared.{Declared}
-use Rattle.values.specs.Declarations.{lengthAt, sideAt, widthAt, variableDeclared, counterDeclared}
-use Rattle.fitness.specs.declared.answers.DataAnswer.the-variants.{Good as Fine, Undeclared as NotDeclared, Past as Reaches}
-use Rattle.fitness.specs.Answers.{undeclaredBy, pastBy, someOf, dataAnswer}
-use Rattle.fitness.specs.Summary.{partLength, fewest, takesAll, least, most, good as goods, judged as fitAlways}
-use Rattle.read.specs.Grammar.{good, rowOf, headOf, fieldAt, fieldsFrom}
-use Rattle.read.specs.Commands.{readOf, itemOf}
-use Rattle.read.specs.declared.Item.{Item}
-use Rattle.read.specs.declared.Item.the-variants.{Origin, Variable, Counter, Text, Bars, Box, Frame, Picture}
-use Rattle.grammar.specs.declared.Head.the-variants.{Row}
-use Rattle.read.specs.declared.Command.the-variants.{Item as item}
+use Rattle.elements.specs.Elements.{elements}
+use Rattle.classes.proofs.Laws.{and-T}
+use Rattle.declarations.specs.declared.Declared.{Declared}
+use Rattle.declarations.specs.Declarations.{lengthAt, sideAt, widthAt, variableDeclared, counterDeclared}
+use Rattle.reach.specs.declared.DataAnswer.the-variants.{Good as Fine, Undeclared as NotDeclared, Past as Reaches}
+use Rattle.reach.specs.Answers.{undeclaredBy, pastBy, someOf, dataAnswer}
+use Rattle.summary.specs.Summary.{partLength, fewest, takesAll, least, most, good as goods, judged as fitAlways}
+use Rattle.row_fields.specs.Reading.{good, fieldsFrom}
+use Rattle.grammar.specs.Forms.{Form, forms, rowOf, inOrder}
+use Rattle.grammar.proofs.Rows.{_&_, Each, each-row}
+use Rattle.heads.specs.Heads.{headOf}
+use Rattle.reader.specs.Letters.{fieldAt}
+use Rattle.read.specs.Commands.{readOf}
+use Rattle.grammar.specs.declared.Item.{Item}
+use Rattle.grammar.specs.declared.Item.the-variants.{Origin, Variable, Counter, Text, Bars, Box, Frame, Picture}
+use Rattle.heads.specs.declared.Head.the-variants.{Row}
+use Rattle.grammar.specs.declared.Command.{Command}
+use Rattle.grammar.specs.declared.Command.the-variants.{Item as item, End, Page, Forms, Pictures, Values, Listing}
 use Rattle.read.specs.declared.Read.the-variants.{Taken as Reads}
-use Rattle.read.proofs.Rows.{fields-split}
-use Rattle.normal.specs.Written.{kept, cased, whatWritten, normal}
+use Rattle.row_fields.proofs.Rows.{fields-split}
+use Rattle.writing.specs.Writing.{kept, cased}
+use Rattle.normal.specs.Written.{whatWritten, normal}
 use Rattle.normal.specs.Contents.{unplaced, pieces, held, heldBy, contentsOf, headContents, contents}
 use Rattle.normal.proofs.Back.{text-fits}
 use Rattle.normal.proofs.Data.{a-text, a-variable, a-counter, Chain, ended, then, chain-of}
 use Rattle.normal.specs.Promise.{Normal}
 use Rattle.normal.proofs.Round.{item-parted}
-use Rattle.forms.specs.declared.Verdict.{Verdict}
-use Rattle.forms.specs.declared.Verdict.the-variants.{Taken, Again}
-use Rattle.forms.specs.Judged.{ofData, judgedData, judged}
-use Rattle.keeps_sound.proofs.Titles.{ReadBy, read-by, choice}
+use Rattle.recording.specs.declared.Verdict.{Verdict}
+use Rattle.recording.specs.declared.Verdict.the-variants.{Taken, Again}
+use Rattle.recording.specs.Judged.{ofData, judgedData, judged}
 
 abbrev Piece : Type 0
 Piece = What × List ℕ
@@ -189,42 +193,59 @@ contents-is : (s : List ℕ) (row : ℕ) (vs ps : List ℕ) → headOf s ≡ Row
 unfolding headContents contentsOf
 contents-is s row vs ps h k = rw (h, k)
 
-text-tells : (s vs ps : List ℕ) → headOf s ≡ Row 9 → fieldsFrom (rowOf 9 .fields) s 0 ≡ good vs ps
-    → (contents s ≡ pieces s (elements s (getD ps 13 0))) × Chain s (getD ps 13 0) (elements s (getD ps 13 0))
-unfolding allSilent
-text-tells s vs ps h k =
-    let r = last-data (bytes "An,n,n,n,n,m,") s 0 vs ps tt k in
-    (contents-is s 9 vs ps h k ∙ r .0, r .1)
+-- what reading a row's fields tells of the item that they make, for each row
+abbrev TellsLine : List ℕ → Command → Type 0
+TellsLine s (item i) = Tells s i
+TellsLine s End = Unit {0}
+TellsLine s (Page c) = Unit {0}
+TellsLine s (Forms c) = Unit {0}
+TellsLine s (Pictures c) = Unit {0}
+TellsLine s (Values c) = Unit {0}
+TellsLine s (Listing c) = Unit {0}
 
-bars-tell : (s vs ps : List ℕ) → headOf s ≡ Row 10 → fieldsFrom (rowOf 10 .fields) s 0 ≡ good vs ps
-    → (contents s ≡ pieces s (elements s (getD ps 17 0))) × Chain s (getD ps 17 0) (elements s (getD ps 17 0))
-unfolding allSilent
-bars-tell s vs ps h k =
-    let r = last-data (bytes "Bn,n,n,k,n,w,n,N,") s 0 vs ps tt k in
-    (contents-is s 10 vs ps h k ∙ r .0, r .1)
+Telling : ℕ → Form → Type 0
+Telling k f =
+    (s vs ps : List ℕ) → fieldsFrom (f .fields) s 0 ≡ good vs ps → contents s ≡ heldBy (f .fields) s vs ps
+    → TellsLine s (f .makes s (λ i. getD (inOrder (f .fields) 0 vs) i 0) (λ i. getD (inOrder (f .fields) 0 ps) i 0))
 
-row-tells : (row : ℕ) (s vs ps : List ℕ) → headOf s ≡ Row row → fieldsFrom (rowOf row .fields) s 0 ≡ good vs ps
-    → Tells s (itemOf row vs ps)
-unfolding Tells itemOf
-row-tells row s vs ps h k =
-    let q : (Item → Type 0) = Tells s in
-    choice q (eqb row 2) _ _ (λ e. tt)
-    (choice q (eqb row 8) _ _ (λ e. tt)
-    (choice q (eqb row 9) _ _
-    (λ e. let z : row ≡ 9 = eqb-true row 9 e in text-tells s vs ps (rw z at h) (rw z at k))
-    (choice q (eqb row 10) _ _
-    (λ e. let z : row ≡ 10 = eqb-true row 10 e in bars-tell s vs ps (rw z at h) (rw z at k))
-    (choice q (eqb row 11) _ _ (λ e. tt)
-    (choice q (eqb row 22) _ _ (λ e. tt)
-    (choice q (eqb row 23) _ _ (λ e. tt)
-    tt))))))
+telling : Each Telling forms
+unfolding Telling Tells allSilent inOrder
+telling =
+    (λ s vs ps k c. tt)
+    & (λ s vs ps k c. tt)
+    & (λ s vs ps k c. tt)
+    & (λ s vs ps k c. tt)
+    & (λ s vs ps k c. tt)
+    & (λ s vs ps k c. tt)
+    & (λ s vs ps k c. tt)
+    & (λ s vs ps k c. tt)
+    & (λ s vs ps k c. tt)
+    & (λ s vs ps k c. (let r = last-data (bytes "An,n,n,n,n,m,") s 0 vs ps tt k in (c ∙ r .0, r .1)))
+    & (λ s vs ps k c. (let r = last-data (bytes "Bn,n,n,k,n,w,n,N,") s 0 vs ps tt k in (c ∙ r .0, r .1)))
+    & (λ s vs ps k c. tt)
+    & (λ s vs ps k c. tt)
+    & (λ s vs ps k c. tt)
+    & (λ s vs ps k c. tt)
+    & (λ s vs ps k c. tt)
+    & (λ s vs ps k c. tt)
+    & (λ s vs ps k c. tt)
+    & (λ s vs ps k c. tt)
+    & (λ s vs ps k c. tt)
+    & (λ s vs ps k c. tt)
+    & (λ s vs ps k c. tt)
+    & (λ s vs ps k c. tt)
+    & (λ s vs ps k c. tt)
+    & (λ s vs ps k c. tt)
+    & (λ s vs ps k c. tt)
+    & (λ s vs ps k c. tt)
+    & (λ s vs ps k c. tt)
+    & (λ j s vs ps k c. tt)
 
 item-tells : (rows : ℕ) (s : List ℕ) (i : Item) → readOf rows s ≡ Reads (item i) → Tells s i
-unfolding ReadBy
+unfolding Telling
 item-tells rows s i h =
     let p = item-parted rows s i h in
-    let t = subst (ReadBy (p .row) (p .vs) (p .ps)) (p .command) (read-by (p .row) s (p .vs) (p .ps)) in
-    subst (Tells s) (t .1) (row-tells (p .row) s (p .vs) (p .ps) (p .head) (p .read))
+    subst (TellsLine s) (p .command) (each-row Telling telling (p .row) s (p .vs) (p .ps) (p .read) (contents-is s (p .row) (p .vs) (p .ps) (p .head) (p .read)))
 
 -- ---- an item, judged by what it says
 

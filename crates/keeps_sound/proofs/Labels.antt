@@ -8,25 +8,27 @@ use native.Mathlib.Omega.{arith}
 use lib.ListN.{length, set, length-set}
 use lib.Dec.{eqb}
 use borrow.Author.Tests.{eqb-false, leb-true, le-leb}
-use Rattle.store.specs.Find.{recorded}
-use Rattle.values.specs.declared.declarations.Declared.{Declared}
-use Rattle.values.specs.declared.counters.Counters.{Counters}
-use Rattle.values.specs.Counters.{movedAll, movedFrom, movedAt}
-use Rattle.values.specs.Stored.{allSet}
+use Rattle.finding.specs.Find.{recorded}
+use Rattle.declarations.specs.declared.Declared.{Declared}
+use Rattle.counters.specs.declared.Counters.{Counters}
+use Rattle.counters.specs.Counters.{movedAll, movedFrom, movedAt}
+use Rattle.values.specs.Sound.{allSet}
 use Rattle.values.proofs.Sound.{all-set-moved, sound-moved}
-use Rattle.forms.specs.Form.{declaredOf, picturesStored, isAt}
-use Rattle.sound.specs.Sound.{numbersOk, owedOk, sound}
+use Rattle.forms.specs.Form.{declaredOf, picturesStored}
+use Rattle.recording.specs.Judged.{isAt}
+use Rattle.sound.specs.Sound.{numbersOk, sound}
+use Rattle.activity_check.specs.Activity.{owedOk}
 use Rattle.session.specs.declared.Session.{Session}
-use Rattle.session.specs.declared.answers.Answer.{Answer}
-use Rattle.session.specs.declared.answers.Answer.the-variants.{Taken, Lengths}
-use Rattle.session.specs.Answers.{numberOf, isTaken, answerOf}
+use Rattle.answers.specs.declared.Answer.{Answer}
+use Rattle.answers.specs.declared.Answer.the-variants.{Taken, Lengths}
+use Rattle.answers.specs.Answers.{numberOf, isTaken, answerOf}
 use Rattle.session.specs.Session.{withLabels, counting}
-use Rattle.session.specs.Lent.{World, wrongLent}
+use Rattle.lent.specs.Lent.{World, wrongLent}
 use Rattle.session.specs.Active.{activeOf, activeDeclared}
 use Rattle.results.proofs.Answers.{or-none}
-use Rattle.station.specs.Outcomes.{Drawn, drawnBy, labelled}
-use Rattle.station.specs.Table.{labelTable}
-use Rattle.station.specs.Station.{labelPage, labelSession, labelledBy}
+use Rattle.calls.specs.Outcomes.{Drawn, drawnBy, labelled}
+use Rattle.calls.specs.Table.{labelTable}
+use Rattle.calls.specs.Station.{labelPage, labelSession, labelledBy}
 use Rattle.ground.proofs.Tests.{or-second}
 use Rattle.keeps_sound.specs.Good.{Good}
 use Rattle.keeps_sound.specs.Tens.{Tens}

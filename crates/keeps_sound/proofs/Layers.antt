@@ -3,9 +3,10 @@
 use mathlib.Core.Path.{_≡_, refl}
 use mathlib.Core.Bool.{Bool, true, false, _&&_, false≢true}
 use Rattle.store_sound.specs.Sound.{storeSound}
-use Rattle.sound.specs.Sound.{numbersOk, backgroundOk, contentsOk, sound}
+use Rattle.sound.specs.Sound.{numbersOk, backgroundOk, sound}
+use Rattle.content_check.specs.Contents.{contentsOk}
 use Rattle.session.specs.declared.Session.{Session}
-use Rattle.session.specs.Lent.{World, rowsOf, wrongLent}
+use Rattle.lent.specs.Lent.{World, rowsOf, wrongLent}
 use Rattle.keeps_sound.specs.Good.{Good}
 
 pub both : (a b : Bool) → a ≡ true → b ≡ true → (a && b) ≡ true

@@ -6,32 +6,34 @@ use mathlib.Core.List.{List, [], _∷_}
 use Prim.Native.Nat.{ℕ}
 use lib.ListN.{length}
 use lib.Dec.{eqb}
-use Rattle.store.specs.declared.Found.{Found}
-use Rattle.store.specs.declared.Found.the-variants.{At, Nothing}
-use Rattle.store.specs.Find.{recorded}
-use Rattle.read.specs.declared.Command.{Command}
-use Rattle.read.specs.declared.Command.the-variants.{Item as item, End, Page, Forms, Pictures, Values, Listing}
-use Rattle.read.specs.declared.FormCommand.the-variants.{Start, Retrieve, Erase as EraseForm}
-use Rattle.read.specs.declared.PictureCommand.the-variants.{Store, Erase as ErasePicture}
-use Rattle.read.specs.declared.ValueCommand.the-variants.{Variable as EnterVariable, Counter as EnterCounter, Clear, Print}
-use Rattle.read.specs.declared.ListingCommand.the-variants.{Forms as ListForms, Pictures as ListPictures, Form as ListForm}
+use Rattle.finding.specs.declared.Found.{Found}
+use Rattle.finding.specs.declared.Found.the-variants.{At, Nothing}
+use Rattle.finding.specs.Find.{recorded}
+use Rattle.grammar.specs.declared.Command.{Command}
+use Rattle.grammar.specs.declared.Command.the-variants.{Item as item, End, Page, Forms, Pictures, Values, Listing}
+use Rattle.grammar.specs.declared.FormCommand.the-variants.{Start, Retrieve, Erase as EraseForm}
+use Rattle.grammar.specs.declared.PictureCommand.the-variants.{Store, Erase as ErasePicture}
+use Rattle.grammar.specs.declared.ValueCommand.the-variants.{Variable as EnterVariable, Counter as EnterCounter, Clear, Print}
+use Rattle.grammar.specs.declared.ListingCommand.the-variants.{Forms as ListForms, Pictures as ListPictures, Form as ListForm}
 use Rattle.read.specs.declared.Fault.the-variants.{Form as form, Limit}
-use Rattle.read.specs.declared.Front.{Front}
-use Rattle.read.specs.declared.Front.the-variants.{Short, Long as LongLine, Idle, Line}
+use Rattle.front.specs.declared.Front.{Front}
+use Rattle.front.specs.declared.Front.the-variants.{Short, Long as LongLine, Idle, Line}
 use Rattle.read.specs.declared.Read.{Read}
 use Rattle.read.specs.declared.Read.the-variants.{Taken as Reads, Refused}
 use Rattle.read.specs.Commands.{readOf}
-use Rattle.read.specs.Front.{frontOf}
+use Rattle.front.specs.Front.{frontOf}
 use Rattle.sound.specs.Sound.{sound}
 use Rattle.session.specs.declared.Session.{Session}
-use Rattle.session.specs.declared.answers.Answer.{Answer}
-use Rattle.session.specs.declared.answers.Answer.the-variants.{Taken, Unsound}
-use Rattle.session.specs.Answers.{Row, numberOf, isTaken, answerOf}
-use Rattle.session.specs.Lent.{World, rowsOf}
+use Rattle.answers.specs.declared.Answer.{Answer}
+use Rattle.answers.specs.declared.Answer.the-variants.{Taken, Unsound}
+use Rattle.answers.specs.Answers.{Row, numberOf, isTaken, answerOf}
+use Rattle.lent.specs.Lent.{World, rowsOf}
 use Rattle.commands.specs.Rows.{recordRows, runRows, placedRows, lineRows}
-use Rattle.station.specs.Outcomes.{After, Drawn, drawnBy, labelled}
-use Rattle.station.specs.Table.{lineOf, moreOf, frontRows, commandTable, labelTable}
-use Rattle.station.specs.Station.{readBy, refused, commanded, labelledBy}
+use Rattle.calls.specs.Outcomes.{After, Drawn, drawnBy, labelled}
+use Rattle.unread.specs.Front.{lineOf, moreOf}
+use Rattle.calls.specs.Table.{frontRows, commandTable, labelTable}
+use Rattle.unread.specs.Front.{readBy}
+use Rattle.calls.specs.Station.{refused, commanded, labelledBy}
 use Rattle.keeps_sound.proofs.Layers.{first-of, second-of}
 
 -- ---- tables none of whose rows gives 3

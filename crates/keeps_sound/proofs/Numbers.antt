@@ -9,21 +9,22 @@ use native.Mathlib.Omega.{arith}
 use lib.ListN.{length}
 use Rattle.cells.specs.Cell.{zeros}
 use Rattle.cells.proofs.Cells.{length-zeros}
-use Rattle.values.specs.Declarations.{nothing}
-use Rattle.read.specs.declared.Item.{Item}
-use Rattle.read.specs.declared.Item.the-variants.{Origin, Variable, Counter, Text, Bars, Box, Frame, Picture}
-use Rattle.read.specs.declared.Length.{Length as LengthOf}
-use Rattle.read.specs.declared.Width.{Width as WidthOf}
-use Rattle.read.specs.declared.Turn.{Turn as TurnOf}
-use Rattle.read.specs.declared.Command.the-variants.{Item as item, Page}
-use Rattle.read.specs.declared.PageCommand.the-variants.{Length, Width, Turn}
+use Rattle.declarations.specs.Declarations.{nothing}
+use Rattle.grammar.specs.declared.Item.{Item}
+use Rattle.grammar.specs.declared.Item.the-variants.{Origin, Variable, Counter, Text, Bars, Box, Frame, Picture}
+use Rattle.grammar.specs.declared.Length.{Length as LengthOf}
+use Rattle.grammar.specs.declared.Width.{Width as WidthOf}
+use Rattle.grammar.specs.declared.Turn.{Turn as TurnOf}
+use Rattle.grammar.specs.declared.Command.the-variants.{Item as item, Page}
+use Rattle.grammar.specs.declared.PageCommand.the-variants.{Length, Width, Turn}
 use Rattle.read.specs.declared.Read.the-variants.{Taken as Reads}
 use Rattle.read.specs.Commands.{readOf}
-use Rattle.forms.specs.Draw.{Setting, setting, drawsItem}
-use Rattle.sound.specs.Sound.{numbersOk, backgroundOk, activitySound}
+use Rattle.item_drawing.specs.Draw.{Setting, setting, drawsItem}
+use Rattle.sound.specs.Sound.{numbersOk, backgroundOk}
+use Rattle.activity_check.specs.Activity.{activitySound}
 use Rattle.session.specs.declared.Session.{Session}
 use Rattle.session.specs.Session.{sized, turning, based}
-use Rattle.session.specs.Lent.{World, rowsOf}
+use Rattle.lent.specs.Lent.{World, rowsOf}
 use Rattle.session.specs.Active.{activeOf}
 use Rattle.results.specs.World.{withBackground}
 use Rattle.results.specs.Result.{sixteenBits}

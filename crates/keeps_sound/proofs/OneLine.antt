@@ -9,23 +9,27 @@ use native.Mathlib.Decide.{decLt}
 use lib.Dec.{T, eqb, ltb}
 use borrow.Author.Tests.{lt-ltb, le-ltb, eq-eqb}
 use Rattle.kinds.specs.Bytes.{between}
-use Rattle.fields.specs.declared.Class.{Class}
-use Rattle.fields.specs.declared.Class.the-variants.{Digit, Quoted, Mode, Side}
+use Rattle.classes.specs.declared.Class.{Class}
+use Rattle.classes.specs.declared.Class.the-variants.{Digit, Quoted, Mode, Side}
 use Rattle.fields.specs.declared.Field.the-variants.{Is}
-use Rattle.fields.specs.declared.Part.{Part}
-use Rattle.fields.specs.declared.Part.the-variants.{Whole, First, Last, Middle}
-use Rattle.fields.specs.declared.Element.{Element}
-use Rattle.fields.specs.Bytes.{inClass}
-use Rattle.fields.specs.Field.{textAt, nought}
-use Rattle.fields.proofs.Laws.{and-T}
-use Rattle.read.specs.Grammar.{forms, rowOf, fieldAt, fieldsFrom, good}
+use Rattle.elements.specs.declared.Part.{Part}
+use Rattle.elements.specs.declared.Part.the-variants.{Whole, First, Last, Middle}
+use Rattle.elements.specs.declared.Element.{Element}
+use Rattle.classes.specs.Bytes.{inClass}
+use Rattle.fields.specs.Field.{textAt}
+use Rattle.numbers.specs.Number.{nought}
+use Rattle.classes.proofs.Laws.{and-T}
+use Rattle.grammar.specs.Forms.{forms, rowOf}
+use Rattle.reader.specs.Letters.{fieldAt}
+use Rattle.row_fields.specs.Reading.{fieldsFrom, good}
 use Rattle.read.specs.Commands.{readOf}
-use Rattle.read.specs.declared.Item.{Item}
-use Rattle.read.specs.declared.Command.the-variants.{Item as item}
+use Rattle.grammar.specs.declared.Item.{Item}
+use Rattle.grammar.specs.declared.Command.the-variants.{Item as item}
 use Rattle.read.specs.declared.Read.the-variants.{Taken as Reads}
-use Rattle.read.proofs.Rows.{fields-split}
-use Rattle.normal.specs.Written.{decimal, signed, kept, cased, partWritten, whatWritten, elementWritten, dataWritten, writtenField, writtenFrom, normal}
-use Rattle.normal.proofs.Writes.{cased-kept}
+use Rattle.row_fields.proofs.Rows.{fields-split}
+use Rattle.writing.specs.Writing.{decimal, signed, kept, cased}
+use Rattle.normal.specs.Written.{partWritten, whatWritten, elementWritten, dataWritten, writtenField, writtenFrom, normal}
+use Rattle.writing.proofs.Writes.{cased-kept}
 use Rattle.normal.proofs.Back.{allIn, T-true, digits-class, number-fits, signed-fits, letter-fits, text-fits, cased-quoted, cased-quotes}
 use Rattle.normal.proofs.Data.{PartFits, Fits, a-text as is-text, a-variable as is-variable, a-counter as is-counter, Chain, ended, then, chain-of}
 use Rattle.normal.proofs.Fields.{Letter, a-number, a-wide, a-step, a-prompt, a-text, a-name, a-star, a-mode, a-side, a-type, some-data, itself, letter-of, TypeFits, one, two, three, ean, type-fits, plain-written}

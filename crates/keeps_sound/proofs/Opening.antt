@@ -10,22 +10,25 @@ use lib.Dec.{eqb}
 use Rattle.cells.specs.Cell.{zeros}
 use Rattle.cells.proofs.Cells.{length-zeros, getD-zeros, cell-at}
 use Rattle.cells.proofs.Counts.{all-of}
-use Rattle.dots.specs.Whole.{white}
-use Rattle.dots.proofs.WholePages.{white-outside-white}
+use Rattle.pages.specs.Pages.{white}
+use Rattle.outside.proofs.WhiteOutside.{white-outside-white}
 use Rattle.store.specs.Entry.{entries, entry, kind}
 use Rattle.store_sound.proofs.Cleared.{cleared-sound}
-use Rattle.values.specs.Counters.{noneSet}
-use Rattle.values.specs.Stored.{unset, valuesSound}
+use Rattle.counters.specs.Counters.{noneSet}
+use Rattle.stored_values.specs.Stored.{unset}
+use Rattle.values.specs.Sound.{valuesSound}
 use Rattle.values.proofs.Sound.{sound-none}
 use Rattle.forms.specs.Form.{declaredOf}
-use Rattle.sound.specs.Sound.{sound, backgroundOk, contentOk, contentsOk, activeOk, owedOk}
-use Rattle.session.specs.declared.answers.Answer.the-variants.{Taken, Lengths}
-use Rattle.session.specs.Answers.{numberOf, isTaken}
+use Rattle.sound.specs.Sound.{sound, backgroundOk}
+use Rattle.content_check.specs.Contents.{contentOk, contentsOk}
+use Rattle.activity_check.specs.Activity.{activeOk, owedOk}
+use Rattle.answers.specs.declared.Answer.the-variants.{Taken, Lengths}
+use Rattle.answers.specs.Answers.{numberOf, isTaken}
 use Rattle.session.specs.Session.{none, fresh, blank}
-use Rattle.session.specs.Lent.{World, rowsOf, wrongLent}
+use Rattle.lent.specs.Lent.{World, rowsOf, wrongLent}
 use Rattle.results.proofs.Answers.{or-none}
-use Rattle.station.specs.Outcomes.{Opened, openedBy, labelled}
-use Rattle.station.specs.Station.{cleared, opened}
+use Rattle.calls.specs.Outcomes.{Opened, openedBy, labelled}
+use Rattle.calls.specs.Station.{cleared, opened}
 use Rattle.keeps_sound.specs.Good.{Good}
 use Rattle.keeps_sound.specs.Tens.{Tens}
 use Rattle.keeps_sound.proofs.Layers.{good-sound}

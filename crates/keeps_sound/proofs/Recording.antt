@@ -9,37 +9,40 @@ use lib.ListN.{length, length-append}
 use lib.Dec.{eqb, leb}
 use borrow.Author.Tests.{eq-eqb, eqb-true, le-leb}
 use Rattle.cells.proofs.Scan.{lowest-passes}
-use Rattle.store.specs.declared.Found.the-variants.{At}
+use Rattle.finding.specs.declared.Found.the-variants.{At}
 use Rattle.store.specs.Entry.{entries, entry, kind, name}
-use Rattle.store.specs.Find.{isRecording, recorded}
-use Rattle.store.proofs.Finding.{at-says}
-use Rattle.moves.specs.Memory.{memory}
-use Rattle.moves.specs.Grow.{canGrow, appended}
-use Rattle.moves.specs.Start.{finished}
+use Rattle.finding.specs.Find.{isRecording, recorded}
+use Rattle.finding.proofs.Finding.{at-says}
+use Rattle.memory.specs.Memory.{memory}
+use Rattle.room.specs.Room.{canGrow}
+use Rattle.growing.specs.Grow.{appended}
+use Rattle.starting.specs.Start.{finished}
 use Rattle.store_sound.specs.Shelf.{held, heldOf}
 use Rattle.store_sound.proofs.Listing.{shelf-at}
 use Rattle.store_sound.proofs.Grow.{append-moved}
 use Rattle.store_sound.proofs.Finish.{finish-moved}
-use Rattle.values.specs.declared.declarations.Declared.{Declared}
-use Rattle.values.specs.Stored.{allSet}
+use Rattle.declarations.specs.declared.Declared.{Declared}
+use Rattle.values.specs.Sound.{allSet}
 use Rattle.read.specs.Commands.{readOf}
-use Rattle.read.specs.declared.Item.{Item}
-use Rattle.read.specs.declared.Command.{Command}
-use Rattle.read.specs.declared.Command.the-variants.{Item as item, End, Page, Forms, Pictures, Values, Listing}
+use Rattle.grammar.specs.declared.Item.{Item}
+use Rattle.grammar.specs.declared.Command.{Command}
+use Rattle.grammar.specs.declared.Command.the-variants.{Item as item, End, Page, Forms, Pictures, Values, Listing}
 use Rattle.read.specs.declared.Read.the-variants.{Taken as Reads}
-use Rattle.normal.specs.Written.{normal, takenItem, equal, isNormal}
+use Rattle.normal.specs.Written.{normal, takenItem, isNormal}
+use Rattle.writing.specs.Writing.{equal}
 use Rattle.normal.proofs.Round.{normal-line, item-rows}
 use Rattle.normal.proofs.Short.{normal-short}
-use Rattle.forms.specs.declared.Verdict.the-variants.{Taken as Fine}
-use Rattle.forms.specs.declared.Stored.the-variants.{Holds, Nothing as NoItem}
-use Rattle.forms.specs.Judged.{judged, isTaken as isFine}
-use Rattle.forms.specs.Form.{formOk, declaredOf, itemIn, heldRead, takesStored, takes, picturesStored}
+use Rattle.recording.specs.declared.Verdict.the-variants.{Taken as Fine}
+use Rattle.form_lines.specs.declared.Stored.the-variants.{Holds, Nothing as NoItem}
+use Rattle.recording.specs.Judged.{judged, isTaken as isFine}
+use Rattle.forms.specs.Form.{formOk, declaredOf, takesStored, takes, picturesStored}
+use Rattle.form_lines.specs.Held.{itemIn, heldRead}
 use Rattle.forms.proofs.Growing.{formOk-grows}
-use Rattle.sound.specs.Sound.{owedOk}
+use Rattle.activity_check.specs.Activity.{owedOk}
 use Rattle.session.specs.declared.Session.{Session}
-use Rattle.session.specs.declared.answers.Answer.the-variants.{Taken, Misplaced, Missing, Again, Undeclared, Past, Unfit, Full}
-use Rattle.session.specs.Answers.{Row, isTaken, numberOf, answerOf}
-use Rattle.session.specs.Lent.{World, rowsOf}
+use Rattle.answers.specs.declared.Answer.the-variants.{Taken, Misplaced, Missing, Again, Undeclared, Past, Unfit, Full}
+use Rattle.answers.specs.Answers.{Row, isTaken, numberOf, answerOf}
+use Rattle.lent.specs.Lent.{World, rowsOf}
 use Rattle.session.specs.Active.{activeOf, activeDeclared}
 use Rattle.results.specs.World.{memoryOf, contentAt}
 use Rattle.item_commands.specs.Items.{fitRows}

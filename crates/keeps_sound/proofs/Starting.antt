@@ -8,30 +8,32 @@ use native.Mathlib.Omega.{arith}
 use lib.ListN.{length}
 use borrow.Author.Tests.{eqb-true, lt-ltb}
 use Rattle.cells.proofs.Scan.{lowest-passes}
-use Rattle.store.specs.declared.Found.{Found}
-use Rattle.store.specs.declared.Found.the-variants.{At, Nothing}
+use Rattle.finding.specs.declared.Found.{Found}
+use Rattle.finding.specs.declared.Found.the-variants.{At, Nothing}
 use Rattle.store.specs.Entry.{entries, entry, kind}
-use Rattle.store.specs.Find.{isEmpty, recorded}
-use Rattle.moves.specs.Start.{lowestEntry, hasRoom, started, canKeep, kept}
+use Rattle.finding.specs.Find.{isEmpty, recorded}
+use Rattle.room.specs.Room.{lowestEntry, hasRoom}
+use Rattle.starting.specs.Start.{started}
+use Rattle.growing.specs.Keep.{canKeep, kept}
 use Rattle.store_sound.specs.Shelf.{held}
 use Rattle.store_sound.proofs.Start.{MayStart, room-says, start-moved}
 use Rattle.store_sound.proofs.Keep.{keep-moved}
-use Rattle.picture.specs.Rules.{legal}
-use Rattle.picture.proofs.Rules.{legal-says}
-use Rattle.read.specs.declared.Named.{Named}
-use Rattle.read.specs.declared.StorePicture.{StorePicture}
-use Rattle.read.specs.declared.Command.the-variants.{Forms, Pictures}
-use Rattle.read.specs.declared.FormCommand.the-variants.{Start}
-use Rattle.read.specs.declared.PictureCommand.the-variants.{Store}
+use Rattle.pcx.specs.Rules.{legal}
+use Rattle.pcx.proofs.Rules.{legal-says}
+use Rattle.grammar.specs.declared.Named.{Named}
+use Rattle.grammar.specs.declared.StorePicture.{StorePicture}
+use Rattle.grammar.specs.declared.Command.the-variants.{Forms, Pictures}
+use Rattle.grammar.specs.declared.FormCommand.the-variants.{Start}
+use Rattle.grammar.specs.declared.PictureCommand.the-variants.{Store}
 use Rattle.read.specs.declared.Read.the-variants.{Taken as Reads}
 use Rattle.read.specs.Commands.{readOf}
 use Rattle.parts.specs.Names.{packedOf}
-use Rattle.forms.specs.Form.{isAt}
+use Rattle.recording.specs.Judged.{isAt}
 use Rattle.forms.proofs.Growing.{formOk-empty}
 use Rattle.session.specs.declared.Session.{Session}
-use Rattle.session.specs.declared.answers.Answer.the-variants.{Taken, Misplaced, InUse, Illegal, Full}
-use Rattle.session.specs.Answers.{isTaken, numberOf, answerOf}
-use Rattle.session.specs.Lent.{World, rowsOf}
+use Rattle.answers.specs.declared.Answer.the-variants.{Taken, Misplaced, InUse, Illegal, Full}
+use Rattle.answers.specs.Answers.{isTaken, numberOf, answerOf}
+use Rattle.lent.specs.Lent.{World, rowsOf}
 use Rattle.results.specs.World.{memoryOf}
 use Rattle.results.specs.Named.{lookup, named}
 use Rattle.commands.specs.Rows.{runRows}

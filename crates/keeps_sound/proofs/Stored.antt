@@ -12,22 +12,24 @@ use borrow.Author.Tests.{eq-eqb, ne-eqb, eqb-true, leb-true, leb-false, le-ltb}
 use Rattle.cells.specs.Cell.{cell}
 use Rattle.cells.proofs.Counts.{all-at, all-of}
 use Rattle.store.specs.Entry.{entries, entry, kind, ofKind}
-use Rattle.store.specs.Content.{contentOf}
-use Rattle.moves.specs.Memory.{Memory}
+use Rattle.contents.specs.Content.{contentOf}
+use Rattle.memory.specs.Memory.{Memory}
 use Rattle.store_sound.specs.Sound.{lentOk, storeSound}
 use Rattle.store_sound.specs.Shelf.{Held, nothing, heldOf, shelfOf}
 use Rattle.store_sound.proofs.Facts.{sound-facts, lent-few, lent-store, lent-whole}
 use Rattle.store_sound.proofs.Listing.{shelf-at}
 use Rattle.store_sound.proofs.Moving.{Moved, moved-other, moved-here}
-use Rattle.picture.specs.Rules.{legal}
-use Rattle.values.specs.Stored.{unset}
-use Rattle.values.specs.Counters.{noneSet}
+use Rattle.pcx.specs.Rules.{legal}
+use Rattle.stored_values.specs.Stored.{unset}
+use Rattle.counters.specs.Counters.{noneSet}
 use Rattle.values.proofs.Sound.{sound-none}
 use Rattle.forms.specs.Form.{formOk, declaredOf}
-use Rattle.sound.specs.Sound.{numbersOk, contentOk, contentsOk, activeOk, activeBytes, valuesOk, countsOk, owedOk, activitySound}
+use Rattle.sound.specs.Sound.{numbersOk, activeBytes}
+use Rattle.content_check.specs.Contents.{contentOk, contentsOk}
+use Rattle.activity_check.specs.Activity.{activeOk, valuesOk, countsOk, owedOk, activitySound}
 use Rattle.session.specs.declared.Session.{Session}
 use Rattle.session.specs.Session.{activated}
-use Rattle.session.specs.Lent.{World, pageWrong, storeWrong, lengthsWrong}
+use Rattle.lent.specs.Lent.{World, pageWrong, storeWrong, lengthsWrong}
 use Rattle.results.specs.World.{memoryOf, withMemory, unsetIn}
 use Rattle.results.proofs.Answers.{or-none}
 use Rattle.ground.proofs.Tests.{same?, and-left, and-right, and-both, either}

@@ -3,8 +3,8 @@
 use mathlib.Core.Path.{_≡_, refl, sym, ap, _∙_}
 use mathlib.Core.Bool.{Bool, true, false, not, false≢true}
 use mathlib.Core.List.{List, _∷_}
-use Rattle.session.specs.declared.answers.Answer.{Answer}
-use Rattle.session.specs.declared.answers.Answer.the-variants.{
+use Rattle.answers.specs.declared.Answer.{Answer}
+use Rattle.answers.specs.declared.Answer.the-variants.{
   Taken,
   Lengths,
   Font,
@@ -28,7 +28,7 @@ use Rattle.session.specs.declared.answers.Answer.the-variants.{
   Overlong,
   NoneOwed,
 }
-use Rattle.session.specs.Answers.{Row, row, isTaken, answerOf, numberOf}
+use Rattle.answers.specs.Answers.{Row, row, isTaken, answerOf, numberOf}
 
 -- the first row does not apply, and the others are clear as well
 pub clear : (a : Answer) (b : Bool) (rows : List Row) → isTaken a ≡ false → answerOf (row a b ∷ rows) ≡ Taken → (b ≡ false) × (answerOf rows ≡ Taken)

@@ -6,40 +6,41 @@ use mathlib.Core.List.{List}
 use Prim.Native.Nat.{ℕ}
 use lib.ListN.{length, set, length-set}
 use lib.Dec.{eqb, ltb}
-use Rattle.store.specs.declared.Found.{Found}
-use Rattle.store.specs.declared.Found.the-variants.{At, Nothing}
-use Rattle.store.specs.Find.{recorded}
-use Rattle.values.specs.declared.declarations.Declared.{Declared}
-use Rattle.values.specs.declared.counters.Counters.{Counters}
-use Rattle.values.specs.declared.counters.Entered.the-variants.{Taken as Enters, Undeclared as NotDeclared, Unfit as DoesNotFit}
-use Rattle.values.specs.Declarations.{widthAt, counterDeclared}
-use Rattle.values.specs.Counters.{tenTo, counters, counted, counterEntered}
-use Rattle.read.specs.declared.Item.{Item}
-use Rattle.read.specs.declared.Item.the-variants.{Origin, Variable, Counter, Text, Bars, Box, Frame, Picture}
-use Rattle.read.specs.declared.Command.{Command}
-use Rattle.read.specs.declared.Command.the-variants.{Item as item, End, Page, Forms, Pictures, Values, Listing}
-use Rattle.read.specs.declared.PageCommand.the-variants.{Length, Width, Turn, White}
-use Rattle.read.specs.declared.FormCommand.the-variants.{Start, Retrieve, Erase as EraseForm}
-use Rattle.read.specs.declared.PictureCommand.the-variants.{Store, Erase as ErasePicture}
-use Rattle.read.specs.declared.ValueCommand.the-variants.{Variable as EnterVariable, Counter as EnterCounter, Clear, Print}
-use Rattle.read.specs.declared.Front.{Front}
-use Rattle.read.specs.declared.Front.the-variants.{Short, Long as LongLine, Idle, Line}
+use Rattle.finding.specs.declared.Found.{Found}
+use Rattle.finding.specs.declared.Found.the-variants.{At, Nothing}
+use Rattle.finding.specs.Find.{recorded}
+use Rattle.declarations.specs.declared.Declared.{Declared}
+use Rattle.counters.specs.declared.Counters.{Counters}
+use Rattle.declarations.specs.declared.Entered.the-variants.{Taken as Enters, Undeclared as NotDeclared, Unfit as DoesNotFit}
+use Rattle.declarations.specs.Declarations.{widthAt, counterDeclared}
+use Rattle.counters.specs.Counters.{tenTo, counters, counted, counterEntered}
+use Rattle.grammar.specs.declared.Item.{Item}
+use Rattle.grammar.specs.declared.Item.the-variants.{Origin, Variable, Counter, Text, Bars, Box, Frame, Picture}
+use Rattle.grammar.specs.declared.Command.{Command}
+use Rattle.grammar.specs.declared.Command.the-variants.{Item as item, End, Page, Forms, Pictures, Values, Listing}
+use Rattle.grammar.specs.declared.PageCommand.the-variants.{Length, Width, Turn, White}
+use Rattle.grammar.specs.declared.FormCommand.the-variants.{Start, Retrieve, Erase as EraseForm}
+use Rattle.grammar.specs.declared.PictureCommand.the-variants.{Store, Erase as ErasePicture}
+use Rattle.grammar.specs.declared.ValueCommand.the-variants.{Variable as EnterVariable, Counter as EnterCounter, Clear, Print}
+use Rattle.front.specs.declared.Front.{Front}
+use Rattle.front.specs.declared.Front.the-variants.{Short, Long as LongLine, Idle, Line}
 use Rattle.read.specs.declared.Read.{Read}
 use Rattle.read.specs.declared.Read.the-variants.{Taken as Reads, Refused}
 use Rattle.read.specs.Commands.{readOf}
-use Rattle.read.specs.Front.{frontOf}
+use Rattle.front.specs.Front.{frontOf}
 use Rattle.session.specs.declared.Session.{Session}
-use Rattle.session.specs.Answers.{isTaken, answerOf}
+use Rattle.answers.specs.Answers.{isTaken, answerOf}
 use Rattle.session.specs.Session.{activated}
-use Rattle.session.specs.Lent.{World, rowsOf}
+use Rattle.lent.specs.Lent.{World, rowsOf}
 use Rattle.session.specs.Active.{activeDeclared}
 use Rattle.results.specs.World.{State}
 use Rattle.results.specs.Named.{placeOf, named}
 use Rattle.item_commands.specs.Items.{basedBy}
 use Rattle.commands.specs.Does.{records, runs, placed, doesLine}
-use Rattle.station.specs.Table.{lineOf, moreOf, commandTable}
-use Rattle.station.specs.Outcomes.{After}
-use Rattle.station.specs.Station.{doesFront, commanded}
+use Rattle.unread.specs.Front.{lineOf, moreOf}
+use Rattle.calls.specs.Table.{commandTable}
+use Rattle.calls.specs.Outcomes.{After}
+use Rattle.calls.specs.Station.{doesFront, commanded}
 use Rattle.keeps_sound.specs.Tens.{Tens}
 
 -- ---- counters and sessions

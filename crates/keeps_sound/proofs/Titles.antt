@@ -15,28 +15,31 @@ use Rattle.cells.specs.Count.{allTo}
 use Rattle.cells.specs.Scan.{lowest}
 use Rattle.cells.proofs.Counts.{all-at, all-of}
 use Rattle.cells.proofs.Scan.{lowest-passes, lowest-first, lowest-most}
-use Rattle.fields.specs.declared.Class.{Class}
-use Rattle.fields.specs.declared.Class.the-variants.{Named as NameByte}
-use Rattle.fields.specs.declared.Limits.{Limits}
-use Rattle.fields.specs.declared.Limits.the-variants.{Within, Outside}
-use Rattle.fields.specs.Bytes.{inClass, run}
-use Rattle.fields.specs.Field.{runAt}
-use Rattle.moves.specs.Start.{nameEnd}
+use Rattle.classes.specs.declared.Class.{Class}
+use Rattle.classes.specs.declared.Class.the-variants.{Named as NameByte}
+use Rattle.data_field.specs.declared.Limits.{Limits}
+use Rattle.data_field.specs.declared.Limits.the-variants.{Within, Outside}
+use Rattle.classes.specs.Bytes.{inClass, run, runAt}
+use Rattle.starting.specs.Start.{nameEnd}
 use Rattle.store_sound.specs.Sound.{legalByte, nameByteOk}
 use Rattle.store_sound.specs.Shelf.{titleOk}
-use Rattle.read.specs.Grammar.{Got, good, bad, rowOf, boundsOf, headOf, fieldsFrom, limitsFrom, fieldLimits, firstOf, isNumber, meets, spread, free, named}
+use Rattle.row_fields.specs.Reading.{Got, good, bad, fieldsFrom}
+use Rattle.grammar.specs.Named.{FS, GM}
+use Rattle.grammar.specs.Forms.{Form, forms, rowOf, boundsOf, isNumber, spread, free, commandOf, inOrder}
+use Rattle.grammar.proofs.Rows.{_&_, Each, each-row}
+use Rattle.heads.specs.Heads.{headOf}
+use Rattle.row_limits.specs.Limits.{limitsFrom, fieldLimits, firstOf, meets, named}
 use Rattle.parts.specs.Names.{capital, nameByte, packedOf}
-use Rattle.read.specs.Commands.{readOf, headed, judged, decided, commandOf, itemOf, formOf, pictureOf, orderOf, isItem, isForm, isPicture, isValue, isListing, namedAt}
-use Rattle.grammar.specs.declared.Head.{Head}
-use Rattle.grammar.specs.declared.Head.the-variants.{Row, Unknown}
+use Rattle.read.specs.Commands.{readOf, headed, judged, decided}
+use Rattle.heads.specs.declared.Head.{Head}
+use Rattle.heads.specs.declared.Head.the-variants.{Row, Unknown}
 use Rattle.read.specs.declared.Read.the-variants.{Taken as Reads}
-use Rattle.read.specs.declared.Named.{Named}
-use Rattle.read.specs.declared.StorePicture.{StorePicture}
-use Rattle.read.specs.declared.Command.{Command}
-use Rattle.read.specs.declared.Command.the-variants.{Item as item, End, Page, Forms, Pictures, Values, Listing}
-use Rattle.read.specs.declared.FormCommand.{FormCommand}
-use Rattle.read.specs.declared.FormCommand.the-variants.{Start, Retrieve, Erase as EraseForm}
-use Rattle.read.specs.declared.PictureCommand.the-variants.{Store, Erase as ErasePicture}
+use Rattle.grammar.specs.declared.Named.{Named}
+use Rattle.grammar.specs.declared.StorePicture.{StorePicture}
+use Rattle.grammar.specs.declared.Command.{Command}
+use Rattle.grammar.specs.declared.Command.the-variants.{Item as item, End, Page, Forms, Pictures, Values, Listing}
+use Rattle.grammar.specs.declared.FormCommand.the-variants.{Start, Retrieve, Erase as EraseForm}
+use Rattle.grammar.specs.declared.PictureCommand.the-variants.{Store, Erase as ErasePicture}
 use Rattle.ground.proofs.Tests.{same?, and-both, either}
 
 -- ---- a name in capitals is a title
@@ -159,50 +162,16 @@ line-parted rows s c h = go (headOf s) h
     go (Row row) d = fields row (fieldsFrom (rowOf row .fields) s 0) d
     go Unknown d = absurd (let z : _≡_ {A = ℕ} 0 1 = cc in omega arith)
 
--- what a command says of the row that it is read by: an item is the row's, and of FS and GM the third field is the name
-unfoldable pub ReadBy : ℕ → List ℕ → List ℕ → Command → Type 0
-ReadBy row vs ps (item i) = (isItem row ≡ true) × (itemOf row vs ps ≡ i)
-ReadBy row vs ps End = Unit {0}
-ReadBy row vs ps (Page c) = Unit {0}
-ReadBy row vs ps (Forms (Start n)) = (row ≡ 12) × ((n .at ≡ getD ps 2 0) × (n .length ≡ getD vs 2 0))
-ReadBy row vs ps (Forms (Retrieve n)) = Unit {0}
-ReadBy row vs ps (Forms (EraseForm n)) = Unit {0}
-ReadBy row vs ps (Pictures (Store p)) = (row ≡ 20) × ((p .at ≡ getD ps 2 0) × (p .length ≡ getD vs 2 0))
-ReadBy row vs ps (Pictures (ErasePicture n)) = Unit {0}
-ReadBy row vs ps (Values c) = Unit {0}
-ReadBy row vs ps (Listing c) = Unit {0}
+-- what the limits of a row tell of the command that its fields make, for each row
+abbrev pub Told : (ℕ → List ℕ → Command → Type 0) → ℕ → Form → Type 0
+Told q k f =
+    (rows : ℕ) (s vs ps : List ℕ) → limitsFrom (f .fields) (spread (f .fields) (f .bounds rows)) s 0 vs ps ≡ Within
+    → q rows s (f .makes s (λ i. getD (inOrder (f .fields) 0 vs) i 0) (λ i. getD (inOrder (f .fields) 0 ps) i 0))
 
-pub choice : {A : Type 0} (q : A → Type 0) (b : Bool) (x y : A) → (b ≡ true → q x) → q y → q (cond b x y)
-choice q true x y f g = f refl
-choice q false x y f g = g
-
-either-row : (a b : Bool) → (a || b) ≡ true → a ≡ false → b ≡ true
-either-row true b h n = absurd (true≢false n)
-either-row false b h n = h
-
-pub read-by : (row : ℕ) (s vs ps : List ℕ) → ReadBy row vs ps (commandOf row s vs ps)
-unfolding ReadBy orderOf formOf pictureOf
-read-by row s vs ps =
-    let q : (Command → Type 0) = ReadBy row vs ps in
-    choice q (isItem row) _ _ (λ e. (e, refl))
-    (choice q (eqb row 13) _ _ (λ e. tt)
-    (choice q (isValue row) _ _ (λ e. tt)
-    (choice q (isForm row) _ _ (λ e. form)
-    (choice q (isPicture row) _ _ (λ e. picture (eqb row 16) refl e)
-    (choice q (isListing row) _ _ (λ e. tt)
-    tt)))))
-  where
-    n : Named
-    n = namedAt s vs ps 2
-
-    form : ReadBy row vs ps (Forms (formOf row n))
-    form =
-        choice (λ (c : FormCommand). ReadBy row vs ps (Forms c)) (eqb row 12) _ _ (λ e. (eqb-true row 12 e, (refl, refl)))
-        (choice (λ (c : FormCommand). ReadBy row vs ps (Forms c)) (eqb row 14) _ _ (λ e. tt) tt)
-
-    picture : (b : Bool) → eqb row 16 ≡ b → isPicture row ≡ true → ReadBy row vs ps (Pictures (pictureOf row n (getD vs 4 0)))
-    picture true e h = rw e tt
-    picture false e h = rw e (eqb-true row 20 (either-row (eqb row 16) (eqb row 20) h e), (refl, refl))
+pub limits-tell : (q : ℕ → List ℕ → Command → Type 0) → Each (Told q) forms → (rows : ℕ) (s : List ℕ) (c : Command) → readOf rows s ≡ Reads c → q rows s c
+limits-tell q h rows s c e =
+    let p = line-parted rows s c e in
+    subst (q rows s) (p .command) (each-row (Told q) h (p .row) rows s (p .vs) (p .ps) (p .within))
 
 -- ---- its name is within its limits
 
@@ -255,33 +224,57 @@ third-name f g fs ls s u vs ps e h =
     let c = limits-name fs (drop 1 (drop 1 ls)) s (cond (isNumber g) (getD (drop 1 vs) 0 0) (cond (isNumber f) (getD vs 0 0) u)) (drop 1 (drop 1 vs)) (drop 1 (drop 1 ps)) e b in
     rw (third ps, third vs) at c
 
-start-name : (rows : ℕ) (s vs ps : List ℕ) → limitsFrom (rowOf 12 .fields) (boundsOf 12 rows) s 0 vs ps ≡ Within → Name s (getD ps 2 0) (getD vs 2 0)
-unfolding spread
-start-name rows s vs ps h = third-name 70 83 [] (boundsOf 12 rows) s 0 vs ps refl h
+-- the name under which FS and GM store is a name's
+abbrev Titled : ℕ → List ℕ → Command → Type 0
+Titled rows s (item i) = Unit {0}
+Titled rows s End = Unit {0}
+Titled rows s (Page c) = Unit {0}
+Titled rows s (Forms (Start n)) = Name s (n .at) (n .length)
+Titled rows s (Forms (Retrieve n)) = Unit {0}
+Titled rows s (Forms (EraseForm n)) = Unit {0}
+Titled rows s (Pictures (Store x)) = Name s (x .at) (x .length)
+Titled rows s (Pictures (ErasePicture n)) = Unit {0}
+Titled rows s (Values c) = Unit {0}
+Titled rows s (Listing c) = Unit {0}
 
-store-name : (rows : ℕ) (s vs ps : List ℕ) → limitsFrom (rowOf 20 .fields) (boundsOf 20 rows) s 0 vs ps ≡ Within → Name s (getD ps 2 0) (getD vs 2 0)
-unfolding spread
-store-name rows s vs ps h = third-name 71 77 (44 ∷ (110 ∷ [])) (boundsOf 20 rows) s 0 vs ps refl h
+titles : Each (Told Titled) forms
+unfolding spread inOrder
+titles =
+    (λ rows s vs ps h. tt)
+    & (λ rows s vs ps h. tt)
+    & (λ rows s vs ps h. tt)
+    & (λ rows s vs ps h. tt)
+    & (λ rows s vs ps h. tt)
+    & (λ rows s vs ps h. tt)
+    & (λ rows s vs ps h. tt)
+    & (λ rows s vs ps h. tt)
+    & (λ rows s vs ps h. tt)
+    & (λ rows s vs ps h. tt)
+    & (λ rows s vs ps h. tt)
+    & (λ rows s vs ps h. tt)
+    & (λ rows s vs ps h. third-name 70 83 [] (boundsOf FS rows) s 0 vs ps refl h)
+    & (λ rows s vs ps h. tt)
+    & (λ rows s vs ps h. tt)
+    & (λ rows s vs ps h. tt)
+    & (λ rows s vs ps h. tt)
+    & (λ rows s vs ps h. tt)
+    & (λ rows s vs ps h. tt)
+    & (λ rows s vs ps h. tt)
+    & (λ rows s vs ps h. third-name 71 77 (44 ∷ (110 ∷ [])) (boundsOf GM rows) s 0 vs ps refl h)
+    & (λ rows s vs ps h. tt)
+    & (λ rows s vs ps h. tt)
+    & (λ rows s vs ps h. tt)
+    & (λ rows s vs ps h. tt)
+    & (λ rows s vs ps h. tt)
+    & (λ rows s vs ps h. tt)
+    & (λ rows s vs ps h. tt)
+    & (λ k rows s vs ps h. tt)
 
-name-title : (s : List ℕ) (p n p′ n′ : ℕ) → p′ ≡ p → n′ ≡ n → Name s p n → titleOk (packedOf s p′ n′) ≡ true
-name-title s p n p′ n′ e f a = rw (e, f) (title-legal s p n (a .some) (a .few) (a .bytes))
+name-title : (s : List ℕ) (p n : ℕ) → Name s p n → titleOk (packedOf s p n) ≡ true
+name-title s p n a = title-legal s p n (a .some) (a .few) (a .bytes)
 
 pub start-title : (rows : ℕ) (s : List ℕ) (n : Named) → readOf rows s ≡ Reads (Forms (Start n)) → titleOk (packedOf s (n .at) (n .length)) ≡ true
-unfolding ReadBy
-start-title rows s n h =
-    let p = line-parted rows s (Forms (Start n)) h in
-    let t : (p .row ≡ 12) × ((n .at ≡ getD (p .ps) 2 0) × (n .length ≡ getD (p .vs) 2 0)) =
-    subst (ReadBy (p .row) (p .vs) (p .ps)) (p .command) (read-by (p .row) s (p .vs) (p .ps)) in
-    name-title s (getD (p .ps) 2 0) (getD (p .vs) 2 0) (n .at) (n .length) (t .1 .0) (t .1 .1)
-    (start-name rows s (p .vs) (p .ps)
-    (subst (λ (k : ℕ). limitsFrom (rowOf k .fields) (boundsOf k rows) s 0 (p .vs) (p .ps) ≡ Within) (t .0) (p .within)))
+start-title rows s n h = name-title s (n .at) (n .length) (limits-tell Titled titles rows s (Forms (Start n)) h)
 
 pub store-title : (rows : ℕ) (s : List ℕ) (x : StorePicture) → readOf rows s ≡ Reads (Pictures (Store x)) → titleOk (packedOf s (x .at) (x .length)) ≡ true
-unfolding ReadBy
-store-title rows s x h =
-    let p = line-parted rows s (Pictures (Store x)) h in
-    let t : (p .row ≡ 20) × ((x .at ≡ getD (p .ps) 2 0) × (x .length ≡ getD (p .vs) 2 0)) =
-    subst (ReadBy (p .row) (p .vs) (p .ps)) (p .command) (read-by (p .row) s (p .vs) (p .ps)) in
-    name-title s (getD (p .ps) 2 0) (getD (p .vs) 2 0) (x .at) (x .length) (t .1 .0) (t .1 .1)
-    (store-name rows s (p .vs) (p .ps)
-    (subst (λ (k : ℕ). limitsFrom (rowOf k .fields) (boundsOf k rows) s 0 (p .vs) (p .ps) ≡ Within) (t .0) (p .within)))
+store-title rows s x h = name-title s (x .at) (x .length) (limits-tell Titled titles rows s (Pictures (Store x)) h)

@@ -13,37 +13,40 @@ use borrow.Author.Tests.{le-leb, not-false}
 use Rattle.cells.specs.Cell.{zeros}
 use Rattle.cells.proofs.Cells.{length-zeros}
 use Rattle.cells.proofs.Scan.{lowest-passes, lowest-before}
-use Rattle.store.specs.declared.Found.{Found}
-use Rattle.store.specs.declared.Found.the-variants.{At, Nothing}
+use Rattle.finding.specs.declared.Found.{Found}
+use Rattle.finding.specs.declared.Found.the-variants.{At, Nothing}
 use Rattle.store.specs.Entry.{entries, entry, kind, ofKind}
-use Rattle.store.specs.Find.{isRecording, recorded, sameName, titled, titledAt}
-use Rattle.store.proofs.Finding.{at-says, nothing-says}
-use Rattle.values.specs.declared.declarations.Declared.{Declared}
-use Rattle.values.specs.declared.counters.Counters.{Counters}
-use Rattle.values.specs.declared.counters.Entered.the-variants.{Taken as Enters, Undeclared as NotDeclared, Unfit as DoesNotFit}
-use Rattle.values.specs.Declarations.{sideAt, lengthAt, variableDeclared}
-use Rattle.values.specs.Counters.{noneSet, counterEntered}
-use Rattle.values.specs.Stored.{enters, field, padded, stored, variableEntered, unset, valuesSound, allSet}
+use Rattle.finding.specs.Find.{isRecording, recorded, sameName, titled, titledAt}
+use Rattle.finding.proofs.Finding.{at-says, nothing-says}
+use Rattle.declarations.specs.declared.Declared.{Declared}
+use Rattle.counters.specs.declared.Counters.{Counters}
+use Rattle.declarations.specs.declared.Entered.the-variants.{Taken as Enters, Undeclared as NotDeclared, Unfit as DoesNotFit}
+use Rattle.declarations.specs.Declarations.{sideAt, lengthAt, variableDeclared}
+use Rattle.counters.specs.Counters.{noneSet, counterEntered}
+use Rattle.padding.specs.Padding.{enters, padded}
+use Rattle.stored_values.specs.Stored.{field, stored, variableEntered, unset}
+use Rattle.values.specs.Sound.{valuesSound, allSet}
 use Rattle.values.proofs.Sound.{sound-unset, sound-none, sound-entered, sound-counted}
-use Rattle.read.specs.declared.Named.{Named}
-use Rattle.read.specs.declared.SetVariable.{SetVariable as VariableOf}
-use Rattle.read.specs.declared.SetCounter.{SetCounter as CounterOf}
-use Rattle.read.specs.declared.Print.{Print as PrintOf}
-use Rattle.read.specs.declared.Command.the-variants.{Page, Forms, Values, Listing}
-use Rattle.read.specs.declared.PageCommand.the-variants.{White}
-use Rattle.read.specs.declared.FormCommand.the-variants.{Retrieve}
-use Rattle.read.specs.declared.ValueCommand.the-variants.{Variable as EnterVariable, Counter as EnterCounter, Clear, Print}
-use Rattle.read.specs.declared.ListingCommand.the-variants.{Forms as ListForms, Pictures as ListPictures, Form as ListForm}
+use Rattle.grammar.specs.declared.Named.{Named}
+use Rattle.grammar.specs.declared.SetVariable.{SetVariable as VariableOf}
+use Rattle.grammar.specs.declared.SetCounter.{SetCounter as CounterOf}
+use Rattle.grammar.specs.declared.Print.{Print as PrintOf}
+use Rattle.grammar.specs.declared.Command.the-variants.{Page, Forms, Values, Listing}
+use Rattle.grammar.specs.declared.PageCommand.the-variants.{White}
+use Rattle.grammar.specs.declared.FormCommand.the-variants.{Retrieve}
+use Rattle.grammar.specs.declared.ValueCommand.the-variants.{Variable as EnterVariable, Counter as EnterCounter, Clear, Print}
+use Rattle.grammar.specs.declared.ListingCommand.the-variants.{Forms as ListForms, Pictures as ListPictures, Form as ListForm}
 use Rattle.read.specs.declared.Read.the-variants.{Taken as Reads}
 use Rattle.read.specs.Commands.{readOf}
 use Rattle.parts.specs.Names.{packedOf}
 use Rattle.forms.specs.Form.{declaredOf, picturesStored}
-use Rattle.sound.specs.Sound.{numbersOk, activeOk, owedOk}
+use Rattle.sound.specs.Sound.{numbersOk}
+use Rattle.activity_check.specs.Activity.{activeOk, owedOk}
 use Rattle.session.specs.declared.Session.{Session}
-use Rattle.session.specs.declared.answers.Answer.the-variants.{Taken, Misplaced, Missing, Unset}
-use Rattle.session.specs.Answers.{numberOf, isTaken, answerOf}
+use Rattle.answers.specs.declared.Answer.the-variants.{Taken, Misplaced, Missing, Unset}
+use Rattle.answers.specs.Answers.{numberOf, isTaken, answerOf}
 use Rattle.session.specs.Session.{blank, activated, counting, owing}
-use Rattle.session.specs.Lent.{World, rowsOf}
+use Rattle.lent.specs.Lent.{World, rowsOf}
 use Rattle.session.specs.Active.{activeOf, activeDeclared}
 use Rattle.results.specs.World.{memoryOf, withValues}
 use Rattle.results.specs.Result.{sixteenBits}

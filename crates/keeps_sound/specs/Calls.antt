@@ -3,8 +3,8 @@
 use mathlib.Core.List.{List, [], _∷_}
 use Prim.Native.Nat.{ℕ}
 use Rattle.results.specs.World.{State, state}
-use Rattle.station.specs.Station.{opened, commanded, labelledBy}
-use Rattle.session.specs.Lent.{World}
+use Rattle.calls.specs.Station.{opened, commanded, labelledBy}
+use Rattle.lent.specs.Lent.{World}
 
 -- a command call with its font, output and input, or a label call with its font and page
 pub data Call : Type 0 where

@@ -3,9 +3,11 @@
 use mathlib.Core.Path.{_≡_}
 use mathlib.Core.Bool.{true, false}
 use Rattle.store_sound.specs.Sound.{storeSound}
-use Rattle.sound.specs.Sound.{numbersOk, backgroundOk, contentsOk, activeBytes, activitySound}
+use Rattle.sound.specs.Sound.{numbersOk, backgroundOk, activeBytes}
+use Rattle.content_check.specs.Contents.{contentsOk}
+use Rattle.activity_check.specs.Activity.{activitySound}
 use Rattle.session.specs.declared.Session.{Session}
-use Rattle.session.specs.Lent.{World, rowsOf, wrongLent}
+use Rattle.lent.specs.Lent.{World, rowsOf, wrongLent}
 
 pub record Good (s : Session) (w : World) : Type 0 where
   pub lengths : wrongLent w ≡ false

@@ -1,12 +1,13 @@
 -- Laws of `between`, `allIn`, `inClass` and `fit`.
 use mathlib.Core.Path.{_≡_}
-use mathlib.Core.Bool.{Bool, true, false, _||_}
+use mathlib.Core.Bool.{Bool, true, false}
 use mathlib.Core.List.{List}
+use Prim.Native.Char.{code}
 use Prim.Native.Nat.{ℕ, _+_, _≤_, _<_}
 use native.Mathlib.Numerals.{add-one}
 use lib.ListN.{length, getD, drop, drop-of-length-le}
 use lib.Seq.{drop-cons}
-use lib.Dec.{leb, eqb}
+use lib.Dec.{leb}
 use borrow.Author.Tests.{le-leb, lt-leb}
 use Rattle.ground.proofs.Tests.{or-first, or-second}
 use Rattle.kinds.specs.declared.Kind.{Kind}
@@ -37,11 +38,9 @@ all-end q s i h = rw (drop-of-length-le s h)
 
 -- ---- `inClass`
 
-pub letter-39 : (b : ℕ) → between 65 90 b ≡ true → inClass Code39 b ≡ true
+pub letter-39 : (b : ℕ) → between (code "A") (code "Z") b ≡ true → inClass Code39 b ≡ true
 unfolding inClass
-letter-39 b h =
-    or-second (isDigit b) (between 65 90 b || (eqb b 45 || (eqb b 46 || (eqb b 32 || (eqb b 36 || (eqb b 47 || (eqb b 43 || eqb b 37)))))))
-    (or-first (between 65 90 b) (eqb b 45 || (eqb b 46 || (eqb b 32 || (eqb b 36 || (eqb b 47 || (eqb b 43 || eqb b 37)))))) h)
+letter-39 b h = or-second (isDigit b) _ (or-first (between (code "A") (code "Z") b) _ h)
 
 -- ---- `fit`
 

@@ -1,6 +1,7 @@
 -- Ranges of bytes, and what every byte of a list is.
 -- Assumes nothing.
 use Prim.Native.Nat.{ℕ}
+use Prim.Native.Char.{code}
 use mathlib.Core.Bool.{Bool, true, _&&_}
 use mathlib.Core.List.{List, [], _∷_}
 use lib.Dec.{leb}
@@ -11,7 +12,7 @@ between lo hi b = leb lo b && leb b hi
 
 -- 0 to 9
 abbrev pub isDigit : ℕ → Bool
-isDigit b = between 48 57 b
+isDigit b = between (code "0") (code "9") b
 
 -- the test holds of every byte
 abbrev pub allIn : (ℕ → Bool) → List ℕ → Bool

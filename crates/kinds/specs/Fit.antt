@@ -1,6 +1,7 @@
 -- Paper 01, "Fit data": which bytes, and how many, a text or a bar symbol takes.
 -- Assumes nothing.
 use Prim.Native.Nat.{ℕ, _%_}
+use Prim.Native.Char.{code}
 use mathlib.Core.Bool.{Bool, true, _&&_, _||_}
 use mathlib.Core.List.{List}
 use lib.ListN.{length}
@@ -14,10 +15,14 @@ use Rattle.kinds.specs.Bytes.{between, isDigit, allIn}
 unfoldable pub inClass : Kind → ℕ → Bool
 inClass Shown b = true
 inClass Code39 b =
-    isDigit b || (between 65 90 b || (eqb b 45 || (eqb b 46 || (eqb b 32 || (eqb b 36 || (eqb b 47 || (eqb b 43 || eqb b 37)))))))
+    isDigit b
+    || (between (code "A") (code "Z") b
+    || (eqb b (code "-")
+    || (eqb b (code ".")
+    || (eqb b (code " ") || (eqb b (code "$") || (eqb b (code "/") || (eqb b (code "+") || eqb b (code "%"))))))))
 inClass Interleaved b = isDigit b
 inClass Ean13 b = isDigit b
-inClass Code128 b = between 32 126 b
+inClass Code128 b = between (code " ") (code "~") b
 
 -- "at most 128 bytes"
 abbrev pub mostData : ℕ

@@ -1,2 +1,4 @@
+pub mod Text
 pub mod Bytes
 pub mod Fit
+pub mod Cases

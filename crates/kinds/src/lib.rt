@@ -34,10 +34,10 @@ pub fn is_between(lo: u8, hi: u8, b: u8) -> bool
 fn is_39(b: u8) -> bool
     ensures { λ r. ⌜ r ≡ inClass Kind.Code39 b ⌝ }
 {
-    if is_between(48, 57, b) {
+    if is_between(b'0', b'9', b) {
         return true;
     }
-    if is_between(65, 90, b) {
+    if is_between(b'A', b'Z', b) {
         return true;
     }
     match b {
@@ -59,9 +59,9 @@ pub fn in_class(k: Kind, b: u8) -> bool
     match k {
         Kind::Shown => true,
         Kind::Code39 => is_39(b),
-        Kind::Interleaved => is_between(48, 57, b),
-        Kind::Ean13 => is_between(48, 57, b),
-        Kind::Code128 => is_between(32, 126, b),
+        Kind::Interleaved => is_between(b'0', b'9', b),
+        Kind::Ean13 => is_between(b'0', b'9', b),
+        Kind::Code128 => is_between(b' ', b'~', b),
     }
 }
 

@@ -3,11 +3,11 @@
 // Paper 01, "Sample session": each call's number and answer are written, then the listing that the call gave, then a line for each label that it owes,
 // with the black dots of its page. All that matters is in crate `station`; the sample session stands in `stdin`, and what it must give in `stdout`.
 ghost use Prim.Native.Nat.{_≤_};
+use answers::Answer;
 use dots::BYTES_A_ROW;
+use lent::BYTES_OF_VALUES;
 use libc::STDIN_FILENO;
 use libc::STDOUT_FILENO;
-use session::Answer;
-use session::BYTES_OF_VALUES;
 use session::Session;
 use station::Outcome;
 
@@ -38,7 +38,7 @@ fn say_answer(k: usize, unread: usize, answer: Answer, output: &[u8], written: u
     if unread == 0 {
         return;
     }
-    let number = session::answers::number(answer);
+    let number = answers::number(answer);
     say(b"line ");
     say_number(k);
     say(b": ");
@@ -53,7 +53,7 @@ fn say_label(session: Session, page: &[u8]) {
     say(b"label ");
     say_number(drawn as usize);
     say(b" black ");
-    say_number(dots::black_dots(page));
+    say_number(pages::black_dots(page));
     say(b"\n");
 }
 

@@ -8,12 +8,13 @@ use lib.ListN.{length}
 use lib.Dec.{eqb}
 use borrow.Author.Tests.{not-true, not-false, eq-eqb, ne-eqb, eqb-true}
 use Rattle.session.specs.declared.Session.{Session}
-use Rattle.session.specs.declared.answers.Answer.{Answer}
-use Rattle.session.specs.declared.answers.Answer.the-variants.{Taken, Lengths, NoneOwed}
-use Rattle.session.specs.Answers.{Row, row, answerOf, isTaken, numberOf, labelled}
-use Rattle.session.specs.Lent.{World, wrongLent}
+use Rattle.answers.specs.declared.Answer.{Answer}
+use Rattle.answers.specs.declared.Answer.the-variants.{Taken, Lengths, NoneOwed}
+use Rattle.answers.specs.Answers.{Row, row, answerOf, isTaken, numberOf}
+use Rattle.session.specs.Label.{labelled}
+use Rattle.lent.specs.Lent.{World, wrongLent}
 use Rattle.session.specs.Label.{labelPage, labelSession, Printed, printed, printedOn}
-use Rattle.session.proofs.Rows.{answer-skip, answer-stop}
+use Rattle.answers.proofs.Rows.{answer-skip, answer-stop}
 use Rattle.session.proofs.LabelMade.{label-whole}
 use Rattle.sound.specs.Entry.{entryRows}
 use Rattle.sound.proofs.EntryRows.{entry-passed}

@@ -6,11 +6,12 @@ use mathlib.Core.List.{List, [], _∷_}
 use lib.ListN.{length}
 use lib.Dec.{eqb}
 use Rattle.session.specs.declared.Session.{Session}
-use Rattle.session.specs.declared.answers.Labelled.{Labelled}
-use Rattle.session.specs.declared.answers.Answer.{Answer}
-use Rattle.session.specs.declared.answers.Answer.the-variants.{Taken, NoneOwed}
-use Rattle.session.specs.Answers.{Row, row, answerOf, isTaken, labelled}
-use Rattle.session.specs.Lent.{World, wrongLent}
+use Rattle.session.specs.declared.Labelled.{Labelled}
+use Rattle.answers.specs.declared.Answer.{Answer}
+use Rattle.answers.specs.declared.Answer.the-variants.{Taken, NoneOwed}
+use Rattle.answers.specs.Answers.{Row, row, answerOf, isTaken}
+use Rattle.session.specs.Label.{labelled}
+use Rattle.lent.specs.Lent.{World, wrongLent}
 use Rattle.session.specs.Label.{labelPage, labelSession}
 use Rattle.sound.specs.Entry.{entryRows}
 

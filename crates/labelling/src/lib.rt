@@ -4,14 +4,14 @@
 // copies the background, runs the active form from the session's origin, turns the page, moves counters, and counts one drawn". `label` promises one
 // equation between its result with the page at exit and `labelledBy` (specs/Labelling.antt) of what it was lent; a refusal leaves session and page.
 ghost use mathlib.Core.Path.{_≡_};
-ghost use Rattle.session.specs.Answers.{answerOf};
-ghost use Rattle.session.specs.Lent.{world};
+ghost use Rattle.answers.specs.Answers.{answerOf};
+ghost use Rattle.lent.specs.Lent.{world};
 ghost use Rattle.labelling.specs.Labelling.{labelTable, drawnBy, labelledBy};
+use answers::Answer;
+use answers::is_taken;
 use ground::either;
-use session::Answer;
 use session::Labelled;
 use session::Session;
-use session::answers::is_taken;
 use sound::entry_answer;
 
 // The table of a label call.
@@ -27,7 +27,7 @@ fn label_answer(
 ) -> Answer
     ensures { λ r. ⌜ r ≡ answerOf (labelTable session (now (font .entry)) (world (now (background .entry)) (now (store .entry)) (now (links .entry)) (now (directory .entry)) (now (values .entry))) page) ⌝ }
 {
-    let wrong = session::lengths_wrong(
+    let wrong = lent::lengths_wrong(
         background.len(),
         store.len(),
         links.len(),

@@ -5,12 +5,14 @@ use mathlib.Core.List.{List}
 use Prim.Native.Nat.{ℕ}
 use lib.ListN.{length}
 use lib.Dec.{eqb, ltb}
-use Rattle.fields.specs.Text.{bytes}
-use Rattle.normal.specs.Written.{equal}
-use Rattle.face.specs.Image.{numberAt}
+use Rattle.kinds.specs.Text.{bytes}
+use Rattle.writing.specs.Writing.{equal}
+use Rattle.low_first.specs.Low.{numberAt}
 use Rattle.lasting.specs.declared.judged.Verdict.{Verdict}
 use Rattle.lasting.specs.declared.judged.Verdict.the-variants.{Foreign, Version, Sizes, Length, Damaged, Slots, Good}
-use Rattle.lasting.specs.File.{partOf, rowsOf, fileSize, fileSum, sizesWrong, whole, chosen, judged}
+use Rattle.lasting.specs.File.{rowsOf, fileSize, fileSum, sizesWrong, chosen, judged}
+use Rattle.file_parts.specs.Sums.{partOf}
+use Rattle.slots.specs.Slots.{whole}
 
 module _ (f : List ℕ) (a b t e : Bool) (x y : ℕ) (ha : a ≡ whole f 4096) (hb : b ≡ whole f 8192) (hx : x ≡ numberAt 4 f 4096) (hy : y ≡ numberAt 4 f 8192)
     (he : e ≡ (not a || ltb x y)) (ht : t ≡ (b && e)) where

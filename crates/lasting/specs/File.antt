@@ -9,30 +9,16 @@
 use Prim.Native.Nat.{ℕ, zero, suc, _+_, _*_, _/_, _%_}
 use mathlib.Core.Bool.{Bool, not, _&&_, _||_, cond}
 use mathlib.Core.List.{List, [], _∷_, _++_}
-use lib.ListN.{length, getD, take, drop}
+use lib.ListN.{length, getD}
 use lib.Seq.{sets}
 use lib.Dec.{eqb, ltb}
-use Rattle.fields.specs.Text.{bytes}
-use Rattle.normal.specs.Written.{equal}
-use Rattle.session.specs.declared.Session.{Session}
-use Rattle.face.specs.Image.{numberAt, bytesOf, imageOf}
+use Rattle.kinds.specs.Text.{bytes}
+use Rattle.writing.specs.Writing.{equal}
+use Rattle.low_first.specs.Low.{numberAt, bytesOf}
+use Rattle.file_parts.specs.Sums.{sumOn, partOf}
+use Rattle.slots.specs.Slots.{whole}
 use Rattle.lasting.specs.declared.judged.Verdict.{Verdict}
 use Rattle.lasting.specs.declared.judged.Verdict.the-variants.{Foreign, Version, Sizes, Length, Damaged, Slots, Good}
-
--- ---- sums: a byte more is the sum times 257, and the byte, and 1, modulo the greatest prime below 2^32
-
-abbrev pub prime : ℕ
-prime = 4294967291
-
-abbrev pub stepped : ℕ → ℕ → ℕ
-stepped s b = (s * 257 + b + 1) % prime
-
-unfoldable pub summed : ℕ → List ℕ → ℕ
-summed s [] = s
-summed s (b ∷ l) = summed (stepped s b) l
-
-abbrev pub sumOn : ℕ → List ℕ → ℕ
-sumOn start l = summed (start % prime) l
 
 -- ---- the links: two bytes each
 
@@ -54,9 +40,6 @@ rowsOf file = numberAt 2 file 18
 abbrev pub fileSize : ℕ → ℕ
 fileSize rows = 542672 + 76 * rows
 
-abbrev pub partOf : List ℕ → ℕ → ℕ → List ℕ
-partOf file at n = take n (drop at file)
-
 unfoldable pub fileSum : List ℕ → ℕ
 fileSum file = sumOn (sumOn 1 (partOf file 0 24)) (partOf file 12288 (530384 + 76 * rowsOf file))
 
@@ -73,36 +56,11 @@ placed file background store links directory =
 abbrev pub sealed : List ℕ → List ℕ
 sealed file = sets file 24 (bytesOf 4 (fileSum file))
 
--- ---- slots
-
-abbrev pub slotOf : ℕ → ℕ
-slotOf order = 4096 + 4096 * (order % 2)
-
-abbrev pub filled : List ℕ → ℕ → ℕ → ℕ → Session → List ℕ → List ℕ
-filled file at order pictures s values = sets (sets (sets (sets file at (bytesOf 4 order)) (at + 4) (bytesOf 4 pictures)) (at + 8) (imageOf s)) (at + 73) (take 340 values)
-
-abbrev pub slotSum : List ℕ → ℕ → ℕ
-slotSum file at = sumOn (numberAt 4 file 24) (partOf file at 413)
-
-abbrev pub summedSlot : List ℕ → ℕ → List ℕ
-summedSlot file at = sets file (at + 413) (bytesOf 4 (slotSum file at))
-
-unfoldable pub slotted : List ℕ → ℕ → ℕ → Session → List ℕ → List ℕ
-slotted file order pictures s values = summedSlot (filled file (slotOf order) order pictures s values) (slotOf order)
-
 -- ---- any bytes judged
 
 abbrev pub sizesWrong : List ℕ → Bool
 sizesWrong file =
     eqb (rowsOf file) 0 || (ltb 4000 (rowsOf file) || (not (eqb (numberAt 2 file 20) 2024) || not (eqb (numberAt 2 file 22) 512)))
-
--- the slot at a place has the sum that it says
-abbrev pub whole : List ℕ → ℕ → Bool
-whole file at = eqb (numberAt 4 file (at + 413)) (slotSum file at)
-
--- the slot was begun, and a cut left it so
-abbrev pub tornAt : List ℕ → ℕ → Bool
-tornAt file at = not (eqb (numberAt 4 file at) 0) && not (whole file at)
 
 unfoldable pub chosen : List ℕ → Verdict
 chosen file =

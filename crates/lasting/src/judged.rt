@@ -1,13 +1,15 @@
 // Any bytes judged.
 ghost use mathlib.Core.Path.{_≡_};
-ghost use Prim.Native.Nat.{_+_, _*_, _%_, _<_};
-ghost use Rattle.lasting.specs.File.{rowsOf, fileSum, sizesWrong, whole, tornAt, chosen, judged};
-use crate::parts::four_at;
-use crate::parts::part;
-use crate::parts::sum;
-use crate::parts::two_at;
+ghost use Prim.Native.Nat.{_<_};
+ghost use Rattle.lasting.specs.File.{rowsOf, fileSum, sizesWrong, chosen, judged};
+use file_parts::four_at;
+use file_parts::part;
+use file_parts::sum;
+use file_parts::two_at;
 use ground::both;
 use ground::either;
+use slots::is_whole;
+use slots::order_of;
 
 // What a file is: not a store; of another version; of other sizes; longer or shorter than its sizes say; of another sum; with no whole slot; or a
 // store, and which slot holds.
@@ -49,33 +51,14 @@ pub(crate) fn file_sum(file: &[u8]) -> u32
     sum(head, part(file, 12288, n))
 }
 
-// Whether the slot at a place is whole.
-fn is_whole(file: &[u8], at: usize) -> bool
-    requires { ⌜ at < 16384 ⌝ }
-    ensures { λ r. ⌜ r ≡ whole (now (file .entry)) at ⌝ }
-{
-    let said = four_at(file, at + 413);
-    let mark = four_at(file, 24);
-    said == sum(mark, part(file, at, 413))
-}
-
-// Whether slot k was begun and is not whole: a change that was cut short.
-pub fn torn(file: &[u8], k: usize) -> bool
-    ensures { λ r. ⌜ r ≡ tornAt (now (file .entry)) (4096 + 4096 * (k % 2)) ⌝ }
-{
-    let at = 4096 + 4096 * (k % 2);
-    let begun = four_at(file, at) != 0;
-    both(begun, !is_whole(file, at))
-}
-
 // The whole slot of the greater order.
 fn choose(file: &[u8]) -> Verdict
     ensures { λ r. ⌜ r ≡ chosen (now (file .entry)) ⌝ }
 {
-    let first = is_whole(file, 4096);
-    let second = is_whole(file, 8192);
-    let earlier = four_at(file, 4096);
-    let later = four_at(file, 8192);
+    let first = is_whole(file, 0);
+    let second = is_whole(file, 1);
+    let earlier = order_of(file, 0);
+    let later = order_of(file, 1);
     if both(second, either(!first, earlier < later)) {
         return Verdict::Good(1);
     }
@@ -88,7 +71,7 @@ fn choose(file: &[u8]) -> Verdict
 pub fn judge(file: &[u8]) -> Verdict
     ensures { λ r. ⌜ r ≡ judged (now (file .entry)) ⌝ }
 {
-    if !normal::same(part(file, 0, 16), b"Skeinferry store") {
+    if !writing::same(part(file, 0, 16), b"Skeinferry store") {
         return Verdict::Foreign;
     }
     if two_at(file, 16) != 1 {

@@ -7,11 +7,12 @@ use mathlib.Core.List.{List, [], _∷_, _++_, append-assoc}
 use lib.Dec.{T}
 use lib.ListN.{length, take, length-append}
 use Rattle.kinds.specs.Bytes.{between}
-use Rattle.fields.specs.declared.Class.the-variants.{Quoted}
+use Rattle.classes.specs.declared.Class.the-variants.{Quoted}
 use Rattle.fields.specs.declared.Field.the-variants.{Is}
-use Rattle.fields.specs.Field.{numberAt, textAt, byteAt}
+use Rattle.numbers.specs.Number.{numberAt}
+use Rattle.fields.specs.Field.{textAt, byteAt}
 use Rattle.store.specs.Entry.{nameLength, name, size}
-use Rattle.normal.specs.Written.{decimal}
+use Rattle.writing.specs.Writing.{decimal}
 use Rattle.normal.proofs.Back.{allIn, number-back, byte-back, text-back}
 use Rattle.listing.specs.Listing.{listingLine}
 use Rattle.listing.specs.Back.{listedAt, Entry}

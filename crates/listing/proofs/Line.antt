@@ -7,7 +7,7 @@ use lib.ListN.{length, set, take, length-take, length-append}
 use lib.Seq.{sets}
 use Rattle.cells.proofs.Sets.{sets-front}
 use Rattle.store.specs.Entry.{nameLength, name, size}
-use Rattle.normal.specs.Written.{decimal}
+use Rattle.writing.specs.Writing.{decimal}
 use Rattle.ground.proofs.Stores.{sets-append}
 use Rattle.listing.specs.Listing.{commaName, listingLine}
 use Rattle.listing.proofs.Decimal.{decimal-short}

@@ -5,11 +5,12 @@ use Prim.Native.Char.{code}
 use mathlib.Core.Path.{_≡_, refl}
 use mathlib.Core.List.{List}
 use Rattle.kinds.specs.Bytes.{between}
-use Rattle.fields.specs.Text.{bytes}
-use Rattle.fields.specs.Bytes.{run, valueFrom}
+use Rattle.kinds.specs.Text.{bytes}
+use Rattle.classes.specs.Bytes.{run}
+use Rattle.numbers.specs.Number.{valueFrom, numberAt}
 use Rattle.fields.specs.declared.Field.{Field}
 use Rattle.fields.specs.declared.Field.the-variants.{Is, Not}
-use Rattle.fields.specs.Field.{numberAt, textAt, byteAt}
+use Rattle.fields.specs.Field.{textAt, byteAt}
 
 -- the size, the place of the name's first quote, and how many bytes stand between its quotes; or the place at fault
 pub data Listed : Type 0 where

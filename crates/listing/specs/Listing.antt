@@ -1,16 +1,17 @@
 -- What FI and GI write to the output.
 -- Assumes nothing.
 use Prim.Native.Nat.{ℕ, zero, suc}
+use Prim.Native.Char.{code}
 use mathlib.Core.Bool.{cond}
 use mathlib.Core.List.{List, [], _∷_, _++_}
 use lib.ListN.{take}
 use lib.Dec.{eqb}
 use Rattle.store.specs.Entry.{entries, entry, kind, nameLength, name, size}
-use Rattle.normal.specs.Written.{decimal}
+use Rattle.writing.specs.Writing.{decimal}
 
 -- "A listing line is size, comma, quoted name", and LF
 abbrev pub commaName : List ℕ → List ℕ
-commaName e = 44 ∷ 34 ∷ (take (nameLength e) (name e) ++ (34 ∷ 10 ∷ []))
+commaName e = code "," ∷ code "\"" ∷ (take (nameLength e) (name e) ++ (code "\"" ∷ code "\n" ∷ []))
 
 unfoldable pub listingLine : List ℕ → List ℕ
 listingLine e = decimal (size e) ++ commaName e

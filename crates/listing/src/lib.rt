@@ -24,7 +24,7 @@ fn put_name(directory: &[u8], i: usize, line: &mut [u8], at: usize) -> usize
     ground::put_byte(line, at + 1, b'"');
     ground::put(line, at + 2, ground::front(&name, n));
     ground::put_byte(line, end, b'"');
-    ground::put_byte(line, end + 1, 10);
+    ground::put_byte(line, end + 1, b'\n');
     end + 2
 }
 
@@ -33,7 +33,7 @@ fn line_into(directory: &[u8], i: usize, line: &mut [u8]) -> usize
     requires { ⌜ (i < entries (now directory)) × (length (now line) ≡ 32) ⌝ }
     ensures { λ r. ⌜ (r ≡ length (listingLine (entry (now (directory .entry)) i))) × (now (line .exit) ≡ sets (now (line .entry)) 0 (listingLine (entry (now (directory .entry)) i))) ⌝ }
 {
-    let n = normal::put_decimal(store::size_at(directory, i), line, 0);
+    let n = writing::put_decimal(store::size_at(directory, i), line, 0);
     put_name(directory, i, line, n)
 }
 

@@ -8,18 +8,18 @@ use native.Mathlib.Omega.{arith}
 use lib.ListN.{length}
 use lib.Seq.{sets}
 use borrow.Author.Tests.{le-ltb}
-use Rattle.store.specs.declared.Found.{Found}
-use Rattle.store.specs.declared.Found.the-variants.{At, Nothing}
-use Rattle.store.specs.declared.Cursor.{Cursor}
-use Rattle.store.specs.Content.{content, cursorAt}
-use Rattle.store.proofs.Reading.{length-content}
-use Rattle.read.specs.declared.ListingCommand.{ListingCommand}
-use Rattle.read.specs.declared.ListingCommand.the-variants.{Forms, Pictures, Form}
+use Rattle.finding.specs.declared.Found.{Found}
+use Rattle.finding.specs.declared.Found.the-variants.{At, Nothing}
+use Rattle.contents.specs.declared.Cursor.{Cursor}
+use Rattle.contents.specs.Content.{content, cursorAt}
+use Rattle.contents.proofs.Reading.{length-content}
+use Rattle.grammar.specs.declared.ListingCommand.{ListingCommand}
+use Rattle.grammar.specs.declared.ListingCommand.the-variants.{Forms, Pictures, Form}
 use Rattle.listing.specs.Listing.{listing}
 use Rattle.session.specs.declared.Session.{Session}
-use Rattle.session.specs.declared.answers.Answer.the-variants.{Taken, Missing, Overlong}
-use Rattle.session.specs.Answers.{row, answerOf, isTaken}
-use Rattle.session.specs.Lent.{world}
+use Rattle.answers.specs.declared.Answer.the-variants.{Taken, Missing, Overlong}
+use Rattle.answers.specs.Answers.{row, answerOf, isTaken}
+use Rattle.lent.specs.Lent.{world}
 use Rattle.results.specs.World.{contentAt, state}
 use Rattle.results.specs.Result.{done, ran, ranBy}
 use Rattle.results.specs.Named.{named, notFound}

@@ -5,16 +5,16 @@ use mathlib.Core.Bool.{Bool, false}
 use mathlib.Core.List.{List, [], _∷_}
 use lib.ListN.{length}
 use lib.Dec.{ltb}
-use Rattle.store.specs.declared.Found.{Found}
-use Rattle.store.specs.declared.Found.the-variants.{At, Nothing}
-use Rattle.read.specs.declared.Named.{Named}
-use Rattle.read.specs.declared.ListingCommand.{ListingCommand}
-use Rattle.read.specs.declared.ListingCommand.the-variants.{Forms, Pictures, Form}
+use Rattle.finding.specs.declared.Found.{Found}
+use Rattle.finding.specs.declared.Found.the-variants.{At, Nothing}
+use Rattle.grammar.specs.declared.Named.{Named}
+use Rattle.grammar.specs.declared.ListingCommand.{ListingCommand}
+use Rattle.grammar.specs.declared.ListingCommand.the-variants.{Forms, Pictures, Form}
 use Rattle.listing.specs.Listing.{listing}
 use Rattle.session.specs.declared.Session.{Session}
-use Rattle.session.specs.declared.answers.Answer.the-variants.{Missing, Overlong}
-use Rattle.session.specs.Answers.{Row, row, answerOf}
-use Rattle.session.specs.Lent.{World}
+use Rattle.answers.specs.declared.Answer.the-variants.{Missing, Overlong}
+use Rattle.answers.specs.Answers.{Row, row, answerOf}
+use Rattle.lent.specs.Lent.{World}
 use Rattle.results.specs.World.{state, contentAt}
 use Rattle.results.specs.Result.{Ran, ranBy}
 use Rattle.results.specs.Named.{named, notFound}

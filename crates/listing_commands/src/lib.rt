@@ -6,24 +6,24 @@ ghost use mathlib.Core.Path.{_≡_};
 ghost use mathlib.Core.List.{[], _∷_};
 ghost use lib.ListN.{length};
 ghost use lib.Seq.{sets};
-ghost use Rattle.read.specs.declared.ListingCommand.the-variants.{Form as ListForm};
+ghost use Rattle.grammar.specs.declared.ListingCommand.the-variants.{Form as ListForm};
 ghost use Rattle.listing.specs.Listing.{listing};
-ghost use Rattle.session.specs.declared.answers.Answer.the-variants.{Taken, Overlong};
-ghost use Rattle.session.specs.Answers.{row, answerOf};
-ghost use Rattle.session.specs.Lent.{world};
+ghost use Rattle.answers.specs.declared.Answer.the-variants.{Taken, Overlong};
+ghost use Rattle.answers.specs.Answers.{row, answerOf};
+ghost use Rattle.lent.specs.Lent.{world};
 ghost use Rattle.results.specs.World.{contentAt};
 ghost use Rattle.results.specs.Result.{done, settles, ran};
 ghost use Rattle.listing_commands.specs.Listings.{exceeds, listingBy};
-use read::ListingCommand;
-use read::Named;
+use answers::Answer;
+use finding::Found;
+use grammar::ListingCommand;
+use grammar::Named;
 use results::Done;
 use results::answered;
 use results::names::entry_of;
 use results::names::is_missing;
 use results::taken;
-use session::Answer;
 use session::Session;
-use store::Found;
 
 // FI (kind 1) and GI (kind 2).
 fn list_names(session: Session, directory: &[u8], kind: usize, output: &mut [u8]) -> Done
@@ -52,12 +52,12 @@ fn print_entry(
 ) -> Done
     ensures { λ r. ⌜ (r, now (output .exit)) ≡ settles (answerOf (row Overlong (exceeds (contentAt (world [] (now (store .entry)) (now (links .entry)) (now (directory .entry)) []) i) (length (now (output .entry)))) ∷ [])) session (now (output .entry)) (done Taken session (length (contentAt (world [] (now (store .entry)) (now (links .entry)) (now (directory .entry)) []) i)), sets (now (output .entry)) 0 (contentAt (world [] (now (store .entry)) (now (links .entry)) (now (directory .entry)) []) i)) ⌝ }
 {
-    let reader = store::reader(links, directory, i);
+    let reader = contents::reader(links, directory, i);
     let n = reader.left;
     if output.len() < n {
         return answered(Answer::Overlong, session);
     }
-    store::copy_out(store, links, directory, i, output);
+    contents::copy_out(store, links, directory, i, output);
     Done {
         answer: Answer::Taken,
         session: session,

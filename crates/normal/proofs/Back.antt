@@ -3,6 +3,7 @@ use mathlib.Core.Path.{_≡_, _∙_, refl, sym, ap}
 use mathlib.Core.Bool.{Bool, true, false, cond, _&&_, false≢true, and-false}
 use mathlib.Core.List.{List, [], _∷_, _++_, append-assoc}
 use Prim.Native.Nat.{ℕ, zero, suc, _+_, _-_, _*_, _/_, _%_, _^_, _≤_, _<_}
+use Prim.Native.Char.{code}
 use native.Mathlib.Numerals.{add-one}
 use native.Mathlib.Omega.{arith}
 use native.Mathlib.Decide.{decLt}
@@ -11,16 +12,19 @@ use lib.ListN.{length, getD, take, drop, length-append, length-take, length-drop
 use lib.Seq.{take-append-seam, drop-append-seam, getD-append-seam, getD-append-add, drop-append-add, drop-cons, take-suc, getD-drop}
 use borrow.Author.Tests.{lt-ltb, le-ltb, lt-leb, eq-eqb, eqb-true, ltb-true}
 use Rattle.kinds.specs.Bytes.{between}
-use Rattle.fields.specs.declared.Class.{Class}
-use Rattle.fields.specs.declared.Class.the-variants.{Digit, Quoted, Named}
+use Rattle.classes.specs.declared.Class.{Class}
+use Rattle.classes.specs.declared.Class.the-variants.{Digit, Quoted, Named}
 use Rattle.fields.specs.declared.Field.{Field}
 use Rattle.fields.specs.declared.Field.the-variants.{Is, Not}
-use Rattle.fields.specs.Bytes.{inClass, run, digitOf, valueFrom}
-use Rattle.fields.specs.Field.{runAt, numberAt, textAt, textFault, signedAt, plus, minus, letterAt, byteAt, nought, Small}
-use Rattle.fields.proofs.Laws.{in-range, above-range, number-is, number-small, text-is, inside, and-T}
+use Rattle.classes.specs.Bytes.{inClass, run, runAt}
+use Rattle.numbers.specs.Number.{digitOf, valueFrom, numberAt, signedAt, plus, minus, nought, Small}
+use Rattle.fields.specs.Field.{textAt, textFault, letterAt, byteAt}
+use Rattle.classes.proofs.Laws.{in-range, above-range, inside, and-T}
+use Rattle.numbers.proofs.Laws.{number-is, number-small}
+use Rattle.fields.proofs.Laws.{text-is}
 use Rattle.parts.specs.Names.{capital}
-use Rattle.normal.specs.Written.{digits, decimal, signed, kept, cased}
-use Rattle.normal.proofs.Writes.{digits-room, digits-less, cased-append}
+use Rattle.writing.specs.Writing.{digitByte, digits, decimal, signed, kept, cased}
+use Rattle.writing.proofs.Writes.{digits-room, digits-less, cased-append}
 
 -- ---- runs
 
@@ -69,50 +73,50 @@ T-and false b h k = h
 
 -- ---- numbers
 
-digit-of : (n : ℕ) → n < 10 → digitOf (48 + n) ≡ n
-digit-of n h = rw (in-range 48 57 (48 + n) (omega arith) (omega arith)) (omega arith)
+digit-of : (n : ℕ) → n < 10 → digitOf (digitByte n) ≡ n
+digit-of n h = rw (in-range (code "0") (code "9") (digitByte n) (omega arith) (omega arith)) (omega arith)
 
 -- the value of a number's digits, their class and their count
 digits-value : (f n : ℕ) (acc : List ℕ) → n < 10 ^ (f + 1) → valueFrom 0 (digits f n acc) ≡ valueFrom n acc
 unfolding digits valueFrom
 digits-value zero n acc h =
-    let e : 0 * 10 + digitOf (48 + n) ≡ n = rw (digit-of n h) (omega arith) in
+    let e : 0 * 10 + digitOf (digitByte n) ≡ n = rw (digit-of n h) (omega arith) in
     ap (λ v. valueFrom v acc) e
-digits-value (suc f) n acc h = go (decLt n 10) (digits-value f (n / 10) ((48 + n % 10) ∷ acc))
+digits-value (suc f) n acc h = go (decLt n 10) (digits-value f (n / 10) (digitByte (n % 10) ∷ acc))
   where
-    go : Dec (n < 10) → (n / 10 < 10 ^ (f + 1) → valueFrom 0 (digits f (n / 10) ((48 + n % 10) ∷ acc)) ≡ valueFrom (n / 10) ((48 + n % 10) ∷ acc))
+    go : Dec (n < 10) → (n / 10 < 10 ^ (f + 1) → valueFrom 0 (digits f (n / 10) (digitByte (n % 10) ∷ acc)) ≡ valueFrom (n / 10) (digitByte (n % 10) ∷ acc))
         → valueFrom 0 (digits (suc f) n acc) ≡ valueFrom n acc
     go (yes k) r =
-        let e : 0 * 10 + digitOf (48 + n) ≡ n = rw (digit-of n k) (omega arith) in
+        let e : 0 * 10 + digitOf (digitByte n) ≡ n = rw (digit-of n k) (omega arith) in
         rw (lt-ltb n 10 k) (ap (λ v. valueFrom v acc) e)
     go (no k) r =
         let l : n / 10 < 10 ^ (f + 1) = (let z = digits-less (suc f) n (omega arith) h in let q : suc f - 1 + 1 ≡ f + 1 = omega arith in rw q at z) in
-        let e : n / 10 * 10 + digitOf (48 + n % 10) ≡ n = rw (digit-of (n % 10) (omega arith)) (omega arith) in
+        let e : n / 10 * 10 + digitOf (digitByte (n % 10)) ≡ n = rw (digit-of (n % 10) (omega arith)) (omega arith) in
         rw (le-ltb n 10 (omega arith)) (r l ∙ ap (λ v. valueFrom v acc) e)
 
-digit-class : (n : ℕ) → n < 10 → inClass Digit (48 + n) ≡ true
-digit-class n h = in-range 48 57 (48 + n) (omega arith) (omega arith)
+digit-class : (n : ℕ) → n < 10 → inClass Digit (digitByte n) ≡ true
+digit-class n h = in-range (code "0") (code "9") (digitByte n) (omega arith) (omega arith)
 
 pub digits-class : (f n : ℕ) (acc : List ℕ) → n < 10 ^ (f + 1) → T (allIn Digit acc) → T (allIn Digit (digits f n acc))
 unfolding digits allIn
-digits-class zero n acc h t = T-and (inClass Digit (48 + n)) (allIn Digit acc) (true-T (inClass Digit (48 + n)) (digit-class n h)) t
-digits-class (suc f) n acc h t = go (decLt n 10) (digits-class f (n / 10) ((48 + n % 10) ∷ acc))
+digits-class zero n acc h t = T-and (inClass Digit (digitByte n)) (allIn Digit acc) (true-T (inClass Digit (digitByte n)) (digit-class n h)) t
+digits-class (suc f) n acc h t = go (decLt n 10) (digits-class f (n / 10) (digitByte (n % 10) ∷ acc))
   where
-    go : Dec (n < 10) → (n / 10 < 10 ^ (f + 1) → T (allIn Digit ((48 + n % 10) ∷ acc)) → T (allIn Digit (digits f (n / 10) ((48 + n % 10) ∷ acc))))
+    go : Dec (n < 10) → (n / 10 < 10 ^ (f + 1) → T (allIn Digit (digitByte (n % 10) ∷ acc)) → T (allIn Digit (digits f (n / 10) (digitByte (n % 10) ∷ acc))))
         → T (allIn Digit (digits (suc f) n acc))
-    go (yes k) r = rw (lt-ltb n 10 k) (T-and (inClass Digit (48 + n)) (allIn Digit acc) (true-T (inClass Digit (48 + n)) (digit-class n k)) t)
+    go (yes k) r = rw (lt-ltb n 10 k) (T-and (inClass Digit (digitByte n)) (allIn Digit acc) (true-T (inClass Digit (digitByte n)) (digit-class n k)) t)
     go (no k) r =
         let l : n / 10 < 10 ^ (f + 1) = (let z = digits-less (suc f) n (omega arith) h in let q : suc f - 1 + 1 ≡ f + 1 = omega arith in rw q at z) in
         rw (le-ltb n 10 (omega arith))
-        (r l (T-and (inClass Digit (48 + n % 10)) (allIn Digit acc) (true-T (inClass Digit (48 + n % 10)) (digit-class (n % 10) (omega arith))) t))
+        (r l (T-and (inClass Digit (digitByte (n % 10))) (allIn Digit acc) (true-T (inClass Digit (digitByte (n % 10))) (digit-class (n % 10) (omega arith))) t))
 
 pub digits-count : (f k n : ℕ) (acc : List ℕ) → n < 10 ^ (k + 1) → (0 < length (digits f n acc)) × (length (digits f n acc) ≤ k + 1 + length acc)
 unfolding digits
 digits-count zero k n acc h = (omega arith, omega arith)
-digits-count (suc f) k n acc h = go (decLt n 10) (digits-count f (k - 1) (n / 10) ((48 + n % 10) ∷ acc))
+digits-count (suc f) k n acc h = go (decLt n 10) (digits-count f (k - 1) (n / 10) (digitByte (n % 10) ∷ acc))
   where
     go : Dec (n < 10)
-        → (n / 10 < 10 ^ (k - 1 + 1) → (0 < length (digits f (n / 10) ((48 + n % 10) ∷ acc))) × (length (digits f (n / 10) ((48 + n % 10) ∷ acc)) ≤ k - 1 + 1 + suc (length acc)))
+        → (n / 10 < 10 ^ (k - 1 + 1) → (0 < length (digits f (n / 10) (digitByte (n % 10) ∷ acc))) × (length (digits f (n / 10) (digitByte (n % 10) ∷ acc)) ≤ k - 1 + 1 + suc (length acc)))
         → (0 < length (digits (suc f) n acc)) × (length (digits (suc f) n acc) ≤ k + 1 + length acc)
     go (yes l) r = rw (lt-ltb n 10 l) (omega arith, omega arith)
     go (no l) r =
@@ -134,16 +138,16 @@ module _ (pre rest : List ℕ) where
       ∙ rw (m, drop-append-seam pre (decimal v ++ rest), take-append-seam (decimal v) rest, digits-value 19 v [] (omega arith)) (unfold valueFrom in refl)
 
   pub text-back : (t : List ℕ) → T (allIn Quoted t)
-      → textAt (pre ++ (34 ∷ (t ++ (34 ∷ rest)))) (length pre) ≡ Is (length t) (length pre + 1 + length t + 1)
+      → textAt (pre ++ (code "\"" ∷ (t ++ (code "\"" ∷ rest)))) (length pre) ≡ Is (length t) (length pre + 1 + length t + 1)
   text-back t h =
-      let s : List ℕ = pre ++ (34 ∷ (t ++ (34 ∷ rest))) in
-      let d : drop (length pre + 1) s ≡ t ++ (34 ∷ rest) = drop-append-add pre (34 ∷ (t ++ (34 ∷ rest))) 1 in
-      let n : runAt Quoted s (length pre + 1) ≡ length t = rw d (run-all Quoted t (34 ∷ rest) h (unfold between in refl)) in
-      let g : getD s (length pre + 1 + length t) 0 ≡ 34 =
+      let s : List ℕ = pre ++ (code "\"" ∷ (t ++ (code "\"" ∷ rest))) in
+      let d : drop (length pre + 1) s ≡ t ++ (code "\"" ∷ rest) = drop-append-add pre (code "\"" ∷ (t ++ (code "\"" ∷ rest))) 1 in
+      let n : runAt Quoted s (length pre + 1) ≡ length t = rw d (run-all Quoted t (code "\"" ∷ rest) h (unfold between in refl)) in
+      let g : getD s (length pre + 1 + length t) 0 ≡ code "\"" =
       (let q : length pre + 1 + length t ≡ length pre + suc (length t) = omega arith in
-      rw (q, getD-append-add pre (34 ∷ (t ++ (34 ∷ rest))) (suc (length t)) 0) (getD-append-seam t 34 rest 0)) in
+      rw (q, getD-append-add pre (code "\"" ∷ (t ++ (code "\"" ∷ rest))) (suc (length t)) 0) (getD-append-seam t (code "\"") rest 0)) in
       let m : length pre + 1 + length t - (length pre + 1) ≡ length t = omega arith in
-      text-is s (length pre) (length pre + 1 + length t) (rw n) (getD-append-seam pre 34 (t ++ (34 ∷ rest)) 0) g ∙ rw m
+      text-is s (length pre) (length pre + 1 + length t) (rw n) (getD-append-seam pre (code "\"") (t ++ (code "\"" ∷ rest)) 0) g ∙ rw m
 
   pub byte-back : (b : ℕ) → byteAt b (pre ++ (b ∷ rest)) (length pre) ≡ Is b (length pre + 1)
   unfolding byteAt
@@ -171,20 +175,20 @@ unfolding signedAt signed
 signed-back pre rest v h k e = go (decLt v nought)
   where
     go : Dec (v < nought)
-        → (let x : List ℕ = cond (ltb v nought) (45 ∷ decimal (nought - v)) (43 ∷ decimal (v - nought)) in
+        → (let x : List ℕ = cond (ltb v nought) (code "-" ∷ decimal (nought - v)) (code "+" ∷ decimal (v - nought)) in
         let s : List ℕ = pre ++ (x ++ rest) in
-        cond (eqb (getD s (length pre) 0) 43) (plus (numberAt s (length pre + 1)))
-        (cond (eqb (getD s (length pre) 0) 45) (minus (numberAt s (length pre + 1)))
+        cond (eqb (getD s (length pre) 0) (code "+")) (plus (numberAt s (length pre + 1)))
+        (cond (eqb (getD s (length pre) 0) (code "-")) (minus (numberAt s (length pre + 1)))
         (plus (numberAt s (length pre))))
         ≡ Is v (length pre + length x))
     go (yes l) =
         let q : nought - (nought - v) ≡ v = omega arith in
         let r : length pre + 1 + length (decimal (nought - v)) ≡ length pre + suc (length (decimal (nought - v))) = omega arith in
-        rw (lt-ltb v nought l, getD-append-seam pre 45 (decimal (nought - v) ++ rest) 0, number-after pre rest 45 (nought - v) (omega arith) e, q, r)
+        rw (lt-ltb v nought l, getD-append-seam pre (code "-") (decimal (nought - v) ++ rest) 0, number-after pre rest (code "-") (nought - v) (omega arith) e, q, r)
     go (no l) =
         let q : nought + (v - nought) ≡ v = omega arith in
         let r : length pre + 1 + length (decimal (v - nought)) ≡ length pre + suc (length (decimal (v - nought))) = omega arith in
-        rw (le-ltb v nought (omega arith), getD-append-seam pre 43 (decimal (v - nought) ++ rest) 0, number-after pre rest 43 (v - nought) (omega arith) e, q, r)
+        rw (le-ltb v nought (omega arith), getD-append-seam pre (code "+") (decimal (v - nought) ++ rest) 0, number-after pre rest (code "+") (v - nought) (omega arith) e, q, r)
 
 -- ---- what was read, as it was written
 
@@ -206,7 +210,7 @@ minus-fits (Not p) v e k h = absurd (let z : _≡_ {A = ℕ} 0 1 = cc in omega a
 
 pub signed-fits : (s : List ℕ) (at v e : ℕ) → signedAt s at ≡ Is v e → (0 < v) × (v < 2000000000)
 unfolding signedAt
-signed-fits s at v e h = go (eqb (getD s at 0) 43) (eqb (getD s at 0) 45) h
+signed-fits s at v e h = go (eqb (getD s at 0) (code "+")) (eqb (getD s at 0) (code "-")) h
   where
     go : (a b : Bool)
         → cond a (plus (numberAt s (at + 1))) (cond b (minus (numberAt s (at + 1))) (plus (numberAt s at))) ≡ Is v e
@@ -239,31 +243,31 @@ letter-fits k s at v e h = go (ltb at (length s)) (inClass k (getD s at 0)) refl
 -- a quoted text is its bytes between two quotes
 pub record Quotes (s : List ℕ) (at n e : ℕ) : Type 0 where
   pub text : List ℕ
-  pub whole : kept s at (n + 2) ≡ 34 ∷ (text ++ (34 ∷ []))
+  pub whole : kept s at (n + 2) ≡ code "\"" ∷ (text ++ (code "\"" ∷ []))
   pub inner : kept s (at + 1) n ≡ text
   pub count : length text ≡ n
   pub legal : T (allIn Quoted text)
   pub ends : e ≡ at + (n + 2)
   pub run-of : runAt Quoted s (at + 1) ≡ n
-  pub closed : getD s (at + 1 + n) 0 ≡ 34
+  pub closed : getD s (at + 1 + n) 0 ≡ code "\""
 
 pub text-fits : (s : List ℕ) (at n e : ℕ) → textAt s at ≡ Is n e → Quotes s at n e
 unfolding textAt
-text-fits s at n e h = go (eqb (getD s at 0) 34) (eqb (getD s (at + 1 + runAt Quoted s (at + 1)) 0) 34) refl refl h
+text-fits s at n e h = go (eqb (getD s at 0) (code "\"")) (eqb (getD s (at + 1 + runAt Quoted s (at + 1)) 0) (code "\"")) refl refl h
   where
-    go : (a b : Bool) → eqb (getD s at 0) 34 ≡ a → eqb (getD s (at + 1 + runAt Quoted s (at + 1)) 0) 34 ≡ b
+    go : (a b : Bool) → eqb (getD s at 0) (code "\"") ≡ a → eqb (getD s (at + 1 + runAt Quoted s (at + 1)) 0) (code "\"") ≡ b
         → cond (a && b) (Is (runAt Quoted s (at + 1)) (at + 1 + runAt Quoted s (at + 1) + 1)) (Not (textFault s at)) ≡ Is n e → Quotes s at n e
     go true true p q r =
         let m : runAt Quoted s (at + 1) ≡ n = cc in
         let d : at + 1 + runAt Quoted s (at + 1) + 1 ≡ e = cc in
-        let a : getD s at 0 ≡ 34 = eqb-true (getD s at 0) 34 p in
-        let z : getD s (at + 1 + n) 0 ≡ 34 = rw m at (eqb-true (getD s (at + 1 + runAt Quoted s (at + 1)) 0) 34 q) in
+        let a : getD s at 0 ≡ code "\"" = eqb-true (getD s at 0) (code "\"") p in
+        let z : getD s (at + 1 + n) 0 ≡ code "\"" = rw m at (eqb-true (getD s (at + 1 + runAt Quoted s (at + 1)) 0) (code "\"") q) in
         let i : at < length s = inside s at (omega arith) in
         let j : at + 1 + n < length s = inside s (at + 1 + n) (omega arith) in
         let x : List ℕ = drop (at + 1) s in
         let l : n < length x = (let k = length-drop (at + 1) s in omega arith) in
-        let g : getD x n 0 ≡ 34 = getD-drop (at + 1) s n 0 ∙ z in
-        let w : drop at s ≡ 34 ∷ x = drop-cons s at 0 i ∙ rw (a, add-one) in
+        let g : getD x n 0 ≡ code "\"" = getD-drop (at + 1) s n 0 ∙ z in
+        let w : drop at s ≡ code "\"" ∷ x = drop-cons s at 0 i ∙ rw (a, add-one) in
         let t : n + 2 ≡ suc (suc n) = omega arith in
         record {
           text = take n x;
@@ -280,11 +284,11 @@ text-fits s at n e h = go (eqb (getD s at 0) 34) (eqb (getD s (at + 1 + runAt Qu
 
 -- ---- capitals stay within the classes of a text and of a name
 
-abbrev holds : (ℕ → Bool) → ℕ → ℕ → Bool
+abbrev pub holds : (ℕ → Bool) → ℕ → ℕ → Bool
 holds q lo zero = true
 holds q lo (suc n) = q lo && holds q (suc lo) n
 
-holds-at : (q : ℕ → Bool) (n lo b : ℕ) → T (holds q lo n) → lo ≤ b → b < lo + n → T (q b)
+pub holds-at : (q : ℕ → Bool) (n lo b : ℕ) → T (holds q lo n) → lo ≤ b → b < lo + n → T (q b)
 holds-at q zero lo b h k l = absurd (omega arith)
 holds-at q (suc n) lo b h k l = go (decLt lo b) (holds-at q n (suc lo) b (and-T (q lo) (holds q (suc lo) n) h .1))
   where
@@ -369,7 +373,7 @@ cased-twice t (b ∷ bs) = go t (cased-twice t bs)
     go false e = ap (λ (l : List ℕ). b ∷ l) e
 
 -- a text in capitals or as it is, with its quotes
-pub cased-quotes : (t : Bool) (l : List ℕ) → cased t (34 ∷ (l ++ (34 ∷ []))) ≡ 34 ∷ (cased t l ++ (34 ∷ []))
+pub cased-quotes : (t : Bool) (l : List ℕ) → cased t (code "\"" ∷ (l ++ (code "\"" ∷ []))) ≡ code "\"" ∷ (cased t l ++ (code "\"" ∷ []))
 unfolding cased capital between
-cased-quotes true l = ap (λ (x : List ℕ). 34 ∷ x) (cased-append true l (34 ∷ []))
-cased-quotes false l = ap (λ (x : List ℕ). 34 ∷ x) (cased-append false l (34 ∷ []))
+cased-quotes true l = ap (λ (x : List ℕ). code "\"" ∷ x) (cased-append true l (code "\"" ∷ []))
+cased-quotes false l = ap (λ (x : List ℕ). code "\"" ∷ x) (cased-append false l (code "\"" ∷ []))

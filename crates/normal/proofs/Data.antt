@@ -3,6 +3,7 @@ use mathlib.Core.Path.{_≡_, _∙_, refl, sym, ap}
 use mathlib.Core.Bool.{Bool, true, false, cond, _&&_}
 use mathlib.Core.List.{List, [], _∷_, _++_, append-assoc}
 use Prim.Native.Nat.{ℕ, zero, suc, _+_, _-_, _≤_, _<_}
+use Prim.Native.Char.{code}
 use native.Mathlib.Nat.{add-zero}
 use native.Mathlib.Omega.{arith}
 use lib.Dec.{ltb, eqb}
@@ -10,26 +11,31 @@ use lib.ListN.{length, getD, length-append}
 use lib.Seq.{getD-append-seam, getD-append-add}
 use borrow.Author.Tests.{lt-ltb, ltb-true, eq-eqb, eqb-true}
 use Rattle.kinds.specs.Bytes.{between}
-use Rattle.fields.specs.declared.Class.the-variants.{Digit}
+use Rattle.classes.specs.declared.Class.the-variants.{Digit}
 use Rattle.fields.specs.declared.Field.{Field}
 use Rattle.fields.specs.declared.Field.the-variants.{Is, Not}
-use Rattle.fields.specs.declared.Part.{Part}
-use Rattle.fields.specs.declared.Part.the-variants.{Whole, First, Last, Middle}
-use Rattle.fields.specs.declared.What.the-variants.{Text, Variable, Counter}
-use Rattle.fields.specs.declared.Element.{Element}
-use Rattle.fields.specs.declared.Step.{Step}
-use Rattle.fields.specs.declared.Step.the-variants.{Next, Stop}
-use Rattle.fields.specs.declared.Modifier.{Modifier}
-use Rattle.fields.specs.declared.Modifier.the-variants.{Takes, Wrong}
-use Rattle.fields.specs.declared.Limits.the-variants.{Within, Outside}
-use Rattle.fields.specs.Bytes.{inClass, digitOf}
-use Rattle.fields.specs.Field.{numberAt, textAt, byteAt, Small}
-use Rattle.fields.specs.Data.{first, last, middle, middle-dot, middle-n, modifierAt, quotedFrom, heldFrom, modified, heldAt, elementAt, pointed, after, elements, total, stopped, dataAt, whatGood, limits}
-use Rattle.fields.proofs.Laws.{in-range, digit-small, number-small}
-use Rattle.fields.proofs.Steps.{element-past, elements-next, elements-stop, total-next, Took, element-took}
-use Rattle.normal.specs.Written.{decimal, kept, partWritten, whatWritten, elementWritten, dataWritten}
+use Rattle.elements.specs.declared.Part.{Part}
+use Rattle.elements.specs.declared.Part.the-variants.{Whole, First, Last, Middle}
+use Rattle.elements.specs.declared.What.the-variants.{Text, Variable, Counter}
+use Rattle.elements.specs.declared.Element.{Element}
+use Rattle.elements.specs.declared.Step.{Step}
+use Rattle.elements.specs.declared.Step.the-variants.{Next, Stop}
+use Rattle.elements.specs.declared.Modifier.{Modifier}
+use Rattle.elements.specs.declared.Modifier.the-variants.{Takes, Wrong}
+use Rattle.data_field.specs.declared.Limits.the-variants.{Within, Outside}
+use Rattle.classes.specs.Bytes.{inClass}
+use Rattle.numbers.specs.Number.{digitOf, numberAt, Small}
+use Rattle.fields.specs.Field.{textAt, byteAt}
+use Rattle.elements.specs.Elements.{first, last, middle, middle-dot, middle-n, modifierAt, quotedFrom, heldFrom, modified, heldAt, elementAt, pointed, after, elements}
+use Rattle.data_field.specs.Data.{total, stopped, dataAt, whatGood, limits}
+use Rattle.classes.proofs.Laws.{in-range}
+use Rattle.numbers.proofs.Laws.{digit-small, number-small}
+use Rattle.elements.proofs.Steps.{element-past, elements-next, elements-stop, Took, element-took}
+use Rattle.data_field.proofs.Steps.{total-next}
+use Rattle.writing.specs.Writing.{digitByte, decimal, kept}
+use Rattle.normal.specs.Written.{partWritten, whatWritten, elementWritten, dataWritten}
 use Rattle.normal.specs.Contents.{pieces}
-use Rattle.normal.proofs.Writes.{digits-last}
+use Rattle.writing.proofs.Writes.{digits-last}
 use Rattle.normal.proofs.Back.{number-back, text-back, byte-back, text-fits, kept-back}
 
 -- ---- what an element that was read is
@@ -62,12 +68,12 @@ middle-dot-fits p s at (Is d e) k = middle-n-fits p e (numberAt s e) k (number-s
 middle-dot-fits p s at (Not q) k = tt
 
 middle-fits : (s : List ℕ) (at : ℕ) (f : Field) → Small f → ModifierFits (middle s at f)
-middle-fits s at (Is p e) h = middle-dot-fits p s e (byteAt 46 s e) h
+middle-fits s at (Is p e) h = middle-dot-fits p s e (byteAt (code ".") s e) h
 middle-fits s at (Not q) h = tt
 
 modifier-fits : (s : List ℕ) (at : ℕ) → ModifierFits (modifierAt s at)
 unfolding modifierAt
-modifier-fits s at = go (eqb (getD s at 0) 76) (eqb (getD s at 0) 82) (eqb (getD s at 0) 77)
+modifier-fits s at = go (eqb (getD s at 0) (code "L")) (eqb (getD s at 0) (code "R")) (eqb (getD s at 0) (code "M"))
   where
     go : (a b c : Bool)
         → ModifierFits
@@ -101,7 +107,7 @@ modified-fits counter digit s at (Wrong q) h = tt
 
 held-fits : (counter : Bool) (s : List ℕ) (at : ℕ) → StepFits s at (heldAt counter s at)
 unfolding heldAt
-held-fits counter s at = go (between 48 57 (getD s (at + 1) 0))
+held-fits counter s at = go (between (code "0") (code "9") (getD s (at + 1) 0))
   where
     go : (t : Bool)
         → StepFits s at (cond t (modified counter (getD s (at + 1) 0) s at (modifierAt s (at + 2))) (Stop (pointed s at (at + 1))))
@@ -110,7 +116,7 @@ held-fits counter s at = go (between 48 57 (getD s (at + 1) 0))
 
 step-fits : (s : List ℕ) (at : ℕ) → StepFits s at (elementAt s at)
 unfolding elementAt
-step-fits s at = go (eqb (getD s at 0) 34) (eqb (getD s at 0) 86) (eqb (getD s at 0) 67)
+step-fits s at = go (eqb (getD s at 0) (code "\"")) (eqb (getD s at 0) (code "V")) (eqb (getD s at 0) (code "C"))
   where
     go : (a b c : Bool) → StepFits s at (cond a (quotedFrom at (textAt s at)) (cond b (heldAt false s at) (cond c (heldAt true s at) (Stop at))))
     go true b c = quoted-fits s at (textAt s at) refl
@@ -126,20 +132,20 @@ element-fits s at e h = rw h at (step-fits s at)
 -- what may follow an element: nothing, or the first byte of another
 pub record Opens (b : ℕ) : Type 0 where
   pub no-digit : inClass Digit b ≡ false
-  pub no-first : eqb b 76 ≡ false
-  pub no-last : eqb b 82 ≡ false
-  pub no-middle : eqb b 77 ≡ false
+  pub no-first : eqb b (code "L") ≡ false
+  pub no-last : eqb b (code "R") ≡ false
+  pub no-middle : eqb b (code "M") ≡ false
 
 opens-none : Opens 0
 opens-none = record { no-digit = unfold between in refl; no-first = refl; no-last = refl; no-middle = refl }
 
-opens-quote : Opens 34
+opens-quote : Opens (code "\"")
 opens-quote = record { no-digit = unfold between in refl; no-first = refl; no-last = refl; no-middle = refl }
 
-opens-variable : Opens 86
+opens-variable : Opens (code "V")
 opens-variable = record { no-digit = unfold between in refl; no-first = refl; no-last = refl; no-middle = refl }
 
-opens-counter : Opens 67
+opens-counter : Opens (code "C")
 opens-counter = record { no-digit = unfold between in refl; no-first = refl; no-last = refl; no-middle = refl }
 
 -- a number, and a byte, after one more byte
@@ -159,22 +165,22 @@ modifier-back pre rest Whole h o =
     ap (λ k. getD (pre ++ rest) k 0) (sym (add-zero (length pre))) ∙ getD-append-add pre rest 0 0 in
     rw (g, o .no-first, o .no-last, o .no-middle, add-zero)
 modifier-back pre rest (First n) h o =
-    rw (getD-append-seam pre 76 (decimal n ++ rest) 0, number-then pre rest 76 n h (o .no-digit))
+    rw (getD-append-seam pre (code "L") (decimal n ++ rest) 0, number-then pre rest (code "L") n h (o .no-digit))
 modifier-back pre rest (Last n) h o =
-    rw (getD-append-seam pre 82 (decimal n ++ rest) 0, number-then pre rest 82 n h (o .no-digit))
+    rw (getD-append-seam pre (code "R") (decimal n ++ rest) 0, number-then pre rest (code "R") n h (o .no-digit))
 modifier-back pre rest (Middle p n) h o =
     let w : List ℕ = decimal n ++ rest in
-    let x : List ℕ = pre ++ (77 ∷ decimal p) in
-    let s : List ℕ = pre ++ (77 ∷ (decimal p ++ (46 ∷ w))) in
-    let a : (decimal p ++ (46 ∷ decimal n)) ++ rest ≡ decimal p ++ (46 ∷ w) = append-assoc (decimal p) (46 ∷ decimal n) rest in
-    let b : x ++ (46 ∷ w) ≡ s = append-assoc pre (77 ∷ decimal p) (46 ∷ w) in
-    let l : length x ≡ length pre + suc (length (decimal p)) = length-append pre (77 ∷ decimal p) in
-    let d : byteAt 46 s (length pre + suc (length (decimal p))) ≡ Is 46 (length pre + suc (length (decimal p)) + 1) = rw (b, l) at (byte-back x w 46) in
+    let x : List ℕ = pre ++ (code "M" ∷ decimal p) in
+    let s : List ℕ = pre ++ (code "M" ∷ (decimal p ++ (code "." ∷ w))) in
+    let a : (decimal p ++ (code "." ∷ decimal n)) ++ rest ≡ decimal p ++ (code "." ∷ w) = append-assoc (decimal p) (code "." ∷ decimal n) rest in
+    let b : x ++ (code "." ∷ w) ≡ s = append-assoc pre (code "M" ∷ decimal p) (code "." ∷ w) in
+    let l : length x ≡ length pre + suc (length (decimal p)) = length-append pre (code "M" ∷ decimal p) in
+    let d : byteAt (code ".") s (length pre + suc (length (decimal p))) ≡ Is (code ".") (length pre + suc (length (decimal p)) + 1) = rw (b, l) at (byte-back x w (code ".")) in
     let y : numberAt s (length pre + suc (length (decimal p)) + 1) ≡ Is n (length pre + suc (length (decimal p)) + suc (length (decimal n))) =
-    rw (b, l) at (number-then x rest 46 n (h .1) (o .no-digit)) in
-    let q : length pre + suc (length (decimal p)) + suc (length (decimal n)) ≡ length pre + suc (length (decimal p ++ (46 ∷ decimal n))) =
-    (let z = length-append (decimal p) (46 ∷ decimal n) in omega arith) in
-    rw (a, getD-append-seam pre 77 (decimal p ++ (46 ∷ w)) 0, number-then pre (46 ∷ w) 77 p (h .0) (unfold between in refl), d, y, q)
+    rw (b, l) at (number-then x rest (code ".") n (h .1) (o .no-digit)) in
+    let q : length pre + suc (length (decimal p)) + suc (length (decimal n)) ≡ length pre + suc (length (decimal p ++ (code "." ∷ decimal n))) =
+    (let z = length-append (decimal p) (code "." ∷ decimal n) in omega arith) in
+    rw (a, getD-append-seam pre (code "M") (decimal p ++ (code "." ∷ w)) 0, number-then pre (code "." ∷ w) (code "M") p (h .0) (unfold between in refl), d, y, q)
 
 -- the element that stands for e in the written line, at a place
 abbrev pub placed : List ℕ → ℕ → Element → Element
@@ -182,22 +188,22 @@ placed s at e = record { what = e .what; at = at; length = length (elementWritte
 
 held-back : (counter : Bool) (pre rest : List ℕ) (b k : ℕ) (p : Part) → k < 10 → PartFits p → Opens (getD rest 0 0)
     → heldAt counter (pre ++ (b ∷ ((decimal k ++ partWritten p) ++ rest))) (length pre)
-    ≡ Next (record { what = heldFrom counter (48 + k) p; at = length pre; length = length (b ∷ (decimal k ++ partWritten p)) })
+    ≡ Next (record { what = heldFrom counter (digitByte k) p; at = length pre; length = length (b ∷ (decimal k ++ partWritten p)) })
 unfolding heldAt
 held-back counter pre rest b k p h f o =
-    let c : decimal k ≡ (48 + k) ∷ [] = digits-last 19 k [] h in
+    let c : decimal k ≡ digitByte k ∷ [] = digits-last 19 k [] h in
     let w : List ℕ = partWritten p ++ rest in
-    let s : List ℕ = pre ++ (b ∷ ((48 + k) ∷ w)) in
-    let x : List ℕ = pre ++ (b ∷ ((48 + k) ∷ [])) in
-    let a : x ++ w ≡ s = append-assoc pre (b ∷ ((48 + k) ∷ [])) w in
-    let l : length x ≡ length pre + 2 = length-append pre (b ∷ ((48 + k) ∷ [])) in
-    let g : getD s (length pre + 1) 0 ≡ 48 + k = getD-append-add pre (b ∷ ((48 + k) ∷ w)) 1 0 in
+    let s : List ℕ = pre ++ (b ∷ (digitByte k ∷ w)) in
+    let x : List ℕ = pre ++ (b ∷ (digitByte k ∷ [])) in
+    let a : x ++ w ≡ s = append-assoc pre (b ∷ (digitByte k ∷ [])) w in
+    let l : length x ≡ length pre + 2 = length-append pre (b ∷ (digitByte k ∷ [])) in
+    let g : getD s (length pre + 1) 0 ≡ digitByte k = getD-append-add pre (b ∷ (digitByte k ∷ w)) 1 0 in
     let m : modifierAt s (length pre + 2) ≡ Takes p (length pre + 2 + length (partWritten p)) = rw (a, l) at (modifier-back x rest p f o) in
     let q : length pre + 2 + length (partWritten p) - length pre ≡ suc (suc (length (partWritten p))) = omega arith in
-    rw (c, g, in-range 48 57 (48 + k) (omega arith) (omega arith), m, q)
+    rw (c, g, in-range (code "0") (code "9") (digitByte k) (omega arith) (omega arith), m, q)
 
-digit-back : (k : ℕ) → k < 10 → digitOf (48 + k) ≡ k
-digit-back k h = rw (in-range 48 57 (48 + k) (omega arith) (omega arith)) (omega arith)
+digit-back : (k : ℕ) → k < 10 → digitOf (digitByte k) ≡ k
+digit-back k h = rw (in-range (code "0") (code "9") (digitByte k) (omega arith) (omega arith)) (omega arith)
 
 pub element-back : (s : List ℕ) (at : ℕ) (e : Element) (pre rest : List ℕ) → Fits s at e → Opens (getD rest 0 0)
     → elementAt (pre ++ (elementWritten s e ++ rest)) (length pre) ≡ Next (placed s (length pre) e)
@@ -205,13 +211,13 @@ unfolding elementAt whatWritten
 element-back s at e pre rest (a-text n d h) o =
     let q = text-fits s at n d h in
     let t : List ℕ = q .text in
-    let a : (34 ∷ (t ++ (34 ∷ []))) ++ rest ≡ 34 ∷ (t ++ (34 ∷ rest)) = ap (λ (l : List ℕ). 34 ∷ l) (append-assoc t (34 ∷ []) rest) in
-    let c : length (34 ∷ (t ++ (34 ∷ []))) ≡ length t + 2 = (let z = length-append t (34 ∷ []) in omega arith) in
-    rw (q .whole, a, getD-append-seam pre 34 (t ++ (34 ∷ rest)) 0, text-back pre rest t (q .legal), c)
+    let a : (code "\"" ∷ (t ++ (code "\"" ∷ []))) ++ rest ≡ code "\"" ∷ (t ++ (code "\"" ∷ rest)) = ap (λ (l : List ℕ). code "\"" ∷ l) (append-assoc t (code "\"" ∷ []) rest) in
+    let c : length (code "\"" ∷ (t ++ (code "\"" ∷ []))) ≡ length t + 2 = (let z = length-append t (code "\"" ∷ []) in omega arith) in
+    rw (q .whole, a, getD-append-seam pre (code "\"") (t ++ (code "\"" ∷ rest)) 0, text-back pre rest t (q .legal), c)
 element-back s at e pre rest (a-variable k p n h f) o =
-    rw (getD-append-seam pre 86 ((decimal k ++ partWritten p) ++ rest) 0, held-back false pre rest 86 k p h f o, digit-back k h)
+    rw (getD-append-seam pre (code "V") ((decimal k ++ partWritten p) ++ rest) 0, held-back false pre rest (code "V") k p h f o, digit-back k h)
 element-back s at e pre rest (a-counter k p n h f) o =
-    rw (getD-append-seam pre 67 ((decimal k ++ partWritten p) ++ rest) 0, held-back true pre rest 67 k p h f o, digit-back k h)
+    rw (getD-append-seam pre (code "C") ((decimal k ++ partWritten p) ++ rest) 0, held-back true pre rest (code "C") k p h f o, digit-back k h)
 
 -- an element's first byte
 pub element-opens : (s : List ℕ) (at : ℕ) (e : Element) (rest : List ℕ) → Fits s at e → Opens (getD (elementWritten s e ++ rest) 0 0)

@@ -3,6 +3,7 @@ use mathlib.Core.Path.{_≡_, _∙_, refl, sym, ap}
 use mathlib.Core.Bool.{Bool, true, false, cond, _&&_, _||_}
 use mathlib.Core.List.{List, [], _∷_, _++_, append-assoc, append-nil}
 use Prim.Native.Nat.{ℕ, suc, _+_, _-_, _<_}
+use Prim.Native.Char.{code}
 use native.Mathlib.Omega.{arith}
 use native.Mathlib.Decide.{ℕ-discrete}
 use lib.Dec.{T, ltb, eqb}
@@ -10,62 +11,65 @@ use lib.ListN.{length, getD, take, drop, length-append}
 use lib.Seq.{getD-append-seam, getD-append-add, drop-append-add, drop-cons, take-append-seam}
 use borrow.Author.Tests.{eq-eqb, ne-eqb, eqb-true}
 use Rattle.kinds.specs.Bytes.{between}
-use Rattle.fields.specs.declared.Class.the-variants.{Digit, Named, Mode, Side}
+use Rattle.classes.specs.declared.Class.the-variants.{Digit, Named, Mode, Side}
 use Rattle.fields.specs.declared.Field.the-variants.{Is, Not}
-use Rattle.fields.specs.declared.What.the-variants.{Text as Quote}
-use Rattle.fields.specs.declared.Limits.the-variants.{Within, Outside}
-use Rattle.fields.specs.Bytes.{inClass}
-use Rattle.fields.specs.Field.{runAt, textAt, typeAt, byteAt}
-use Rattle.fields.specs.Data.{elements}
-use Rattle.fields.proofs.Laws.{inside}
-use Rattle.read.specs.Grammar.{fieldAt, named, starred, meets, fieldLimits}
+use Rattle.elements.specs.declared.What.the-variants.{Text as Quote}
+use Rattle.data_field.specs.declared.Limits.the-variants.{Within, Outside}
+use Rattle.classes.specs.Bytes.{inClass, runAt}
+use Rattle.fields.specs.Field.{textAt, typeAt, byteAt}
+use Rattle.elements.specs.Elements.{elements}
+use Rattle.classes.proofs.Laws.{inside}
+use Rattle.reader.specs.Letters.{fieldAt}
+use Rattle.row_limits.specs.Limits.{named, meets, fieldLimits}
+use Rattle.grammar.specs.Makers.{starred}
 use Rattle.parts.specs.Names.{capital}
-use Rattle.normal.specs.Written.{kept, cased, dataWritten, writtenField}
+use Rattle.writing.specs.Writing.{kept, cased}
+use Rattle.normal.specs.Written.{dataWritten, writtenField}
 use Rattle.normal.specs.Contents.{held}
-use Rattle.normal.proofs.Writes.{cased-kept}
+use Rattle.writing.proofs.Writes.{cased-kept}
 use Rattle.normal.proofs.Back.{allIn, run-all, run-in, number-back, text-back, byte-back, letter-back, signed-back, kept-back, number-fits, signed-fits, byte-fits, letter-fits, text-fits, cased-quoted, cased-named, cased-length, cased-twice, cased-quotes}
 use Rattle.normal.proofs.Data.{chain-of, data-inside, elements-back, data-back, data-again, limits-back, pieces-back}
 
 -- a byte that stands for itself
 pub record Plain (f : ℕ) : Type 0 where
-  pub no-n : eqb f 110 ≡ false
-  pub no-w : eqb f 119 ≡ false
-  pub no-s : eqb f 115 ≡ false
-  pub no-t : eqb f 116 ≡ false
-  pub no-u : eqb f 117 ≡ false
-  pub no-a : eqb f 97 ≡ false
-  pub no-z : eqb f 122 ≡ false
-  pub no-m : eqb f 109 ≡ false
-  pub no-j : eqb f 106 ≡ false
-  pub no-k : eqb f 107 ≡ false
-  pub no-d : eqb f 100 ≡ false
+  pub no-n : eqb f (code "n") ≡ false
+  pub no-w : eqb f (code "w") ≡ false
+  pub no-s : eqb f (code "s") ≡ false
+  pub no-t : eqb f (code "t") ≡ false
+  pub no-u : eqb f (code "u") ≡ false
+  pub no-a : eqb f (code "a") ≡ false
+  pub no-z : eqb f (code "z") ≡ false
+  pub no-m : eqb f (code "m") ≡ false
+  pub no-j : eqb f (code "j") ≡ false
+  pub no-k : eqb f (code "k") ≡ false
+  pub no-d : eqb f (code "d") ≡ false
 
 pub data Letter : ℕ → Type 0 where
-  a-number : Letter 110
-  a-wide : Letter 119
-  a-step : Letter 115
-  a-prompt : Letter 116
-  a-text : Letter 117
-  a-name : Letter 97
-  a-star : Letter 122
-  a-mode : Letter 109
-  a-side : Letter 106
-  a-type : Letter 107
-  some-data : Letter 100
+  a-number : Letter (code "n")
+  a-wide : Letter (code "w")
+  a-step : Letter (code "s")
+  a-prompt : Letter (code "t")
+  a-text : Letter (code "u")
+  a-name : Letter (code "a")
+  a-star : Letter (code "z")
+  a-mode : Letter (code "m")
+  a-side : Letter (code "j")
+  a-type : Letter (code "k")
+  some-data : Letter (code "d")
   itself : {f : ℕ} → Plain f → Letter f
 
 pub letter-of : (f : ℕ) → Letter f
 letter-of f =
-    go (ℕ-discrete f 110) (ℕ-discrete f 119) (ℕ-discrete f 115) (ℕ-discrete f 116) (ℕ-discrete f 117) (ℕ-discrete f 97) (ℕ-discrete f 122)
-    (ℕ-discrete f 109)
-    (ℕ-discrete f 106)
-    (ℕ-discrete f 107)
-    (ℕ-discrete f 100)
+    go (ℕ-discrete f (code "n")) (ℕ-discrete f (code "w")) (ℕ-discrete f (code "s")) (ℕ-discrete f (code "t")) (ℕ-discrete f (code "u")) (ℕ-discrete f (code "a")) (ℕ-discrete f (code "z"))
+    (ℕ-discrete f (code "m"))
+    (ℕ-discrete f (code "j"))
+    (ℕ-discrete f (code "k"))
+    (ℕ-discrete f (code "d"))
   where
-    go : Dec (f ≡ 110) → Dec (f ≡ 119) → Dec (f ≡ 115) → Dec (f ≡ 116) → Dec (f ≡ 117) → Dec (f ≡ 97) → Dec (f ≡ 122) → Dec (f ≡ 109)
-        → Dec (f ≡ 106)
-        → Dec (f ≡ 107)
-        → Dec (f ≡ 100)
+    go : Dec (f ≡ code "n") → Dec (f ≡ code "w") → Dec (f ≡ code "s") → Dec (f ≡ code "t") → Dec (f ≡ code "u") → Dec (f ≡ code "a") → Dec (f ≡ code "z") → Dec (f ≡ code "m")
+        → Dec (f ≡ code "j")
+        → Dec (f ≡ code "k")
+        → Dec (f ≡ code "d")
         → Letter f
     go (yes e) b c d g h i j k l m = rw e a-number
     go (no a) (yes e) c d g h i j k l m = rw e a-wide
@@ -81,17 +85,17 @@ letter-of f =
     go (no a) (no b) (no c) (no d) (no g) (no h) (no i) (no j) (no k) (no l) (no m) =
         itself
         (record {
-          no-n = ne-eqb f 110 a;
-          no-w = ne-eqb f 119 b;
-          no-s = ne-eqb f 115 c;
-          no-t = ne-eqb f 116 d;
-          no-u = ne-eqb f 117 g;
-          no-a = ne-eqb f 97 h;
-          no-z = ne-eqb f 122 i;
-          no-m = ne-eqb f 109 j;
-          no-j = ne-eqb f 106 k;
-          no-k = ne-eqb f 107 l;
-          no-d = ne-eqb f 100 m;
+          no-n = ne-eqb f (code "n") a;
+          no-w = ne-eqb f (code "w") b;
+          no-s = ne-eqb f (code "s") c;
+          no-t = ne-eqb f (code "t") d;
+          no-u = ne-eqb f (code "u") g;
+          no-a = ne-eqb f (code "a") h;
+          no-z = ne-eqb f (code "z") i;
+          no-m = ne-eqb f (code "m") j;
+          no-j = ne-eqb f (code "j") k;
+          no-k = ne-eqb f (code "k") l;
+          no-d = ne-eqb f (code "d") m;
         })
 
 -- what a field asks of the bytes after it
@@ -128,14 +132,14 @@ limit-both false b c p q k h = absurd (let z : _≡_ {A = ℕ} 0 1 = cc in omega
 take-front : (xs ys : List ℕ) (n : ℕ) → length xs ≡ n → take n (xs ++ ys) ≡ xs
 take-front xs ys n e = rw (← e) (take-append-seam xs ys)
 
-quote-unnamed : inClass Named 34 ≡ false
+quote-unnamed : inClass Named (code "\"") ≡ false
 unfolding between
 quote-unnamed = refl
 
-star-kept : (s : List ℕ) (p n : ℕ) → n ≡ 1 → getD s p 0 ≡ 42 → kept s p n ≡ 42 ∷ []
+star-kept : (s : List ℕ) (p n : ℕ) → n ≡ 1 → getD s p 0 ≡ code "*" → kept s p n ≡ code "*" ∷ []
 star-kept s p n e z = let l : p < length s = inside s p (omega arith) in rw (e, drop-cons s p 0 l, z)
 
-star-cased : (b : Bool) → cased b (42 ∷ []) ≡ 42 ∷ []
+star-cased : (b : Bool) → cased b (code "*" ∷ []) ≡ code "*" ∷ []
 unfolding cased capital between
 star-cased true = refl
 star-cased false = refl
@@ -155,7 +159,7 @@ module _ (b : Bool) (s : List ℕ) (at v e : ℕ) (h : textAt s at ≡ Is v e) (
   unfolding inner
   inner-is = refl
 
-  outer-is : outer ≡ 34 ∷ (inner ++ (34 ∷ []))
+  outer-is : outer ≡ code "\"" ∷ (inner ++ (code "\"" ∷ []))
   unfolding outer inner
   outer-is = let q = text-fits s at v e h in rw (q .whole) (cased-quotes b (q .text))
 
@@ -164,11 +168,11 @@ module _ (b : Bool) (s : List ℕ) (at v e : ℕ) (h : textAt s at ≡ Is v e) (
   inner-length = let q = text-fits s at v e h in cased-length b (q .text) ∙ q .count
 
   outer-length : length outer ≡ v + 2
-  outer-length = rw outer-is (let z = length-append inner (34 ∷ []) in let k = inner-length in omega arith)
+  outer-length = rw outer-is (let z = length-append inner (code "\"" ∷ []) in let k = inner-length in omega arith)
 
-  line-is : line ≡ pre ++ (34 ∷ (inner ++ (34 ∷ rest)))
+  line-is : line ≡ pre ++ (code "\"" ∷ (inner ++ (code "\"" ∷ rest)))
   unfolding line
-  line-is = rw (outer-is, append-assoc inner (34 ∷ []) rest)
+  line-is = rw (outer-is, append-assoc inner (code "\"" ∷ []) rest)
 
   text-moved : textAt line (length pre) ≡ Is v (length pre + length outer)
   text-moved =
@@ -182,13 +186,13 @@ module _ (b : Bool) (s : List ℕ) (at v e : ℕ) (h : textAt s at ≡ Is v e) (
       let d : cased b outer ≡ outer = unfold outer in cased-twice b (kept s at (v + 2)) in
       ap (λ n. cased b (kept line (length pre) n)) (sym outer-length) ∙ ap (cased b) k ∙ d
 
-  inner-at : drop (length pre + 1) line ≡ inner ++ (34 ∷ rest)
-  inner-at = rw line-is (drop-append-add pre (34 ∷ (inner ++ (34 ∷ rest))) 1)
+  inner-at : drop (length pre + 1) line ≡ inner ++ (code "\"" ∷ rest)
+  inner-at = rw line-is (drop-append-add pre (code "\"" ∷ (inner ++ (code "\"" ∷ rest))) 1)
 
   text-content : cased b (kept line (length pre + 1) v) ≡ cased b (kept s (at + 1) v)
   text-content =
       let q = text-fits s at v e h in
-      let k : take v (inner ++ (34 ∷ rest)) ≡ inner = take-front inner (34 ∷ rest) v inner-length in
+      let k : take v (inner ++ (code "\"" ∷ rest)) ≡ inner = take-front inner (code "\"" ∷ rest) v inner-length in
       rw (inner-at, k, q .inner) (unfold inner in cased-twice b (q .text))
 
   name-moved : named s at v ≡ true → named line (length pre) v ≡ true
@@ -197,51 +201,51 @@ module _ (b : Bool) (s : List ℕ) (at v e : ℕ) (h : textAt s at ≡ Is v e) (
       let r : runAt Named s (at + 1) ≡ v = eqb-true (runAt Named s (at + 1)) v k in
       let t : T (allIn Named (q .text)) = rw (← q .inner) (rw r at (run-in Named (drop (at + 1) s))) in
       let a : T (allIn Named inner) = rw inner-is (cased-named b (q .text) t) in
-      let n : runAt Named line (length pre + 1) ≡ v = rw inner-at (run-all Named inner (34 ∷ rest) a quote-unnamed ∙ inner-length) in
+      let n : runAt Named line (length pre + 1) ≡ v = rw inner-at (run-all Named inner (code "\"" ∷ rest) a quote-unnamed ∙ inner-length) in
       eq-eqb (runAt Named line (length pre + 1)) v n
 
   star-moved : starred s at v ≡ true → starred line (length pre) v ≡ true
   star-moved k = go (eqb v 1) refl k
     where
-      go : (a : Bool) → eqb v 1 ≡ a → (a && eqb (getD s (at + 1) 0) 42) ≡ true → (a && eqb (getD line (length pre + 1) 0) 42) ≡ true
+      go : (a : Bool) → eqb v 1 ≡ a → (a && eqb (getD s (at + 1) 0) (code "*")) ≡ true → (a && eqb (getD line (length pre + 1) 0) (code "*")) ≡ true
       go true p r =
           let q = text-fits s at v e h in
           let one : v ≡ 1 = eqb-true v 1 p in
-          let z : getD s (at + 1) 0 ≡ 42 = eqb-true (getD s (at + 1) 0) 42 r in
-          let y : q .text ≡ 42 ∷ [] = sym (q .inner) ∙ star-kept s (at + 1) v one z in
-          let x : inner ≡ 42 ∷ [] = inner-is ∙ rw y (star-cased b) in
-          let g : getD line (length pre + 1) 0 ≡ 42 =
-          (let d = getD-append-add pre (34 ∷ (inner ++ (34 ∷ rest))) 1 0 in rw line-is (d ∙ rw x)) in
-          eq-eqb (getD line (length pre + 1) 0) 42 g
+          let z : getD s (at + 1) 0 ≡ code "*" = eqb-true (getD s (at + 1) 0) (code "*") r in
+          let y : q .text ≡ code "*" ∷ [] = sym (q .inner) ∙ star-kept s (at + 1) v one z in
+          let x : inner ≡ code "*" ∷ [] = inner-is ∙ rw y (star-cased b) in
+          let g : getD line (length pre + 1) 0 ≡ code "*" =
+          (let d = getD-append-add pre (code "\"" ∷ (inner ++ (code "\"" ∷ rest))) 1 0 in rw line-is (d ∙ rw x)) in
+          eq-eqb (getD line (length pre + 1) 0) (code "*") g
       go false p r = r
 
 -- ---- a bar type
 pub data TypeFits (s : List ℕ) (at : ℕ) : ℕ → Type 0 where
-  one : kept s at 1 ≡ 49 ∷ [] → TypeFits s at 1
-  two : kept s at 1 ≡ 50 ∷ [] → TypeFits s at 2
-  three : kept s at 1 ≡ 51 ∷ [] → TypeFits s at 3
-  ean : kept s at 3 ≡ 69 ∷ (51 ∷ (48 ∷ [])) → TypeFits s at 30
+  one : kept s at 1 ≡ code "1" ∷ [] → TypeFits s at 1
+  two : kept s at 1 ≡ code "2" ∷ [] → TypeFits s at 2
+  three : kept s at 1 ≡ code "3" ∷ [] → TypeFits s at 3
+  ean : kept s at 3 ≡ code "E" ∷ (code "3" ∷ (code "0" ∷ [])) → TypeFits s at 30
 
 kept-one : (s : List ℕ) (p b : ℕ) → 0 < b → getD s p 0 ≡ b → kept s p 1 ≡ b ∷ []
 kept-one s p b k z = let l : p < length s = inside s p (omega arith) in rw (drop-cons s p 0 l, z)
 
-kept-three : (s : List ℕ) (p : ℕ) → getD s p 0 ≡ 69 → getD s (p + 1) 0 ≡ 51 → getD s (p + 2) 0 ≡ 48 → kept s p 3 ≡ 69 ∷ (51 ∷ (48 ∷ []))
+kept-three : (s : List ℕ) (p : ℕ) → getD s p 0 ≡ code "E" → getD s (p + 1) 0 ≡ code "3" → getD s (p + 2) 0 ≡ code "0" → kept s p 3 ≡ code "E" ∷ (code "3" ∷ (code "0" ∷ []))
 kept-three s p a b c =
     let i : p < length s = inside s p (omega arith) in
     let j : p + 1 < length s = inside s (p + 1) (omega arith) in
     let k : p + 2 < length s = inside s (p + 2) (omega arith) in
-    let x : drop p s ≡ 69 ∷ drop (suc p) s = drop-cons s p 0 i ∙ rw a in
-    let y : drop (suc p) s ≡ 51 ∷ drop (suc (suc p)) s =
+    let x : drop p s ≡ code "E" ∷ drop (suc p) s = drop-cons s p 0 i ∙ rw a in
+    let y : drop (suc p) s ≡ code "3" ∷ drop (suc (suc p)) s =
     (let q : p + 1 ≡ suc p = omega arith in let b′ = rw q at b in drop-cons s (suc p) 0 (omega arith) ∙ rw b′) in
-    let z : drop (suc (suc p)) s ≡ 48 ∷ drop (suc (suc (suc p))) s =
+    let z : drop (suc (suc p)) s ≡ code "0" ∷ drop (suc (suc (suc p))) s =
     (let q : p + 2 ≡ suc (suc p) = omega arith in let c′ = rw q at c in drop-cons s (suc (suc p)) 0 (omega arith) ∙ rw c′) in
     rw (x, y, z)
 
 pub type-fits : (s : List ℕ) (at v e : ℕ) → typeAt s at ≡ Is v e → TypeFits s at v
 unfolding typeAt
 type-fits s at v e h =
-    go (eqb (getD s at 0) 49) (eqb (getD s at 0) 50) (eqb (getD s at 0) 51) (eqb (getD s at 0) 69) (eqb (getD s (at + 1) 0) 51)
-    (eqb (getD s (at + 2) 0) 48)
+    go (eqb (getD s at 0) (code "1")) (eqb (getD s at 0) (code "2")) (eqb (getD s at 0) (code "3")) (eqb (getD s at 0) (code "E")) (eqb (getD s (at + 1) 0) (code "3"))
+    (eqb (getD s (at + 2) 0) (code "0"))
     refl
     refl
     refl
@@ -250,38 +254,38 @@ type-fits s at v e h =
     refl
     h
   where
-    go : (a b c d f g : Bool) → eqb (getD s at 0) 49 ≡ a → eqb (getD s at 0) 50 ≡ b → eqb (getD s at 0) 51 ≡ c → eqb (getD s at 0) 69 ≡ d
-        → eqb (getD s (at + 1) 0) 51 ≡ f
-        → eqb (getD s (at + 2) 0) 48 ≡ g
+    go : (a b c d f g : Bool) → eqb (getD s at 0) (code "1") ≡ a → eqb (getD s at 0) (code "2") ≡ b → eqb (getD s at 0) (code "3") ≡ c → eqb (getD s at 0) (code "E") ≡ d
+        → eqb (getD s (at + 1) 0) (code "3") ≡ f
+        → eqb (getD s (at + 2) 0) (code "0") ≡ g
         → cond a (Is 1 (at + 1)) (cond b (Is 2 (at + 1)) (cond c (Is 3 (at + 1)) (cond (d && (f && g)) (Is 30 (at + 3)) (Not at)))) ≡ Is v e
         → TypeFits s at v
-    go true b c d f g p q r t u w k = let x : 1 ≡ v = cc in rw (← x) (one (kept-one s at 49 (omega arith) (eqb-true (getD s at 0) 49 p)))
-    go false true c d f g p q r t u w k = let x : 2 ≡ v = cc in rw (← x) (two (kept-one s at 50 (omega arith) (eqb-true (getD s at 0) 50 q)))
-    go false false true d f g p q r t u w k = let x : 3 ≡ v = cc in rw (← x) (three (kept-one s at 51 (omega arith) (eqb-true (getD s at 0) 51 r)))
+    go true b c d f g p q r t u w k = let x : 1 ≡ v = cc in rw (← x) (one (kept-one s at (code "1") (omega arith) (eqb-true (getD s at 0) (code "1") p)))
+    go false true c d f g p q r t u w k = let x : 2 ≡ v = cc in rw (← x) (two (kept-one s at (code "2") (omega arith) (eqb-true (getD s at 0) (code "2") q)))
+    go false false true d f g p q r t u w k = let x : 3 ≡ v = cc in rw (← x) (three (kept-one s at (code "3") (omega arith) (eqb-true (getD s at 0) (code "3") r)))
     go false false false true true true p q r t u w k =
         let x : 30 ≡ v = cc in
         rw (← x)
-        (ean (kept-three s at (eqb-true (getD s at 0) 69 t) (eqb-true (getD s (at + 1) 0) 51 u) (eqb-true (getD s (at + 2) 0) 48 w)))
+        (ean (kept-three s at (eqb-true (getD s at 0) (code "E") t) (eqb-true (getD s (at + 1) 0) (code "3") u) (eqb-true (getD s (at + 2) 0) (code "0") w)))
     go false false false true true false p q r t u w k = absurd (let z : _≡_ {A = ℕ} 0 1 = cc in omega arith)
     go false false false true false g p q r t u w k = absurd (let z : _≡_ {A = ℕ} 0 1 = cc in omega arith)
     go false false false false f g p q r t u w k = absurd (let z : _≡_ {A = ℕ} 0 1 = cc in omega arith)
 
 data TypeOne : ℕ → ℕ → Type 0 where
-  is-one : TypeOne 49 1
-  is-two : TypeOne 50 2
-  is-three : TypeOne 51 3
+  is-one : TypeOne (code "1") 1
+  is-two : TypeOne (code "2") 2
+  is-three : TypeOne (code "3") 3
 
 type-one : (pre rest : List ℕ) (b v : ℕ) → TypeOne b v → typeAt (pre ++ (b ∷ rest)) (length pre) ≡ Is v (length pre + 1)
 unfolding typeAt
-type-one pre rest b v is-one = rw (getD-append-seam pre 49 rest 0)
-type-one pre rest b v is-two = rw (getD-append-seam pre 50 rest 0)
-type-one pre rest b v is-three = rw (getD-append-seam pre 51 rest 0)
+type-one pre rest b v is-one = rw (getD-append-seam pre (code "1") rest 0)
+type-one pre rest b v is-two = rw (getD-append-seam pre (code "2") rest 0)
+type-one pre rest b v is-three = rw (getD-append-seam pre (code "3") rest 0)
 
-type-ean : (pre rest : List ℕ) → typeAt (pre ++ (69 ∷ (51 ∷ (48 ∷ rest)))) (length pre) ≡ Is 30 (length pre + 3)
+type-ean : (pre rest : List ℕ) → typeAt (pre ++ (code "E" ∷ (code "3" ∷ (code "0" ∷ rest)))) (length pre) ≡ Is 30 (length pre + 3)
 unfolding typeAt
 type-ean pre rest =
-    let w : List ℕ = 69 ∷ (51 ∷ (48 ∷ rest)) in
-    rw (getD-append-seam pre 69 (51 ∷ (48 ∷ rest)) 0, getD-append-add pre w 1 0, getD-append-add pre w 2 0)
+    let w : List ℕ = code "E" ∷ (code "3" ∷ (code "0" ∷ rest)) in
+    rw (getD-append-seam pre (code "E") (code "3" ∷ (code "0" ∷ rest)) 0, getD-append-add pre w 1 0, getD-append-add pre w 2 0)
 
 or-move : (a b c d : Bool) → (a ≡ true → c ≡ true) → (b ≡ true → d ≡ true) → (a || b) ≡ true → (c || d) ≡ true
 or-move true b c d f g h = rw (f refl)
@@ -293,34 +297,34 @@ or-move false true c d f g h = go c (g refl)
 or-move false false c d f g h = absurd (let z : _≡_ {A = ℕ} 0 1 = cc in omega arith)
 
 type-moved : (s : List ℕ) (at v : ℕ) (pre rest : List ℕ) → TypeFits s at v
-    → Moved 107 s v at (pre ++ (writtenField 107 s v at ++ rest)) (length pre)
+    → Moved (code "k") s v at (pre ++ (writtenField (code "k") s v at ++ rest)) (length pre)
 unfolding fieldAt writtenField fieldLimits held
 type-moved s at v pre rest (one k) =
-    let x : cased false (kept s at 1) ≡ 49 ∷ [] = cased-kept (kept s at 1) ∙ k in
+    let x : cased false (kept s at 1) ≡ code "1" ∷ [] = cased-kept (kept s at 1) ∙ k in
     record {
-      read = rw x (type-one pre rest 49 1 is-one);
-      again = rw x (cased-kept (kept (pre ++ (49 ∷ rest)) (length pre) 1) ∙ kept-back pre (49 ∷ []) rest);
+      read = rw x (type-one pre rest (code "1") 1 is-one);
+      again = rw x (cased-kept (kept (pre ++ (code "1" ∷ rest)) (length pre) 1) ∙ kept-back pre (code "1" ∷ []) rest);
       limit = λ l u k. refl;
       content = refl;
     }
 type-moved s at v pre rest (two k) =
-    let x : cased false (kept s at 1) ≡ 50 ∷ [] = cased-kept (kept s at 1) ∙ k in
+    let x : cased false (kept s at 1) ≡ code "2" ∷ [] = cased-kept (kept s at 1) ∙ k in
     record {
-      read = rw x (type-one pre rest 50 2 is-two);
-      again = rw x (cased-kept (kept (pre ++ (50 ∷ rest)) (length pre) 1) ∙ kept-back pre (50 ∷ []) rest);
+      read = rw x (type-one pre rest (code "2") 2 is-two);
+      again = rw x (cased-kept (kept (pre ++ (code "2" ∷ rest)) (length pre) 1) ∙ kept-back pre (code "2" ∷ []) rest);
       limit = λ l u k. refl;
       content = refl;
     }
 type-moved s at v pre rest (three k) =
-    let x : cased false (kept s at 1) ≡ 51 ∷ [] = cased-kept (kept s at 1) ∙ k in
+    let x : cased false (kept s at 1) ≡ code "3" ∷ [] = cased-kept (kept s at 1) ∙ k in
     record {
-      read = rw x (type-one pre rest 51 3 is-three);
-      again = rw x (cased-kept (kept (pre ++ (51 ∷ rest)) (length pre) 1) ∙ kept-back pre (51 ∷ []) rest);
+      read = rw x (type-one pre rest (code "3") 3 is-three);
+      again = rw x (cased-kept (kept (pre ++ (code "3" ∷ rest)) (length pre) 1) ∙ kept-back pre (code "3" ∷ []) rest);
       limit = λ l u k. refl;
       content = refl;
     }
 type-moved s at v pre rest (ean k) =
-    let w : List ℕ = 69 ∷ (51 ∷ (48 ∷ [])) in
+    let w : List ℕ = code "E" ∷ (code "3" ∷ (code "0" ∷ [])) in
     let x : cased false (kept s at 3) ≡ w = cased-kept (kept s at 3) ∙ k in
     record {
       read = rw x (type-ean pre rest);

@@ -1,7 +1,7 @@
 pub mod Writes
-pub mod Own
 pub mod Back
 pub mod Data
 pub mod Fields
+pub mod Starts
 pub mod Round
 pub mod Short

@@ -1,112 +1,72 @@
 -- Reading the normal form of a line gives the same command with the same contents, and its normal form is itself.
 use mathlib.Core.Path.{_≡_, _∙_, refl, sym, ap}
-use mathlib.Core.Bool.{Bool, true, false, cond, _&&_, _||_, true≢false, false≢true, and-false}
+use mathlib.Core.Bool.{Bool, true, false, cond, _&&_, _||_, not, true≢false, false≢true}
 use mathlib.Core.List.{List, [], _∷_, _++_, append-assoc}
-use Prim.Native.Nat.{ℕ, zero, suc, _+_, _-_, _≤_, _<_}
+use Prim.Native.Nat.{ℕ, zero, suc, _+_, _<_}
+use Prim.Native.Char.{code}
 use native.Mathlib.Nat.{zero-add}
 use native.Mathlib.Omega.{arith}
-use native.Mathlib.Decide.{ℕ-discrete, decLt}
 use lib.Dec.{T, eqb}
 use lib.ListN.{length, getD, drop, length-append}
-use borrow.Author.Tests.{eq-eqb, ne-eqb, eqb-true, lt-leb}
+use borrow.Author.Tests.{eq-eqb, ne-eqb, eqb-true}
 use Rattle.kinds.specs.Bytes.{between}
-use Rattle.fields.specs.declared.Class.the-variants.{Digit}
-use Rattle.fields.specs.declared.Field.the-variants.{Is}
-use Rattle.fields.specs.declared.Limits.{Limits}
-use Rattle.fields.specs.declared.Limits.the-variants.{Within, Outside}
-use Rattle.fields.specs.Bytes.{inClass}
-use Rattle.fields.specs.Field.{numberAt, kindFrom}
-use Rattle.fields.proofs.Laws.{and-T}
-use Rattle.read.specs.Grammar.{
-  Form,
-  forms,
-  none,
-  rowOf,
-  boundsOf,
-  headOf,
-  headBy,
-  find,
-  fieldAt,
-  fieldsFrom,
-  Got,
-  good,
-  bad,
-  free,
-  isNumber,
-  fieldLimits,
-  firstOf,
-  limitsFrom,
-  spread,
-}
-use Rattle.read.specs.Commands.{
-  readOf,
-  headed as headRead,
-  judged,
-  decided,
-  commandOf,
-  itemOf,
-  pageOf,
-  formOf,
-  pictureOf,
-  valueOf,
-  listingOf,
-  orderOf,
-  isItem,
-  isForm,
-  isPicture,
-  isValue,
-  isListing,
-  namedAt,
-  sideOf,
-  inkOf,
-  isMinus,
-  stepOf,
-}
-use Rattle.read.specs.declared.Item.{Item}
-use Rattle.read.specs.declared.Item.the-variants.{Origin, Variable, Counter, Text, Bars, Box, Frame, Picture}
-use Rattle.read.specs.declared.Command.the-variants.{Item as item, End, Page, Forms, Pictures, Values, Listing}
+use Rattle.classes.specs.Bytes.{inClass}
+use Rattle.classes.specs.declared.Class.the-variants.{Digit}
+use Rattle.classes.proofs.Laws.{and-T}
+use Rattle.data_field.specs.declared.Limits.{Limits}
+use Rattle.data_field.specs.declared.Limits.the-variants.{Within, Outside}
+use Rattle.grammar.specs.Forms.{Form, forms, none, rowOf, boundsOf, free, isNumber, spread, inOrder, commandOf}
+use Rattle.heads.specs.Heads.{headOf, headBy, find}
+use Rattle.row_fields.specs.Reading.{fieldsFrom, Got, good, bad}
+use Rattle.row_limits.specs.Limits.{fieldLimits, firstOf, limitsFrom}
+use Rattle.read.specs.Commands.{readOf, headed as headRead, judged, decided}
+use Rattle.grammar.specs.declared.Item.{Item}
+use Rattle.grammar.specs.declared.Command.{Command}
+use Rattle.grammar.specs.declared.Command.the-variants.{Item as item, End, Page, Forms, Pictures, Values, Listing}
 use Rattle.read.specs.declared.Read.the-variants.{Taken}
-use Rattle.grammar.specs.declared.Head.{Head}
-use Rattle.grammar.specs.declared.Head.the-variants.{Row, Unknown}
-use Rattle.read.proofs.Rows.{Split, fields-split}
-use Rattle.normal.specs.Written.{decimal, writtenField, writtenFrom, writtenOf, headWritten, normal, isItem as isItemCommand}
+use Rattle.heads.specs.declared.Head.{Head}
+use Rattle.heads.specs.declared.Head.the-variants.{Row, Unknown}
+use Rattle.grammar.proofs.Rows.{_&_, Each, each-row}
+use Rattle.row_fields.proofs.Rows.{Split, fields-split}
+use Rattle.normal.specs.Written.{writtenField, writtenFrom, writtenOf, headWritten, normal}
 use Rattle.normal.specs.Contents.{unplaced, heldBy, contentsOf, headContents, contents}
 use Rattle.normal.specs.Promise.{Normal}
-use Rattle.normal.proofs.Back.{allIn, T-true, number-fits, digits-class, digits-count}
+use Rattle.normal.proofs.Back.{T-true}
 use Rattle.normal.proofs.Fields.{Letter, letter-of, a-number, a-wide, a-step, a-prompt, a-text, a-name, a-star, a-mode, a-side, a-type, some-data, itself, After, Moved, field-moved, Plain, plain-written}
+use Rattle.normal.proofs.Starts.{starts, every, every-among, written-split, start-of}
 
 -- ---- forms in which each field can be told from what follows
 
--- a number is followed by a comma or by nothing, data by nothing
-abbrev commaOrEnd : List ℕ → Bool
-commaOrEnd [] = true
-commaOrEnd (f ∷ fs) = eqb f 44
+-- whether a byte may stand behind the field of the letter f: a number ends where no digit follows
+abbrev follows : ℕ → ℕ → Bool
+follows f x = cond (eqb f (code "n") || (eqb f (code "w") || eqb f (code "s"))) (not (inClass Digit x)) true
 
+-- data goes to the end of the line
 abbrev isEnd : List ℕ → Bool
 isEnd [] = true
 isEnd (f ∷ fs) = false
 
+abbrev ends : ℕ → List ℕ → Bool
+ends f fs = cond (eqb f (code "d")) (isEnd fs) true
+
 unfoldable sound : List ℕ → Bool
 sound [] = true
-sound (f ∷ fs) =
-    cond (eqb f 110 || (eqb f 119 || eqb f 115)) (commaOrEnd fs) true && (cond (eqb f 100) (isEnd fs) true && sound fs)
+sound (f ∷ fs) = every (follows f) (starts fs) && (ends f fs && sound fs)
 
-comma-after : (fs s vs ps : List ℕ) → T (commaOrEnd fs) → inClass Digit (getD (writtenFrom fs s vs ps) 0 0) ≡ false
-unfolding writtenFrom writtenField between
-comma-after [] s vs ps h = refl
-comma-after (f ∷ fs) s vs ps h = let e : f ≡ 44 = eqb-true f 44 (T-true (eqb f 44) h) in rw e
+not-T : (b : Bool) → T (not b) → b ≡ false
+not-T true h = absurd h
+not-T false h = refl
 
 end-after : (fs s vs ps : List ℕ) → T (isEnd fs) → writtenFrom fs s vs ps ≡ []
 unfolding writtenFrom
 end-after [] s vs ps h = refl
 end-after (f ∷ fs) s vs ps h = absurd h
 
-after-of : {f : ℕ} (x : Letter f) (fs s vs ps : List ℕ)
-    → T (cond (eqb f 110 || (eqb f 119 || eqb f 115)) (commaOrEnd fs) true) → T (cond (eqb f 100) (isEnd fs) true)
+after-of : {f : ℕ} (x : Letter f) (fs s vs ps : List ℕ) → T (follows f (getD (writtenFrom fs s vs ps) 0 0)) → T (ends f fs)
     → After x (writtenFrom fs s vs ps)
-after-of a-number fs s vs ps h k = comma-after fs s vs ps h
-after-of a-wide fs s vs ps h k = comma-after fs s vs ps h
-after-of a-step fs s vs ps h k = comma-after fs s vs ps h
+after-of a-number fs s vs ps h k = not-T (inClass Digit (getD (writtenFrom fs s vs ps) 0 0)) h
+after-of a-wide fs s vs ps h k = not-T (inClass Digit (getD (writtenFrom fs s vs ps) 0 0)) h
+after-of a-step fs s vs ps h k = not-T (inClass Digit (getD (writtenFrom fs s vs ps) 0 0)) h
 after-of a-prompt fs s vs ps h k = tt
 after-of a-text fs s vs ps h k = tt
 after-of a-name fs s vs ps h k = tt
@@ -179,11 +139,12 @@ unfolding writtenFrom
 fields-kept [] s at vs ps pre h k = kept-end s at vs ps pre k
 fields-kept (f ∷ fs) s at vs ps pre h k =
     let x = fields-split f fs s at vs ps k in
-    let o = and-T (cond (eqb f 110 || (eqb f 119 || eqb f 115)) (commaOrEnd fs) true) (cond (eqb f 100) (isEnd fs) true && sound fs) (unfold sound in h) in
-    let o′ = and-T (cond (eqb f 100) (isEnd fs) true) (sound fs) (o .1) in
+    let o = and-T (every (follows f) (starts fs)) (ends f fs && sound fs) (unfold sound in h) in
+    let o′ = and-T (ends f fs) (sound fs) (o .1) in
     let w : List ℕ = writtenField f s (x .v) at in
     let rest : List ℕ = writtenFrom fs s (x .vs) (x .ps) in
-    let m = field-moved (letter-of f) s at (x .v) (x .e) pre rest (x .first) (after-of (letter-of f) fs s (x .vs) (x .ps) (o .0) (o′ .0)) in
+    let g = every-among (follows f) (getD rest 0 0) (starts fs) (o .0) (start-of fs s (x .e) (x .vs) (x .ps) (x .others)) in
+    let m = field-moved (letter-of f) s at (x .v) (x .e) pre rest (x .first) (after-of (letter-of f) fs s (x .vs) (x .ps) g (o′ .0)) in
     let r = fields-kept fs s (x .e) (x .vs) (x .ps) (pre ++ w) (o′ .1) (x .others) in
     let r′ : Kept fs s (x .vs) (x .ps) (pre ++ (w ++ rest)) (length pre + length w) = rw (append-assoc pre w rest, length-append pre w) at r in
     kept-same (f ∷ fs) s (x .v ∷ x .vs) (at ∷ x .ps) vs ps pre (x .values) (x .places) (kept-cons f fs s at (x .v) (x .vs) (x .ps) pre m r′)
@@ -207,31 +168,32 @@ soundRow : ℕ → List ℕ → Bool
 soundRow row fs = sound fs
 
 row-sound : (row : ℕ) → T (sound (rowOf row .fields))
-unfolding soundRow sound
+unfolding soundRow sound starts between
 row-sound row = every-row soundRow forms 0 tt (λ k. tt) row
 
 abbrev isRow : Head → ℕ → Bool
 isRow (Row k) row = eqb k row
 isRow Unknown row = false
 
--- the second byte of a written line: a letter, the first digit of a number, or nothing; the third may be any
-abbrev digitsNamed : ℕ → ℕ → ℕ → ℕ → ℕ → Bool
-digitsNamed c row a b zero = true
-digitsNamed c row a b (suc n) = isRow (headBy a b c) row && digitsNamed c row a (suc b) n
-
 abbrev isCapital : ℕ → Bool
-isCapital b = between 65 90 b
+isCapital b = between (code "A") (code "Z") b
 
 abbrev isHead : ℕ → Bool
-isHead a = isCapital a || (eqb a 63 || eqb a 113)
+isHead a = isCapital a || (eqb a (code "?") || eqb a (code "q"))
+
+-- the first byte of a written line is a letter. The second is a letter too, and then the third is one that the next field starts with; or it is one
+-- that the next field starts with, and the third may be any
+abbrev behind : ℕ → ℕ → ℕ → List ℕ → Bool
+behind c row a [] = isRow (headBy a 0 c) row
+behind c row a (b ∷ fs) =
+    cond (isCapital b) (every (λ x. isRow (headBy a b x) row) (starts fs)) (every (λ x. isRow (headBy a x c) row) (starts (b ∷ fs)))
 
 abbrev headed : ℕ → ℕ → List ℕ → Bool
 headed c row [] = true
-headed c row (a ∷ []) = isHead a && isRow (headBy a 0 c) row
-headed c row (a ∷ (b ∷ fs)) = isHead a && cond (eqb b 110) (digitsNamed c row a 48 10) (isCapital b && isRow (headBy a b c) row)
+headed c row (a ∷ fs) = isHead a && behind c row a fs
 
 row-headed : (c row : ℕ) → T (headed c row (rowOf row .fields))
-unfolding headBy find between
+unfolding headBy find between starts
 row-headed c row = let q = zero-add row in rw q at (every-row (headed c) forms 0 tt (λ k. tt) row)
 
 head-plain : {a : ℕ} → Letter a → T (isHead a) → Plain a
@@ -252,7 +214,7 @@ head-plain (itself p) h = p
 capital-head : (a : ℕ) → T (isCapital a) → T (isHead a)
 capital-head a h = go (isCapital a) h
   where
-    go : (t : Bool) → T t → T (t || (eqb a 63 || eqb a 113))
+    go : (t : Bool) → T t → T (t || (eqb a (code "?") || eqb a (code "q")))
     go true k = tt
     go false k = absurd k
 
@@ -260,93 +222,52 @@ row-is : (h : Head) (row : ℕ) → T (isRow h row) → h ≡ Row row
 row-is (Row k) row t = ap Row (eqb-true k row (T-true (eqb k row) t))
 row-is Unknown row t = absurd t
 
-digit-named : (c row a n b x : ℕ) → T (digitsNamed c row a b n) → b ≤ x → x < b + n → headBy a x c ≡ Row row
-digit-named c row a zero b x h k l = absurd (omega arith)
-digit-named c row a (suc n) b x h k l =
-    go (decLt b x) (digit-named c row a n (suc b) x (and-T (isRow (headBy a b c) row) (digitsNamed c row a (suc b) n) h .1))
-  where
-    go : Dec (b < x) → (suc b ≤ x → x < suc b + n → headBy a x c ≡ Row row) → headBy a x c ≡ Row row
-    go (yes m) r = r (omega arith) (omega arith)
-    go (no m) r =
-        let e : b ≡ x = omega arith in
-        rw e at (row-is (headBy a b c) row (and-T (isRow (headBy a b c) row) (digitsNamed c row a (suc b) n) h .0))
+-- the second byte, and the third behind a second letter
+module _ (row a : ℕ) (s : List ℕ) where
+  second-letter : (b : ℕ) (fs : List ℕ) (at : ℕ) (vs ps : List ℕ) → fieldsFrom (b ∷ fs) s at ≡ good vs ps → T (isCapital b)
+      → T (every (λ x. isRow (headBy a b x) row) (starts fs))
+      → headBy a (getD (writtenFrom (b ∷ fs) s vs ps) 0 0) (getD (writtenFrom (b ∷ fs) s vs ps) 1 0) ≡ Row row
+  second-letter b fs at vs ps k i h =
+      let y = fields-split b fs s at vs ps k in
+      let p = head-plain (letter-of b) (capital-head b i) in
+      let z : ℕ = getD (writtenFrom fs s (y .vs) (y .ps)) 0 0 in
+      let t = every-among (λ x. isRow (headBy a b x) row) z (starts fs) h (start-of fs s (y .e) (y .vs) (y .ps) (y .others)) in
+      rw (written-split b fs s vs ps (y .v) at (y .vs) (y .ps) (y .values) (y .places), plain-written p s (y .v) at) (row-is (headBy a b z) row t)
 
--- the first byte of a number
-digit-bounds : (x : ℕ) → inClass Digit x ≡ true → (48 ≤ x) × (x < 48 + 10)
-unfolding between
-digit-bounds x h = go (decLt x 48) (decLt 57 x)
-  where
-    go : Dec (x < 48) → Dec (57 < x) → (48 ≤ x) × (x < 48 + 10)
-    go (yes a) b = absurd (false≢true (sym (simp (lt-leb 48 x a)) ∙ h))
-    go (no a) (yes b) = absurd (false≢true (sym (simp (lt-leb x 57 b, and-false)) ∙ h))
-    go (no a) (no b) = (omega arith, omega arith)
+  second-other : (c : ℕ) (fs : List ℕ) (at : ℕ) (vs ps : List ℕ) → fieldsFrom fs s at ≡ good vs ps
+      → T (every (λ x. isRow (headBy a x c) row) (starts fs))
+      → headBy a (getD (writtenFrom fs s vs ps) 0 0) c ≡ Row row
+  second-other c fs at vs ps k h =
+      let z : ℕ = getD (writtenFrom fs s vs ps) 0 0 in
+      row-is (headBy a z c) row (every-among (λ x. isRow (headBy a x c) row) z (starts fs) h (start-of fs s at vs ps k))
 
-front-digit : (l rest : List ℕ) → T (allIn Digit l) → 0 < length l → (48 ≤ getD (l ++ rest) 0 0) × (getD (l ++ rest) 0 0 < 48 + 10)
-unfolding allIn
-front-digit [] rest h k = absurd (omega arith)
-front-digit (x ∷ xs) rest h k = digit-bounds x (T-true (inClass Digit x) (and-T (inClass Digit x) (allIn Digit xs) h .0))
+  second-back : (fs : List ℕ) (at : ℕ) (vs ps : List ℕ) → T (behind (getD (writtenFrom fs s vs ps) 1 0) row a fs) → fieldsFrom fs s at ≡ good vs ps
+      → headBy a (getD (writtenFrom fs s vs ps) 0 0) (getD (writtenFrom fs s vs ps) 1 0) ≡ Row row
+  second-back [] at vs ps h k = unfold writtenFrom in row-is (headBy a 0 0) row h
+  second-back (b ∷ fs) at vs ps h k = go (isCapital b) refl h
+    where
+      go : (t : Bool) → isCapital b ≡ t
+          → T (cond t (every (λ x. isRow (headBy a b x) row) (starts fs)) (every (λ x. isRow (headBy a x (getD (writtenFrom (b ∷ fs) s vs ps) 1 0)) row) (starts (b ∷ fs))))
+          → headBy a (getD (writtenFrom (b ∷ fs) s vs ps) 0 0) (getD (writtenFrom (b ∷ fs) s vs ps) 1 0) ≡ Row row
+      go true e q = second-letter b fs at vs ps k (rw e tt) q
+      go false e q = second-other (getD (writtenFrom (b ∷ fs) s vs ps) 1 0) (b ∷ fs) at vs ps k q
 
-decimal-front : (v : ℕ) (rest : List ℕ) → v < 1000000000 → (48 ≤ getD (decimal v ++ rest) 0 0) × (getD (decimal v ++ rest) 0 0 < 48 + 10)
-decimal-front v rest h =
-    front-digit (decimal v) rest (digits-class 19 v [] (omega arith) (unfold allIn in tt)) (digits-count 19 8 v [] h .0)
-
--- the second byte, after a letter of the first
-second-digit : (c row a b : ℕ) (fs s : List ℕ) (at : ℕ) (vs ps : List ℕ) → Split b fs s at vs ps → b ≡ 110 → T (digitsNamed c row a 48 10)
-    → headBy a (getD (writtenFrom (b ∷ fs) s vs ps) 0 0) c ≡ Row row
-unfolding writtenFrom writtenField fieldAt
-second-digit c row a b fs s at vs ps x e h =
-    let f : numberAt s at ≡ Is (x .v) (x .e) = rw e at (x .first) in
-    let d = decimal-front (x .v) (writtenFrom fs s (x .vs) (drop 1 ps)) (number-fits s at (x .v) (x .e) f) in
-    rw (e, x .values) (digit-named c row a 10 48 (getD (decimal (x .v) ++ writtenFrom fs s (x .vs) (drop 1 ps)) 0 0) h (d .0) (d .1))
-
-second-letter : (c row a b : ℕ) (fs s vs ps : List ℕ) → T (isCapital b && isRow (headBy a b c) row)
-    → headBy a (getD (writtenFrom (b ∷ fs) s vs ps) 0 0) c ≡ Row row
-unfolding writtenFrom
-second-letter c row a b fs s vs ps h =
-    let o = and-T (isCapital b) (isRow (headBy a b c) row) h in
-    let p = head-plain (letter-of b) (capital-head b (o .0)) in
-    rw (plain-written p s (getD vs 0 0) (getD ps 0 0)) (row-is (headBy a b c) row (o .1))
-
-first-alone : (row a : ℕ) (s vs ps : List ℕ) → Plain a → headBy a 0 0 ≡ Row row → headOf (writtenFrom (a ∷ []) s vs ps) ≡ Row row
-unfolding writtenFrom headOf
-first-alone row a s vs ps p h = rw (plain-written p s (getD vs 0 0) (getD ps 0 0)) h
-
-first-then : (row a : ℕ) (fs s : List ℕ) (at : ℕ) (vs ps : List ℕ) (x : Split a fs s at vs ps) → Plain a
+head-split : (row a : ℕ) (fs s : List ℕ) (at : ℕ) (vs ps : List ℕ) (x : Split a fs s at vs ps) → Plain a
     → headBy a (getD (writtenFrom fs s (x .vs) (x .ps)) 0 0) (getD (writtenFrom fs s (x .vs) (x .ps)) 1 0) ≡ Row row
     → headOf (writtenFrom (a ∷ fs) s vs ps) ≡ Row row
-unfolding writtenFrom headOf
-first-then row a fs s at vs ps x p h =
-    rw (plain-written p s (getD vs 0 0) (getD ps 0 0))
-    (let e : writtenFrom fs s (drop 1 vs) (drop 1 ps) ≡ writtenFrom fs s (x .vs) (x .ps) =
-    ap (λ (l : List ℕ). writtenFrom fs s (drop 1 l) (drop 1 ps)) (x .values) ∙ ap (λ (l : List ℕ). writtenFrom fs s (x .vs) (drop 1 l)) (x .places) in
-    rw e h)
-
-second-back : (c row a b : ℕ) (fs s : List ℕ) (at : ℕ) (vs ps : List ℕ)
-    → T (cond (eqb b 110) (digitsNamed c row a 48 10) (isCapital b && isRow (headBy a b c) row)) → fieldsFrom (b ∷ fs) s at ≡ good vs ps
-    → headBy a (getD (writtenFrom (b ∷ fs) s vs ps) 0 0) c ≡ Row row
-second-back c row a b fs s at vs ps h k = go (ℕ-discrete b 110)
-  where
-    x : Split b fs s at vs ps
-    x = fields-split b fs s at vs ps k
-
-    go : Dec (b ≡ 110) → headBy a (getD (writtenFrom (b ∷ fs) s vs ps) 0 0) c ≡ Row row
-    go (yes e) = second-digit c row a b fs s at vs ps x e (rw (eq-eqb b 110 e) at h)
-    go (no n) = second-letter c row a b fs s vs ps (rw (ne-eqb b 110 n) at h)
+unfolding headOf
+head-split row a fs s at vs ps x p h =
+    rw (written-split a fs s vs ps (x .v) at (x .vs) (x .ps) (x .values) (x .places), plain-written p s (x .v) at) h
 
 head-back : (row : ℕ) (fs s vs ps : List ℕ) → ((c : ℕ) → T (headed c row fs)) → 0 < length fs → fieldsFrom fs s 0 ≡ good vs ps
     → headOf (writtenFrom fs s vs ps) ≡ Row row
 head-back row [] s vs ps h l k = absurd (omega arith)
-head-back row (a ∷ []) s vs ps h l k =
-    let o = and-T (isHead a) (isRow (headBy a 0 0) row) (h 0) in
+head-back row (a ∷ fs) s vs ps h l k =
+    let x = fields-split a fs s 0 vs ps k in
+    let c = getD (writtenFrom fs s (x .vs) (x .ps)) 1 0 in
+    let o = and-T (isHead a) (behind c row a fs) (h c) in
     let p = head-plain (letter-of a) (o .0) in
-    first-alone row a s vs ps p (row-is (headBy a 0 0) row (o .1))
-head-back row (a ∷ (b ∷ fs)) s vs ps h l k =
-    let x = fields-split a (b ∷ fs) s 0 vs ps k in
-    let c = getD (writtenFrom (b ∷ fs) s (x .vs) (x .ps)) 1 0 in
-    let o = and-T (isHead a) (cond (eqb b 110) (digitsNamed c row a 48 10) (isCapital b && isRow (headBy a b c) row)) (h c) in
-    let p = head-plain (letter-of a) (o .0) in
-    let r = second-back c row a b fs s (x .e) (x .vs) (x .ps) (o .1) (x .others) in
-    first-then row a (b ∷ fs) s 0 vs ps x p r
+    head-split row a fs s 0 vs ps x p (second-back row a s fs (x .e) (x .vs) (x .ps) (o .1) (x .others))
 
 -- ---- lines
 
@@ -389,90 +310,73 @@ row-some s row vs ps h k = go (rowOf row .fields) k
     go [] q = absurd (none-read s h q)
     go (f ∷ fs) q = omega arith
 
--- an item's row: what the other rows make is no item
-order-no-item : (row : ℕ) (s vs ps : List ℕ) (i : Item) → orderOf row s vs ps ≡ item i → ⊥
-unfolding orderOf
-order-no-item row s vs ps i h =
-    go (eqb row 13) (isValue row) (isForm row) (isPicture row) (isListing row) (sym (ap isItemCommand h))
-  where
-    go : (a b c d e : Bool)
-        → true ≡ isItemCommand
-        (cond a End
-        (cond b (Values (valueOf row vs ps))
-        (cond c (Forms (formOf row (namedAt s vs ps 2)))
-        (cond d (Pictures (pictureOf row (namedAt s vs ps 2) (getD vs 4 0)))
-        (cond e (Listing (listingOf row (namedAt s vs ps 2)))
-        (Page (pageOf row vs)))))))
-        → ⊥
-    go true b c d e k = true≢false k
-    go false true c d e k = true≢false k
-    go false false true d e k = true≢false k
-    go false false false true e k = true≢false k
-    go false false false false true k = true≢false k
-    go false false false false false k = true≢false k
+-- ---- what a row makes of other places
 
-item-row : (row : ℕ) (s vs ps : List ℕ) (i : Item) → commandOf row s vs ps ≡ item i → (isItem row ≡ true) × (itemOf row vs ps ≡ i)
-item-row row s vs ps i h = go (isItem row) h
-  where
-    go : (t : Bool) → cond t (item (itemOf row vs ps)) (orderOf row s vs ps) ≡ item i → (t ≡ true) × (itemOf row vs ps ≡ i)
-    go true k = (refl, cc)
-    go false k = absurd (order-no-item row s vs ps i k)
+-- a command without its places; what is no item does not count
+abbrev bare : Command → Command
+bare (item i) = item (unplaced i)
+bare End = End
+bare (Page c) = End
+bare (Forms c) = End
+bare (Pictures c) = End
+bare (Values c) = End
+bare (Listing c) = End
 
--- the numbers and letters of an item do not depend on places
-unplaced-same : (row : ℕ) (vs ps qs : List ℕ) → unplaced (itemOf row vs ps) ≡ unplaced (itemOf row vs qs)
-unfolding itemOf
-unplaced-same row vs ps qs = go (eqb row 2) (eqb row 8) (eqb row 9) (eqb row 10) (eqb row 11) (eqb row 22) (eqb row 23)
-  where
-    at-row : (a b c d e f g : Bool) → List ℕ → Item
-    at-row a b c d e f g p =
-        cond a (Origin (record { x = getD vs 1 0; y = getD vs 3 0 }))
-        (cond b (Frame (record { a = getD vs 1 0; b = getD vs 3 0; c = getD vs 5 0; d = getD vs 7 0; e = getD vs 9 0 }))
-        (cond c
-        (Text
-        (record {
-          x = getD vs 1 0;
-          y = getD vs 3 0;
-          r = getD vs 5 0;
-          h = getD vs 7 0;
-          v = getD vs 9 0;
-          reverse = eqb (getD vs 11 0) 82;
-          at = getD p 13 0;
-        }))
-        (cond d
-        (Bars
-        (record {
-          x = getD vs 1 0;
-          y = getD vs 3 0;
-          r = getD vs 5 0;
-          kind = kindFrom (getD vs 7 0);
-          e = getD vs 9 0;
-          f = getD vs 11 0;
-          g = getD vs 13 0;
-          at = getD p 17 0;
-        }))
-        (cond e (Picture (record { a = getD vs 2 0; b = getD vs 4 0; at = getD p 6 0; length = getD vs 6 0 }))
-        (cond f (Variable (record { n = getD vs 1 0; m = getD vs 3 0; j = sideOf (getD vs 5 0); at = getD p 7 0; length = getD vs 7 0 }))
-        (cond g
-        (Counter
-        (record {
-          n = getD vs 1 0;
-          w = getD vs 3 0;
-          minus = isMinus (getD vs 5 0);
-          step = stepOf (getD vs 5 0);
-          at = getD p 7 0;
-          length = getD vs 7 0;
-        }))
-        (Box (record { ink = inkOf row; a = getD vs 2 0; b = getD vs 4 0; c = getD vs 6 0; d = getD vs 8 0 }))))))))
+-- the numbers and letters of an item do not depend on its line and its places
+Steady : ℕ → Form → Type 0
+Steady k f = (s w : List ℕ) (v p q : ℕ → ℕ) → bare (f .makes s v p) ≡ bare (f .makes w v q)
 
-    go : (a b c d e f g : Bool) → unplaced (at-row a b c d e f g ps) ≡ unplaced (at-row a b c d e f g qs)
-    go true b c d e f g = refl
-    go false true c d e f g = refl
-    go false false true d e f g = refl
-    go false false false true e f g = refl
-    go false false false false true f g = refl
-    go false false false false false true g = refl
-    go false false false false false false true = refl
-    go false false false false false false false = refl
+every-steady : Each Steady forms
+unfolding Steady
+every-steady =
+    (λ s w v p q. refl)
+    & (λ s w v p q. refl)
+    & (λ s w v p q. refl)
+    & (λ s w v p q. refl)
+    & (λ s w v p q. refl)
+    & (λ s w v p q. refl)
+    & (λ s w v p q. refl)
+    & (λ s w v p q. refl)
+    & (λ s w v p q. refl)
+    & (λ s w v p q. refl)
+    & (λ s w v p q. refl)
+    & (λ s w v p q. refl)
+    & (λ s w v p q. refl)
+    & (λ s w v p q. refl)
+    & (λ s w v p q. refl)
+    & (λ s w v p q. refl)
+    & (λ s w v p q. refl)
+    & (λ s w v p q. refl)
+    & (λ s w v p q. refl)
+    & (λ s w v p q. refl)
+    & (λ s w v p q. refl)
+    & (λ s w v p q. refl)
+    & (λ s w v p q. refl)
+    & (λ s w v p q. refl)
+    & (λ s w v p q. refl)
+    & (λ s w v p q. refl)
+    & (λ s w v p q. refl)
+    & (λ s w v p q. refl)
+    & (λ k s w v p q. refl)
+
+-- an item that the same values make at other places
+record Again (row : ℕ) (w vs ps : List ℕ) (i : Item) : Type 0 where
+  back : Item
+  made : commandOf row w vs ps ≡ item back
+  same : unplaced back ≡ unplaced i
+
+made-again : (row : ℕ) (s w vs ps qs : List ℕ) (i : Item) → commandOf row s vs ps ≡ item i → Again row w vs qs i
+unfolding Steady
+made-again row s w vs ps qs i h = go (commandOf row w vs qs) refl (sym (each-row Steady every-steady row s w (λ k. getD (inOrder (rowOf row .fields) 0 vs) k 0) (λ k. getD (inOrder (rowOf row .fields) 0 ps) k 0) (λ k. getD (inOrder (rowOf row .fields) 0 qs) k 0)) ∙ ap bare h)
+  where
+    go : (c : Command) → commandOf row w vs qs ≡ c → bare c ≡ item (unplaced i) → Again row w vs qs i
+    go (item b) e k = record { back = b; made = e; same = cc }
+    go End e k = absurd (let z : _≡_ {A = ℕ} 0 1 = cc in omega arith)
+    go (Page c) e k = absurd (let z : _≡_ {A = ℕ} 0 1 = cc in omega arith)
+    go (Forms c) e k = absurd (let z : _≡_ {A = ℕ} 0 1 = cc in omega arith)
+    go (Pictures c) e k = absurd (let z : _≡_ {A = ℕ} 0 1 = cc in omega arith)
+    go (Values c) e k = absurd (let z : _≡_ {A = ℕ} 0 1 = cc in omega arith)
+    go (Listing c) e k = absurd (let z : _≡_ {A = ℕ} 0 1 = cc in omega arith)
 
 normal-row : (rows : ℕ) (s : List ℕ) (i : Item) (row : ℕ) (vs ps : List ℕ) → headOf s ≡ Row row
     → fieldsFrom (rowOf row .fields) s 0 ≡ good vs ps → limitsFrom (rowOf row .fields) (boundsOf row rows) s 0 vs ps ≡ Within
@@ -483,15 +387,15 @@ normal-row rows s i row vs ps h k l c =
     let m : Kept fs s vs ps w 0 = fields-kept fs s 0 vs ps [] (row-sound row) k in
     let b : headOf w ≡ Row row = head-back row fs s vs ps (λ c. row-headed c row) (row-some s row vs ps h k) k in
     let n : normal s ≡ w = normal-is s row vs ps h k in
-    let o = item-row row s vs ps i c in
-    let r : readOf rows w ≡ Taken (item (itemOf row vs (m .places))) =
-    read-is w row vs (m .places) b (m .read) rows ∙ rw (m .limit (boundsOf row rows) 0 l, o .0) in
+    let o = made-again row s w vs ps (m .places) i c in
+    let r : readOf rows w ≡ Taken (item (o .back)) =
+    read-is w row vs (m .places) b (m .read) rows ∙ rw (m .limit (boundsOf row rows) 0 l) (ap Taken (o .made)) in
     let d : contents w ≡ contents s = contents-is w row vs (m .places) b (m .read) ∙ m .content ∙ sym (contents-is s row vs ps h k) in
     let a : normal w ≡ w = normal-is w row vs (m .places) b (m .read) ∙ m .again in
     record {
-      back = itemOf row vs (m .places);
+      back = o .back;
       read = rw n r;
-      same = unplaced-same row vs (m .places) ps ∙ ap unplaced (o .1);
+      same = o .same;
       content = rw n d;
       again = rw n a;
     }
@@ -529,28 +433,50 @@ normal-line rows s i h =
     let p = item-parted rows s i h in
     normal-row rows s i (p .row) (p .vs) (p .ps) (p .head) (p .read) (p .within) (p .command)
 
--- no item asks for the rows of the page: of all forms the first alone does
-abbrev Steady : ℕ → ℕ → List Form → Type 0
-Steady r r′ [] = Unit {0}
-Steady r r′ (f ∷ fs) = (f .bounds r ≡ f .bounds r′) × Steady r r′ fs
+-- no item asks for the rows of the page
+Rowless : ℕ → Form → Type 0
+Rowless k f = (s : List ℕ) (v p : ℕ → ℕ) (i : Item) → f .makes s v p ≡ item i → (r r′ : ℕ) → f .bounds r ≡ f .bounds r′
 
-steady-at : (r r′ : ℕ) (fs : List Form) → Steady r r′ fs → (row : ℕ) → getD fs row none .bounds r ≡ getD fs row none .bounds r′
-steady-at r r′ [] h row = refl
-steady-at r r′ (f ∷ fs) h zero = h .0
-steady-at r r′ (f ∷ fs) h (suc row) = steady-at r r′ fs (h .1) row
+every-rowless : Each Rowless forms
+unfolding Rowless
+every-rowless =
+    (λ s v p i h r r′. absurd (let z : _≡_ {A = ℕ} 0 1 = cc in omega arith))
+    & (λ s v p i h r r′. refl)
+    & (λ s v p i h r r′. refl)
+    & (λ s v p i h r r′. refl)
+    & (λ s v p i h r r′. refl)
+    & (λ s v p i h r r′. refl)
+    & (λ s v p i h r r′. refl)
+    & (λ s v p i h r r′. refl)
+    & (λ s v p i h r r′. refl)
+    & (λ s v p i h r r′. refl)
+    & (λ s v p i h r r′. refl)
+    & (λ s v p i h r r′. refl)
+    & (λ s v p i h r r′. refl)
+    & (λ s v p i h r r′. refl)
+    & (λ s v p i h r r′. refl)
+    & (λ s v p i h r r′. refl)
+    & (λ s v p i h r r′. refl)
+    & (λ s v p i h r r′. refl)
+    & (λ s v p i h r r′. refl)
+    & (λ s v p i h r r′. refl)
+    & (λ s v p i h r r′. refl)
+    & (λ s v p i h r r′. refl)
+    & (λ s v p i h r r′. refl)
+    & (λ s v p i h r r′. refl)
+    & (λ s v p i h r r′. refl)
+    & (λ s v p i h r r′. refl)
+    & (λ s v p i h r r′. refl)
+    & (λ s v p i h r r′. refl)
+    & (λ k s v p i h r r′. refl)
 
-bounds-steady : (r r′ row : ℕ) → isItem row ≡ true → boundsOf row r ≡ boundsOf row r′
-bounds-steady r r′ zero h = absurd (false≢true (unfold between in h))
-bounds-steady r r′ (suc row) h =
-    ap (spread (rowOf (suc row) .fields))
-    (steady-at r r′ (drop 1 forms)
-    (refl, (refl, (refl, (refl, (refl, (refl, (refl, (refl, (refl, (refl, (refl, (refl, (refl, (refl, (refl, (refl, (refl, (refl, (refl, (refl, (refl, (refl, (refl, (refl, (refl, (refl, (refl, tt)))))))))))))))))))))))))))
-    row)
+bounds-steady : (r r′ row : ℕ) (s vs ps : List ℕ) (i : Item) → commandOf row s vs ps ≡ item i → boundsOf row r ≡ boundsOf row r′
+unfolding Rowless
+bounds-steady r r′ row s vs ps i h = ap (spread (rowOf row .fields)) (each-row Rowless every-rowless row s (λ k. getD (inOrder (rowOf row .fields) 0 vs) k 0) (λ k. getD (inOrder (rowOf row .fields) 0 ps) k 0) i h r r′)
 
 pub item-rows : (r r′ : ℕ) (s : List ℕ) (i : Item) → readOf r s ≡ Taken (item i) → readOf r′ s ≡ Taken (item i)
 item-rows r r′ s i h =
     let p = item-parted r s i h in
-    let o = item-row (p .row) s (p .vs) (p .ps) i (p .command) in
     let l : limitsFrom (rowOf (p .row) .fields) (boundsOf (p .row) r′) s 0 (p .vs) (p .ps) ≡ Within =
-    rw (bounds-steady r′ r (p .row) (o .0)) (p .within) in
+    rw (bounds-steady r′ r (p .row) s (p .vs) (p .ps) i (p .command)) (p .within) in
     read-is s (p .row) (p .vs) (p .ps) (p .head) (p .read) r′ ∙ rw l (ap Taken (p .command))

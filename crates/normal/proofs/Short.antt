@@ -4,39 +4,47 @@ use mathlib.Core.Path.{_≡_, _∙_, refl, sym}
 use mathlib.Core.Bool.{Bool, true, false, cond, _&&_, _||_, not}
 use mathlib.Core.List.{List, [], _∷_}
 use Prim.Native.Nat.{ℕ, zero, suc, _+_, _-_, _*_, _^_, _≤_, _<_}
-use native.Mathlib.Nat.{add-zero, zero-add, pow-suc}
+use Prim.Native.Char.{code}
+use native.Mathlib.Nat.{add-zero, pow-suc}
 use native.Mathlib.Omega.{arith}
-use native.Mathlib.Decide.{ℕ-discrete, decLt}
+use native.Mathlib.Decide.{decLt}
 use lib.Dec.{T, leb, ltb, eqb, lit<}
 use lib.ListN.{length, getD, drop, length-append, length-take}
-use borrow.Author.Tests.{lt-ltb, le-ltb, leb-true, eqb-true, ne-eqb}
+use borrow.Author.Tests.{lt-ltb, le-ltb, leb-true, eqb-true}
 use Rattle.kinds.specs.Bytes.{between}
-use Rattle.fields.specs.declared.Class.{Class}
-use Rattle.fields.specs.declared.Class.the-variants.{Digit, Mode, Side}
+use Rattle.classes.specs.declared.Class.{Class}
+use Rattle.classes.specs.declared.Class.the-variants.{Digit, Mode, Side}
 use Rattle.fields.specs.declared.Field.{Field}
 use Rattle.fields.specs.declared.Field.the-variants.{Is, Not}
-use Rattle.fields.specs.declared.Part.the-variants.{Whole}
-use Rattle.fields.specs.declared.Step.{Step}
-use Rattle.fields.specs.declared.Step.the-variants.{Next, Stop}
-use Rattle.fields.specs.declared.Modifier.{Modifier}
-use Rattle.fields.specs.declared.Modifier.the-variants.{Takes, Wrong}
-use Rattle.fields.specs.declared.Limits.{Limits}
-use Rattle.fields.specs.declared.Limits.the-variants.{Within, Outside}
-use Rattle.fields.specs.Bytes.{inClass, digitOf, valueFrom}
-use Rattle.fields.specs.Field.{part, runAt, numberAt, textAt, signedAt, plus, minus, letterAt, typeAt, byteAt, nought, Small}
-use Rattle.fields.specs.Data.{first, last, middle, middle-dot, middle-n, modifierAt, quotedFrom, modified, heldAt, elementAt, pointed, after, follow, elementsFrom, elements, total, stopped, dataAt}
-use Rattle.fields.proofs.Laws.{digit-small, value-fits, number-small, and-T}
-use Rattle.read.specs.Grammar.{forms, rowOf, boundsOf, spread, free, isNumber, fieldAt, fieldsFrom, good, bad, meets, fieldLimits, firstOf, limitsFrom}
+use Rattle.elements.specs.declared.Part.the-variants.{Whole}
+use Rattle.elements.specs.declared.Step.{Step}
+use Rattle.elements.specs.declared.Step.the-variants.{Next, Stop}
+use Rattle.elements.specs.declared.Modifier.{Modifier}
+use Rattle.elements.specs.declared.Modifier.the-variants.{Takes, Wrong}
+use Rattle.data_field.specs.declared.Limits.{Limits}
+use Rattle.data_field.specs.declared.Limits.the-variants.{Within, Outside}
+use Rattle.classes.specs.Bytes.{inClass, part, runAt}
+use Rattle.numbers.specs.Number.{digitOf, valueFrom, numberAt, signedAt, plus, minus, nought, Small}
+use Rattle.fields.specs.Field.{textAt, letterAt, typeAt, byteAt}
+use Rattle.elements.specs.Elements.{first, last, middle, middle-dot, middle-n, modifierAt, quotedFrom, modified, heldAt, elementAt, pointed, after, follow, elementsFrom, elements}
+use Rattle.data_field.specs.Data.{total, stopped, dataAt}
+use Rattle.numbers.proofs.Laws.{digit-small, value-fits, number-small}
+use Rattle.classes.proofs.Laws.{and-T}
+use Rattle.grammar.specs.Forms.{Form, forms, none, rowOf, boundsOf, spread, free, isNumber}
+use Rattle.reader.specs.Letters.{fieldAt}
+use Rattle.row_fields.specs.Reading.{fieldsFrom, good, bad}
+use Rattle.row_limits.specs.Limits.{meets, fieldLimits, firstOf, limitsFrom}
 use Rattle.read.specs.Commands.{readOf}
-use Rattle.read.specs.declared.Item.{Item}
-use Rattle.read.specs.declared.Command.the-variants.{Item as item}
+use Rattle.grammar.specs.declared.Item.{Item}
+use Rattle.grammar.specs.declared.Command.the-variants.{Item as item}
 use Rattle.read.specs.declared.Read.the-variants.{Taken}
-use Rattle.read.proofs.Rows.{fields-split}
-use Rattle.normal.specs.Written.{decimal, signed, kept, cased, partWritten, whatWritten, elementWritten, dataWritten, writtenField, writtenFrom, normal}
-use Rattle.normal.proofs.Writes.{digits-last}
+use Rattle.row_fields.proofs.Rows.{fields-split}
+use Rattle.writing.specs.Writing.{decimal, signed, kept, cased}
+use Rattle.normal.specs.Written.{partWritten, whatWritten, elementWritten, dataWritten, writtenField, writtenFrom, normal}
+use Rattle.writing.proofs.Writes.{digits-last}
 use Rattle.normal.proofs.Back.{T-true, digits-count, number-fits, signed-fits, text-fits, cased-length}
 use Rattle.normal.proofs.Fields.{Letter, letter-of, a-number, a-wide, a-step, a-prompt, a-text, a-name, a-star, a-mode, a-side, a-type, some-data, itself, plain-field, plain-written}
-use Rattle.normal.proofs.Round.{every-row, normal-is, item-parted}
+use Rattle.normal.proofs.Round.{normal-is, item-parted}
 
 -- ---- a number
 
@@ -93,7 +101,7 @@ module _ (at : ℕ) where
 
   middle-n-shorter : (p b : ℕ) (f : Field) → at + length (decimal p) + 2 ≤ b → Shorter b f → ModifierShorter at (middle-n p b f)
   unfolding partWritten
-  middle-n-shorter p b (Is n e) k h = let z = length-append (decimal p) (46 ∷ decimal n) in omega arith
+  middle-n-shorter p b (Is n e) k h = let z = length-append (decimal p) (code "." ∷ decimal n) in omega arith
   middle-n-shorter p b (Not q) k h = tt
 
 byte-end : (b : ℕ) (s : List ℕ) (at v e : ℕ) → byteAt b s at ≡ Is v e → e ≡ at + 1
@@ -105,19 +113,19 @@ byte-end b s at v e h = go (ltb at (length s) && eqb (getD s at 0) b) h
     go false k = absurd (let z : _≡_ {A = ℕ} 0 1 = cc in omega arith)
 
 module _ (s : List ℕ) (at : ℕ) where
-  middle-dot-shorter : (p d : ℕ) (f : Field) → byteAt 46 s d ≡ f → at + length (decimal p) + 1 ≤ d → ModifierShorter at (middle-dot p s d f)
+  middle-dot-shorter : (p d : ℕ) (f : Field) → byteAt (code ".") s d ≡ f → at + length (decimal p) + 1 ≤ d → ModifierShorter at (middle-dot p s d f)
   middle-dot-shorter p d (Is b e) q k =
-      let z = byte-end 46 s d b e q in
+      let z = byte-end (code ".") s d b e q in
       middle-n-shorter at p e (numberAt s e) (omega arith) (number-shorter s e)
   middle-dot-shorter p d (Not b) q k = tt
 
   middle-shorter : (f : Field) → Shorter (at + 1) f → ModifierShorter at (middle s (at + 1) f)
-  middle-shorter (Is p e) h = middle-dot-shorter p e (byteAt 46 s e) refl (omega arith)
+  middle-shorter (Is p e) h = middle-dot-shorter p e (byteAt (code ".") s e) refl (omega arith)
   middle-shorter (Not q) h = tt
 
   modifier-shorter : ModifierShorter at (modifierAt s at)
   unfolding modifierAt
-  modifier-shorter = go (eqb (getD s at 0) 76) (eqb (getD s at 0) 82) (eqb (getD s at 0) 77)
+  modifier-shorter = go (eqb (getD s at 0) (code "L")) (eqb (getD s at 0) (code "R")) (eqb (getD s at 0) (code "M"))
     where
       go : (a b c : Bool)
           → ModifierShorter at
@@ -152,7 +160,7 @@ module _ (s : List ℕ) (at : ℕ) where
 
   held-shorter : (counter : Bool) → StepShorter s (heldAt counter s at)
   unfolding heldAt
-  held-shorter counter = go (between 48 57 (getD s (at + 1) 0))
+  held-shorter counter = go (between (code "0") (code "9") (getD s (at + 1) 0))
     where
       go : (t : Bool)
           → StepShorter s (cond t (modified counter (getD s (at + 1) 0) s at (modifierAt s (at + 2))) (Stop (pointed s at (at + 1))))
@@ -161,7 +169,7 @@ module _ (s : List ℕ) (at : ℕ) where
 
   element-shorter : StepShorter s (elementAt s at)
   unfolding elementAt
-  element-shorter = go (eqb (getD s at 0) 34) (eqb (getD s at 0) 86) (eqb (getD s at 0) 67)
+  element-shorter = go (eqb (getD s at 0) (code "\"")) (eqb (getD s at 0) (code "V")) (eqb (getD s at 0) (code "C"))
     where
       go : (a b c : Bool) → StepShorter s (cond a (quotedFrom at (textAt s at)) (cond b (heldAt false s at) (cond c (heldAt true s at) (Stop at))))
       go true b c = quoted-shorter (textAt s at)
@@ -211,7 +219,7 @@ minus-length : (at v e : ℕ) (f : Field) → Shorter at f → Small f → minus
 unfolding signed
 minus-length at v e (Is w d) h l k = go (decLt v nought)
   where
-    go : Dec (v < nought) → at + length (cond (ltb v nought) (45 ∷ decimal (nought - v)) (43 ∷ decimal (v - nought))) ≤ e + 1
+    go : Dec (v < nought) → at + length (cond (ltb v nought) (code "-" ∷ decimal (nought - v)) (code "+" ∷ decimal (v - nought))) ≤ e + 1
     go (yes m) =
         let q : nought - w ≡ v = cc in
         let r : d ≡ e = cc in
@@ -226,7 +234,7 @@ minus-length at v e (Not p) h l k = absurd (let z : _≡_ {A = ℕ} 0 1 = cc in 
 
 signed-length : (s : List ℕ) (at v e : ℕ) → signedAt s at ≡ Is v e → at + length (signed v) ≤ e + 1
 unfolding signedAt
-signed-length s at v e h = go (eqb (getD s at 0) 43) (eqb (getD s at 0) 45) h
+signed-length s at v e h = go (eqb (getD s at 0) (code "+")) (eqb (getD s at 0) (code "-")) h
   where
     go : (a b : Bool)
         → cond a (plus (numberAt s (at + 1))) (cond b (minus (numberAt s (at + 1))) (plus (numberAt s at))) ≡ Is v e
@@ -248,8 +256,8 @@ letter-end c s at v e h = go (ltb at (length s) && inClass c (getD s at 0)) h
 type-end : (s : List ℕ) (at v e : ℕ) → typeAt s at ≡ Is v e → e ≡ at + cond (eqb v 30) 3 1
 unfolding typeAt
 type-end s at v e h =
-    go (eqb (getD s at 0) 49) (eqb (getD s at 0) 50) (eqb (getD s at 0) 51)
-    (eqb (getD s at 0) 69 && (eqb (getD s (at + 1) 0) 51 && eqb (getD s (at + 2) 0) 48))
+    go (eqb (getD s at 0) (code "1")) (eqb (getD s at 0) (code "2")) (eqb (getD s at 0) (code "3"))
+    (eqb (getD s at 0) (code "E") && (eqb (getD s (at + 1) 0) (code "3") && eqb (getD s (at + 2) 0) (code "0")))
     h
   where
     go : (a b c d : Bool)
@@ -266,7 +274,7 @@ text-length t s at v e h = let q = text-fits s at v e h .ends in let l = kept-le
 
 -- how many bytes a field may grow by
 abbrev grows : ℕ → ℕ
-grows f = cond (eqb f 115) 1 0
+grows f = cond (eqb f (code "s")) 1 0
 
 field-length : {f : ℕ} (x : Letter f) (s : List ℕ) (at v e : ℕ) → fieldAt f s at ≡ Is v e → at + length (writtenField f s v at) ≤ e + grows f
 unfolding fieldAt writtenField
@@ -318,10 +326,10 @@ fields-length (f ∷ fs) s at vs ps h =
 
 -- letters of no more bytes than `widest`
 abbrev narrow : ℕ → Bool
-narrow f = not (eqb f 97 || (eqb f 122 || (eqb f 117 || (eqb f 107 || eqb f 100))))
+narrow f = not (eqb f (code "a") || (eqb f (code "z") || (eqb f (code "u") || (eqb f (code "k") || eqb f (code "d")))))
 
 abbrev widest : ℕ → ℕ × ℕ → ℕ
-widest f l = cond (isNumber f) 9 (cond (eqb f 115) 10 (cond (eqb f 116) (l .1 + 2) 1))
+widest f l = cond (isNumber f) 9 (cond (eqb f (code "s")) 10 (cond (eqb f (code "t")) (l .1 + 2) 1))
 
 within-high : (lo hi v p : ℕ) (t : Bool) → cond (between lo hi v && t) Within (Outside p) ≡ Within → v ≤ hi
 unfolding between
@@ -339,7 +347,7 @@ signed-narrow : (v : ℕ) → 0 < v → v < 2000000000 → length (signed v) ≤
 unfolding signed
 signed-narrow v h k = go (decLt v nought)
   where
-    go : Dec (v < nought) → length (cond (ltb v nought) (45 ∷ decimal (nought - v)) (43 ∷ decimal (v - nought))) ≤ 10
+    go : Dec (v < nought) → length (cond (ltb v nought) (code "-" ∷ decimal (nought - v)) (code "+" ∷ decimal (v - nought))) ≤ 10
     go (yes m) = rw (lt-ltb v nought m) (let l = decimal-narrow (nought - v) (omega arith) in omega arith)
     go (no m) = rw (le-ltb v nought (omega arith)) (let l = decimal-narrow (v - nought) (omega arith) in omega arith)
 
@@ -398,42 +406,39 @@ fields-narrow (f ∷ fs) s at vs ps ls u t h k =
 
 -- ---- lines
 
--- the form of C: its numbers take 9 bytes at most, its step 10 and its prompt 26
-counter-short : (rows : ℕ) (s vs ps : List ℕ) → fieldsFrom (rowOf 23 .fields) s 0 ≡ good vs ps
-    → limitsFrom (rowOf 23 .fields) (boundsOf 23 rows) s 0 vs ps ≡ Within
-    → length (writtenFrom (rowOf 23 .fields) s vs ps) ≤ 58
-unfolding room allNarrow spread
-counter-short rows s vs ps h k = fields-narrow (rowOf 23 .fields) s 0 vs ps (boundsOf 23 rows) 0 tt h k
+-- no field of a row grows, or the row is short by its limits: C, whose numbers take 9 bytes at most, its step 10 and its prompt 26
+abbrev short : ℕ → Form → Bool
+short rows f = eqb (signs (f .fields)) 0 || (allNarrow (f .fields) && leb (room (f .fields) (spread (f .fields) (f .bounds rows))) 255)
 
--- no other form has a step
-unsigned : ℕ → List ℕ → Bool
-unsigned row fs = eqb row 23 || eqb (signs fs) 0
+abbrev everyForm : (Form → Bool) → List Form → Bool
+everyForm p [] = true
+everyForm p (f ∷ fs) = p f && everyForm p fs
 
-row-unsigned : (row : ℕ) → (row ≡ 23 → ⊥) → signs (rowOf row .fields) ≡ 0
-unfolding unsigned signs
-row-unsigned row n =
-    let q = zero-add row in
-    let t : T (eqb row 23 || eqb (signs (rowOf row .fields)) 0) = rw q at (every-row unsigned forms 0 tt (λ k. go (eqb k 23)) row) in
-    eqb-true (signs (rowOf row .fields)) 0 (T-true (eqb (signs (rowOf row .fields)) 0) (rw (ne-eqb row 23 n) at t))
-  where
-    go : (t : Bool) → T (t || true)
-    go true = tt
-    go false = tt
+every-form : (p : Form → Bool) (fs : List Form) → T (everyForm p fs) → T (p none) → (row : ℕ) → T (p (getD fs row none))
+every-form p [] h e row = e
+every-form p (f ∷ fs) h e zero = and-T (p f) (everyForm p fs) h .0
+every-form p (f ∷ fs) h e (suc row) = every-form p fs (and-T (p f) (everyForm p fs) h .1) e row
+
+form-short : (rows row : ℕ) → T (short rows (rowOf row))
+unfolding signs allNarrow room spread
+form-short rows row = every-form (short rows) forms tt tt row
 
 row-short : (row rows : ℕ) (s vs ps : List ℕ) → fieldsFrom (rowOf row .fields) s 0 ≡ good vs ps
     → limitsFrom (rowOf row .fields) (boundsOf row rows) s 0 vs ps ≡ Within → length s ≤ 255
     → length (writtenFrom (rowOf row .fields) s vs ps) ≤ 255
-row-short row rows s vs ps h k l = go (ℕ-discrete row 23)
+row-short row rows s vs ps h k l = go (eqb (signs (rowOf row .fields)) 0) refl (form-short rows row)
   where
-    go : Dec (row ≡ 23) → length (writtenFrom (rowOf row .fields) s vs ps) ≤ 255
-    go (yes e) =
-        let h′ : fieldsFrom (rowOf 23 .fields) s 0 ≡ good vs ps = rw e at h in
-        let k′ : limitsFrom (rowOf 23 .fields) (boundsOf 23 rows) s 0 vs ps ≡ Within = rw e at k in
-        let c = counter-short rows s vs ps h′ k′ in
-        rw e (omega arith)
-    go (no n) =
-        let z = row-unsigned row n in
+    go : (t : Bool) → eqb (signs (rowOf row .fields)) 0 ≡ t
+        → T (t || (allNarrow (rowOf row .fields) && leb (room (rowOf row .fields) (boundsOf row rows)) 255))
+        → length (writtenFrom (rowOf row .fields) s vs ps) ≤ 255
+    go true e q =
+        let z = eqb-true (signs (rowOf row .fields)) 0 e in
         let c = fields-length (rowOf row .fields) s 0 vs ps h in
+        omega arith
+    go false e q =
+        let o = and-T (allNarrow (rowOf row .fields)) (leb (room (rowOf row .fields) (boundsOf row rows)) 255) q in
+        let c = fields-narrow (rowOf row .fields) s 0 vs ps (boundsOf row rows) 0 (o .0) h k in
+        let r = leb-true (room (rowOf row .fields) (boundsOf row rows)) 255 (T-true (leb (room (rowOf row .fields) (boundsOf row rows)) 255) (o .1)) in
         omega arith
 
 -- THE NORMAL FORM IS A LINE: at most 255 bytes

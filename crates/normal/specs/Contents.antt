@@ -1,20 +1,24 @@
 -- What a line says, apart from where its bytes stand.
 -- Assumes nothing.
 use Prim.Native.Nat.{ℕ, _+_}
+use Prim.Native.Char.{code}
 use mathlib.Core.Bool.{true, false, cond, _||_}
 use mathlib.Core.List.{List, [], _∷_, _++_}
 use lib.ListN.{getD, drop}
 use lib.Dec.{eqb}
-use Rattle.fields.specs.Data.{elements}
-use Rattle.fields.specs.declared.What.{What}
-use Rattle.fields.specs.declared.What.the-variants.{Text as Quote}
-use Rattle.fields.specs.declared.Element.{Element}
-use Rattle.read.specs.Grammar.{Got, good, bad, rowOf, headOf, fieldsFrom}
-use Rattle.grammar.specs.declared.Head.{Head}
-use Rattle.grammar.specs.declared.Head.the-variants.{Row, Unknown}
-use Rattle.read.specs.declared.Item.{Item}
-use Rattle.read.specs.declared.Item.the-variants.{Origin, Variable, Counter, Text, Bars, Box, Frame, Picture}
-use Rattle.normal.specs.Written.{kept, cased, elementWritten}
+use Rattle.elements.specs.Elements.{elements}
+use Rattle.elements.specs.declared.What.{What}
+use Rattle.elements.specs.declared.What.the-variants.{Text as Quote}
+use Rattle.elements.specs.declared.Element.{Element}
+use Rattle.row_fields.specs.Reading.{Got, good, bad, fieldsFrom}
+use Rattle.grammar.specs.Forms.{rowOf}
+use Rattle.heads.specs.Heads.{headOf}
+use Rattle.heads.specs.declared.Head.{Head}
+use Rattle.heads.specs.declared.Head.the-variants.{Row, Unknown}
+use Rattle.grammar.specs.declared.Item.{Item}
+use Rattle.grammar.specs.declared.Item.the-variants.{Origin, Variable, Counter, Text, Bars, Box, Frame, Picture}
+use Rattle.writing.specs.Writing.{kept, cased}
+use Rattle.normal.specs.Written.{elementWritten}
 
 -- a line's command with its numbers and letters, its places left out
 abbrev pub unplaced : Item → Item
@@ -35,9 +39,9 @@ pieces s (e ∷ es) = (e .what, elementWritten s e) ∷ pieces s es
 -- what a field holds between quotes: a prompt or a text as it stands, a name in capitals, the elements of data
 unfoldable pub held : ℕ → List ℕ → ℕ → ℕ → List (What × List ℕ)
 held f s v p =
-    cond (eqb f 116 || eqb f 117) ((Quote, cased false (kept s (p + 1) v)) ∷ [])
-    (cond (eqb f 97 || eqb f 122) ((Quote, cased true (kept s (p + 1) v)) ∷ [])
-    (cond (eqb f 100) (pieces s (elements s p))
+    cond (eqb f (code "t") || eqb f (code "u")) ((Quote, cased false (kept s (p + 1) v)) ∷ [])
+    (cond (eqb f (code "a") || eqb f (code "z")) ((Quote, cased true (kept s (p + 1) v)) ∷ [])
+    (cond (eqb f (code "d")) (pieces s (elements s p))
     []))
 
 unfoldable pub heldBy : List ℕ → List ℕ → List ℕ → List ℕ → List (What × List ℕ)

@@ -4,8 +4,8 @@ use Prim.Native.Nat.{ℕ}
 use mathlib.Core.Path.{_≡_}
 use mathlib.Core.List.{List}
 use Rattle.read.specs.Commands.{readOf}
-use Rattle.read.specs.declared.Item.{Item}
-use Rattle.read.specs.declared.Command.the-variants.{Item as item}
+use Rattle.grammar.specs.declared.Item.{Item}
+use Rattle.grammar.specs.declared.Command.the-variants.{Item as item}
 use Rattle.read.specs.declared.Read.the-variants.{Taken}
 use Rattle.normal.specs.Written.{normal}
 use Rattle.normal.specs.Contents.{unplaced, contents}

@@ -8,14 +8,14 @@ use lib.ListN.{length}
 use borrow.Author.Tests.{eq-eqb, ne-eqb}
 use Rattle.cells.specs.Cell.{zeros}
 use Rattle.dots.specs.Dots.{bytesARow}
-use Rattle.dots.specs.Whole.{white}
-use Rattle.values.specs.Stored.{unset}
-use Rattle.moves.specs.Memory.{Memory, memory}
-use Rattle.moves.specs.Erase.{cleared as clearedMemory}
-use Rattle.session.specs.declared.answers.Answer.the-variants.{Taken, Lengths}
-use Rattle.session.specs.Answers.{labelled}
+use Rattle.pages.specs.Pages.{white}
+use Rattle.stored_values.specs.Stored.{unset}
+use Rattle.memory.specs.Memory.{Memory, memory}
+use Rattle.clearing.specs.Clear.{cleared as clearedMemory}
+use Rattle.answers.specs.declared.Answer.the-variants.{Taken, Lengths}
+use Rattle.session.specs.Label.{labelled}
 use Rattle.session.specs.Session.{none, fresh}
-use Rattle.session.specs.Lent.{World, world, wrongLent}
+use Rattle.lent.specs.Lent.{World, world, wrongLent}
 use Rattle.opening.specs.Opening.{openedBy, opened, cleared}
 
 -- ---- the call

@@ -7,11 +7,11 @@ use lib.ListN.{length, replicate}
 use lib.Dec.{eqb}
 use Rattle.cells.specs.Cell.{zeros}
 use Rattle.store.specs.Chain.{freeLink}
-use Rattle.session.specs.declared.answers.Labelled.{Labelled}
-use Rattle.session.specs.declared.answers.Answer.the-variants.{Taken, Lengths}
-use Rattle.session.specs.Answers.{labelled}
+use Rattle.session.specs.declared.Labelled.{Labelled}
+use Rattle.answers.specs.declared.Answer.the-variants.{Taken, Lengths}
+use Rattle.session.specs.Label.{labelled}
 use Rattle.session.specs.Session.{none, fresh}
-use Rattle.session.specs.Lent.{World, world, rowsOf, wrongLent}
+use Rattle.lent.specs.Lent.{World, world, rowsOf, wrongLent}
 
 -- what opening leaves: its outcome, the page and the lists
 pub record Opened : Type 0 where

@@ -4,13 +4,13 @@
 // lengths alone (1), so that any memory can be opened, and "a refused opening returns zeros" and leaves what it was lent. `open` promises one equation
 // between its result with every lent list at exit and `opened` (specs/Opening.antt) of what it was lent.
 ghost use mathlib.Core.Path.{_≡_};
-ghost use Rattle.session.specs.Answers.{labelled};
-ghost use Rattle.session.specs.Lent.{world};
+ghost use Rattle.session.specs.Label.{labelled};
+ghost use Rattle.lent.specs.Lent.{world};
 ghost use Rattle.session.specs.Session.{none};
-ghost use Rattle.session.specs.declared.answers.Answer.the-variants.{Lengths};
+ghost use Rattle.answers.specs.declared.Answer.the-variants.{Lengths};
 ghost use Rattle.opening.specs.Opening.{openedBy, opened};
+use answers::Answer;
 use dots::BYTES_A_ROW;
-use session::Answer;
 use session::Labelled;
 use session::Session;
 
@@ -35,7 +35,7 @@ pub fn open(
 ) -> Labelled
     ensures { λ r. ⌜ openedBy r (now (page .exit)) (world (now (background .exit)) (now (store .exit)) (now (links .exit)) (now (directory .exit)) (now (values .exit))) ≡ opened (now (page .entry)) (world (now (background .entry)) (now (store .entry)) (now (links .entry)) (now (directory .entry)) (now (values .entry))) ⌝ }
 {
-    if session::lengths_wrong(
+    if lent::lengths_wrong(
         background.len(),
         store.len(),
         links.len(),
@@ -48,10 +48,10 @@ pub fn open(
         return refused();
     }
     let rows = (background.len() / BYTES_A_ROW) as u16;
-    dots::whiten(page);
-    dots::whiten(background);
-    moves::clear(store, links, directory);
-    values::stored::unset_all(values);
+    pages::whiten(page);
+    pages::whiten(background);
+    clearing::clear(store, links, directory);
+    stored_values::unset_all(values);
     let session = Session::fresh(rows);
     Labelled {
         answer: Answer::Taken,

@@ -1,15 +1,16 @@
 -- The words of the command line: -rows N, -font F, -out PREFIX, -store FILE, -quiet; any other word that starts with `-` is no option.
 -- Assumes nothing.
 use Prim.Native.Nat.{ℕ}
+use Prim.Native.Char.{code}
 use mathlib.Core.Bool.{cond}
 use mathlib.Core.List.{List}
 use lib.ListN.{length, getD}
 use lib.Dec.{eqb, ltb}
-use Rattle.fields.specs.Text.{bytes}
-use Rattle.fields.specs.Field.{numberAt}
+use Rattle.kinds.specs.Text.{bytes}
+use Rattle.numbers.specs.Number.{numberAt}
 use Rattle.fields.specs.declared.Field.{Field}
 use Rattle.fields.specs.declared.Field.the-variants.{Is, Not}
-use Rattle.normal.specs.Written.{equal}
+use Rattle.writing.specs.Writing.{equal}
 use Rattle.options.specs.declared.Word.{Word}
 use Rattle.options.specs.declared.Word.the-variants.{Rows, Font, Out, Store, Quiet, Unknown, File}
 
@@ -20,7 +21,7 @@ wordOf text =
     (cond (equal text (bytes "-out")) Out
     (cond (equal text (bytes "-store")) Store
     (cond (equal text (bytes "-quiet")) Quiet
-    (cond (eqb (getD text 0 0) 45) Unknown File)))))
+    (cond (eqb (getD text 0 0) (code "-")) Unknown File)))))
 
 -- a number that fills the text and is at most 4,000; 0 stands for none
 abbrev pub rowsFrom : List ℕ → Field → ℕ

@@ -3,7 +3,7 @@ ghost use mathlib.Core.Path.{_≡_};
 ghost use lib.ListN.{getD};
 ghost use Rattle.options.specs.Options.{wordOf, rowsOf};
 use fields::Field;
-use normal::same;
+use writing::same;
 
 pub enum Word {
     Rows,
@@ -34,7 +34,7 @@ pub fn word_of(text: &[u8]) -> Word
     if same(text, b"-quiet") {
         return Word::Quiet;
     }
-    if fields::byte(text, 0) == b'-' {
+    if ground::byte(text, 0) == b'-' {
         return Word::Unknown;
     }
     Word::File
@@ -44,7 +44,7 @@ pub fn word_of(text: &[u8]) -> Word
 pub fn rows(text: &[u8]) -> usize
     ensures { λ r. ⌜ r ≡ rowsOf (now (text .entry)) ⌝ }
 {
-    let Field::Is(n, end) = fields::number(text, 0) else {
+    let Field::Is(n, end) = numbers::number(text, 0) else {
         return 0;
     };
     if end < text.len() {

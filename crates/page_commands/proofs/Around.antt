@@ -3,11 +3,11 @@
 use mathlib.Core.Path.{_≡_, refl}
 use mathlib.Core.List.{List, []}
 use Prim.Native.Nat.{ℕ}
-use Rattle.read.specs.declared.PageCommand.{PageCommand}
-use Rattle.read.specs.declared.PageCommand.the-variants.{Length, Width, Turn, White}
+use Rattle.grammar.specs.declared.PageCommand.{PageCommand}
+use Rattle.grammar.specs.declared.PageCommand.the-variants.{Length, Width, Turn, White}
 use Rattle.session.specs.declared.Session.{Session}
-use Rattle.session.specs.declared.answers.Answer.the-variants.{Taken}
-use Rattle.session.specs.Lent.{world}
+use Rattle.answers.specs.declared.Answer.the-variants.{Taken}
+use Rattle.lent.specs.Lent.{world}
 use Rattle.results.specs.Result.{ran, done}
 use Rattle.results.proofs.Parts.{onPage}
 use Rattle.page_commands.specs.Page.{pageRuns, pageBy}

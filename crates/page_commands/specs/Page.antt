@@ -4,12 +4,12 @@ use mathlib.Core.Bool.{cond}
 use mathlib.Core.List.{[]}
 use lib.ListN.{length}
 use Rattle.cells.specs.Cell.{zeros}
-use Rattle.read.specs.declared.PageCommand.{PageCommand}
-use Rattle.read.specs.declared.PageCommand.the-variants.{Length, Width, Turn, White}
+use Rattle.grammar.specs.declared.PageCommand.{PageCommand}
+use Rattle.grammar.specs.declared.PageCommand.the-variants.{Length, Width, Turn, White}
 use Rattle.session.specs.declared.Session.{Session}
-use Rattle.session.specs.declared.answers.Answer.the-variants.{Taken}
+use Rattle.answers.specs.declared.Answer.the-variants.{Taken}
 use Rattle.session.specs.Session.{sized, turning}
-use Rattle.session.specs.Lent.{World}
+use Rattle.lent.specs.Lent.{World}
 use Rattle.results.specs.World.{State, state, withBackground, inactive}
 use Rattle.results.specs.Result.{done, sixteenBits, Ran, ran}
 

@@ -5,14 +5,14 @@
 ghost use mathlib.Core.Path.{_≡_};
 ghost use mathlib.Core.Bool.{cond};
 ghost use mathlib.Core.List.{[]};
-ghost use Rattle.read.specs.declared.PageCommand.the-variants.{Length as Tall, Width as Wide, Turn as Turns, White};
-ghost use Rattle.session.specs.Lent.{world};
+ghost use Rattle.grammar.specs.declared.PageCommand.the-variants.{Length as Tall, Width as Wide, Turn as Turns, White};
+ghost use Rattle.lent.specs.Lent.{world};
 ghost use Rattle.results.specs.Result.{ran};
 ghost use Rattle.page_commands.specs.Page.{pageBy};
-use read::Length;
-use read::PageCommand;
-use read::Turn;
-use read::Width;
+use grammar::Length;
+use grammar::PageCommand;
+use grammar::Turn;
+use grammar::Width;
 use results::Done;
 use results::activate;
 use results::sixteen_bits;
@@ -25,7 +25,7 @@ fn set_length(session: Session, l: Length, background: &mut [u8]) -> Done
 {
     let m = sixteen_bits(l.m);
     let width = session.width;
-    dots::whiten(background);
+    pages::whiten(background);
     taken(session.sized(width, m))
 }
 
@@ -34,7 +34,7 @@ fn set_width(session: Session, w: Width, background: &mut [u8]) -> Done
 {
     let m = sixteen_bits(w.m);
     let length = session.length;
-    dots::whiten(background);
+    pages::whiten(background);
     taken(session.sized(m, length))
 }
 
@@ -55,7 +55,7 @@ fn set_turn(session: Session, t: Turn) -> Done
 fn whiten(session: Session, background: &mut [u8], values: &mut [u8]) -> Done
     ensures { λ r. ⌜ ran r (world (now (background .exit)) [] [] [] (now (values .exit))) [] ≡ pageBy (world (now (background .entry)) [] [] [] (now (values .entry))) session White ⌝ }
 {
-    dots::whiten(background);
+    pages::whiten(background);
     activate(session, NO_FORM, values)
 }
 

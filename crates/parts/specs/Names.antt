@@ -1,6 +1,7 @@
 -- Names in capitals, as a directory entry keeps them.
 -- Assumes nothing.
 use Prim.Native.Nat.{ℕ, _+_, _-_}
+use Prim.Native.Char.{code}
 use mathlib.Core.Bool.{cond}
 use mathlib.Core.List.{List, [], _∷_}
 use lib.ListN.{getD}
@@ -9,7 +10,7 @@ use Rattle.kinds.specs.Bytes.{between}
 
 -- "case is folded": only a to z
 unfoldable pub capital : ℕ → ℕ
-capital b = cond (between 97 122 b) (b - 32) b
+capital b = cond (between (code "a") (code "z") b) (b - (code "a" - code "A")) b
 
 -- byte i of the name of n bytes whose quote stands at a place, and 0 after it
 unfoldable pub nameByte : List ℕ → ℕ → ℕ → ℕ → ℕ

@@ -30,7 +30,7 @@ pub fn folded(b: u8) -> u8
     ensures { λ r. ⌜ r ≡ capital b ⌝ }
 {
     match b {
-        b'a'..=b'z' => b - 32,
+        b'a'..=b'z' => b - (b'a' - b'A'),
         _ => b,
     }
 }
@@ -45,7 +45,7 @@ fn name_byte(line: &[u8], at: usize, length: usize, i: usize) -> u8
     if line.len() <= at {
         return 0;
     }
-    folded(fields::byte(line, at + 1 + i))
+    folded(ground::byte(line, at + 1 + i))
 }
 
 // The name of a length whose first quote stands at a place, as 8 zero-filled bytes.

@@ -5,8 +5,8 @@ use Prim.Native.Nat.{ℕ, zero, suc, _+_, _-_, _*_, _≤_, _<_}
 use native.Mathlib.Omega.{arith}
 use lib.ListN.{length}
 use borrow.Author.Tests.{le-leb}
-use Rattle.normal.specs.Written.{Wrote}
-use Rattle.normal.proofs.Writes.{Rest, rest-start, rest-step, rest-done, rest-same}
+use Rattle.writing.specs.Writing.{Wrote}
+use Rattle.writing.proofs.Writes.{Rest, rest-start, rest-step, rest-done, rest-same}
 use Rattle.pbm.specs.Pbm.{rowBytes, cut, byteAt, rowFrom, rowsFrom}
 
 -- nothing is written yet

@@ -6,8 +6,8 @@ use mathlib.Core.Bool.{cond}
 use mathlib.Core.List.{List, [], _∷_, _++_}
 use lib.ListN.{getD}
 use lib.Dec.{leb}
-use Rattle.fields.specs.Text.{bytes}
-use Rattle.normal.specs.Written.{decimal}
+use Rattle.kinds.specs.Text.{bytes}
+use Rattle.sentences.specs.Texts.{numbered}
 
 -- "packed 8 to a byte"
 abbrev pub rowBytes : ℕ → ℕ
@@ -32,7 +32,7 @@ rowsFrom page width y zero = []
 rowsFrom page width y (suc n) = rowFrom page width (76 * y) 0 (rowBytes width) ++ rowsFrom page width (suc y) n
 
 unfoldable pub headOf : ℕ → ℕ → List ℕ
-headOf width length = bytes "P4\n" ++ (decimal width ++ (bytes " " ++ (decimal length ++ bytes "\n")))
+headOf width length = numbered (bytes "P4\n") width ++ (numbered (bytes " ") length ++ bytes "\n")
 
 abbrev pub pbmOf : List ℕ → ℕ → ℕ → List ℕ
 pbmOf page width length = headOf width length ++ rowsFrom page width 0 length

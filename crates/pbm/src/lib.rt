@@ -7,12 +7,12 @@ ghost use mathlib.Core.Path.{_≡_};
 ghost use mathlib.Core.List.{[], _∷_};
 ghost use Prim.Native.Nat.{_+_, _-_, _*_, _≤_, _<_};
 ghost use lib.ListN.{length};
-ghost use Rattle.normal.specs.Written.{Wrote};
+ghost use Rattle.writing.specs.Writing.{Wrote};
 ghost use Rattle.pbm.specs.Pbm.{rowBytes, cut, byteAt, rowFrom, rowsFrom, headOf, pbmOf};
 use ground::byte;
 use ground::less;
-use normal::put_decimal;
-use words::put;
+use sentences::put;
+use sentences::put_numbered;
 
 // The bytes of a row.
 fn row_bytes(width: u16) -> usize
@@ -86,10 +86,8 @@ fn put_rows(page: &[u8], width: u16, rows: u16, out: &mut [u8], at: usize) -> us
 fn put_head(width: u16, rows: u16, out: &mut [u8]) -> usize
     ensures { λ r. ⌜ Wrote (now (out .entry)) 0 (headOf width rows) r (now (out .exit)) ⌝ }
 {
-    let end = put(out, 0, b"P4\n");
-    let across = put_decimal(width as usize, out, end);
-    let space = put(out, across, b" ");
-    let down = put_decimal(rows as usize, out, space);
+    let across = put_numbered(out, 0, b"P4\n", width as usize);
+    let down = put_numbered(out, across, b" ", rows as usize);
     put(out, down, b"\n")
 }
 

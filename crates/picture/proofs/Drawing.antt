@@ -15,13 +15,13 @@ use Rattle.dots.specs.Dots.{drawn, box, cut, bitOf, rows}
 use Rattle.dots.proofs.Pages.{Bytes, drawn-ext, drawn-off}
 use Rattle.dots.proofs.Shapes.{In, in-box, box-in, same-test}
 use Rattle.ground.proofs.Tests.{is-false, and-true}
-use Rattle.picture.specs.Rules as rules
-use Rattle.picture.specs.Rules.{times, next, given, decoded, legal, lineByte, lineBytes}
-use Rattle.picture.specs.declared.inking.Spot.{Spot}
+use Rattle.pcx.specs.Rules as rules
+use Rattle.pcx.specs.Rules.{times, next, given, decoded, legal, lineByte, lineBytes}
+use Rattle.picture.specs.declared.Spot.{Spot}
 use Rattle.picture.specs.Shape.{dark, pictured}
 use Rattle.picture.specs.Steps.{part, Fits, spotOf}
-use Rattle.picture.proofs.Runs.{given-step, next-le}
-use Rattle.picture.proofs.Rules.{legal-says}
+use Rattle.pcx.proofs.Runs.{given-step, next-le}
+use Rattle.pcx.proofs.Rules.{legal-says}
 use Rattle.picture.proofs.Part.{part-says, says-part, part-cong, run-start, run-step, lines-below}
 
 -- ---- a list that begins with a run

@@ -11,13 +11,14 @@ use native.Mathlib.Omega.{arith}
 use lib.Dec.{leb, ltb}
 use borrow.Author.Tests.{leb-true, ltb-true, le-leb, lt-ltb, not-true}
 use Rattle.dots.specs.declared.Ink.the-variants.{Black}
-use Rattle.dots.specs.Dots.{drawn, box, bitOf, eights, within}
+use Rattle.dots.specs.Dots.{drawn, box, bitOf, within}
+use Rattle.eights.specs.Eights.{eights}
 use Rattle.dots.proofs.Bits.{bit-of-byte}
-use Rattle.dots.proofs.EightDots.{eights-says, says-eights}
+use Rattle.eights.proofs.EightDots.{eights-says, says-eights}
 use Rattle.dots.proofs.Pages.{Bytes, drawn-ext, drawn-off}
 use Rattle.dots.proofs.Shapes.{In, in-box, box-in, same-test}
 use Rattle.ground.proofs.Tests.{is-false, and-true}
-use Rattle.picture.specs.declared.inking.Spot.{Spot}
+use Rattle.picture.specs.declared.Spot.{Spot}
 use Rattle.picture.specs.Steps.{darkByte, indexAt, part, Fits}
 use Rattle.picture.proofs.Bits.{white-bit}
 use Rattle.picture.proofs.Shape.{either-test, then-drawn}

@@ -1,4 +1,3 @@
-pub mod Rules
 pub mod Shape
 pub mod Steps
 pub mod Cases

@@ -4,7 +4,7 @@ use Prim.Native.Nat.{ℕ, _+_, _-_, _/_, _%_}
 use mathlib.Core.Bool.{Bool, not, _&&_}
 use mathlib.Core.List.{List}
 use Rattle.dots.specs.Dots.{box, bitOf}
-use Rattle.picture.specs.Rules.{width, height, lineByte, legal}
+use Rattle.pcx.specs.Rules.{width, height, lineByte, legal}
 
 -- "Zero bits are black": dot u of line v
 abbrev pub dark : List ℕ → ℕ → ℕ → Bool

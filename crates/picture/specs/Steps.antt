@@ -7,8 +7,8 @@ use mathlib.Core.List.{List}
 use lib.ListN.{length}
 use lib.Dec.{ltb}
 use Rattle.dots.specs.Dots.{bytesARow, dotsARow, box, bitOf, byteOf, within}
-use Rattle.picture.specs.Rules as rules
-use Rattle.picture.specs.declared.inking.Spot.{Spot}
+use Rattle.pcx.specs.Rules as rules
+use Rattle.picture.specs.declared.Spot.{Spot}
 
 -- the first n dots of a byte, turned over
 abbrev pub darkByte : ℕ → ℕ → ℕ

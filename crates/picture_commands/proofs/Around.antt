@@ -4,15 +4,15 @@ use mathlib.Core.Path.{_≡_}
 use mathlib.Core.Bool.{Bool, true, false, cond}
 use mathlib.Core.List.{List, [], _∷_}
 use Prim.Native.Nat.{ℕ}
-use Rattle.store.specs.declared.Found.{Found}
-use Rattle.store.specs.declared.Found.the-variants.{At, Nothing}
-use Rattle.read.specs.declared.PictureCommand.{PictureCommand}
-use Rattle.read.specs.declared.PictureCommand.the-variants.{Store, Erase}
+use Rattle.finding.specs.declared.Found.{Found}
+use Rattle.finding.specs.declared.Found.the-variants.{At, Nothing}
+use Rattle.grammar.specs.declared.PictureCommand.{PictureCommand}
+use Rattle.grammar.specs.declared.PictureCommand.the-variants.{Store, Erase}
 use Rattle.session.specs.declared.Session.{Session}
-use Rattle.session.specs.declared.answers.Answer.{Answer}
-use Rattle.session.specs.declared.answers.Answer.the-variants.{Taken, Missing}
-use Rattle.session.specs.Answers.{row, answerOf, isTaken}
-use Rattle.session.specs.Lent.{world}
+use Rattle.answers.specs.declared.Answer.{Answer}
+use Rattle.answers.specs.declared.Answer.the-variants.{Taken, Missing}
+use Rattle.answers.specs.Answers.{row, answerOf, isTaken}
+use Rattle.lent.specs.Lent.{world}
 use Rattle.results.specs.World.{state}
 use Rattle.results.specs.Result.{done, ran, ranBy}
 use Rattle.results.specs.Named.{named, notFound, erasedNamed, erasedEvery}

@@ -4,16 +4,17 @@ use Prim.Native.Nat.{ℕ}
 use mathlib.Core.Bool.{true, not, cond}
 use mathlib.Core.List.{List, [], _∷_}
 use lib.ListN.{length}
-use Rattle.picture.specs.Rules.{legal as legalPicture}
-use Rattle.moves.specs.Start.{hasRoom, kept}
-use Rattle.read.specs.declared.PictureCommand.{PictureCommand}
-use Rattle.read.specs.declared.PictureCommand.the-variants.{Store, Erase}
+use Rattle.pcx.specs.Rules.{legal as legalPicture}
+use Rattle.room.specs.Room.{hasRoom}
+use Rattle.growing.specs.Keep.{kept}
+use Rattle.grammar.specs.declared.PictureCommand.{PictureCommand}
+use Rattle.grammar.specs.declared.PictureCommand.the-variants.{Store, Erase}
 use Rattle.parts.specs.Names.{packedOf}
-use Rattle.forms.specs.Form.{isAt}
+use Rattle.recording.specs.Judged.{isAt}
 use Rattle.session.specs.declared.Session.{Session}
-use Rattle.session.specs.declared.answers.Answer.the-variants.{InUse, Missing, Illegal, Full}
-use Rattle.session.specs.Answers.{Row, row, answerOf}
-use Rattle.session.specs.Lent.{World}
+use Rattle.answers.specs.declared.Answer.the-variants.{InUse, Missing, Illegal, Full}
+use Rattle.answers.specs.Answers.{Row, row, answerOf}
+use Rattle.lent.specs.Lent.{World}
 use Rattle.results.specs.World.{State, state, memoryOf, withMemory}
 use Rattle.results.specs.Result.{Ran, ranBy}
 use Rattle.results.specs.Named.{lookup, named, notFound, erasedNamed, erasedEvery}

@@ -4,14 +4,15 @@
 // (specs/Pictures.antt): its rows of the table, then what it does.
 ghost use mathlib.Core.Path.{_≡_};
 ghost use mathlib.Core.List.{[]};
-ghost use Rattle.read.specs.declared.PictureCommand.the-variants.{Store as Keep, Erase};
-ghost use Rattle.session.specs.Lent.{world};
+ghost use Rattle.grammar.specs.declared.PictureCommand.the-variants.{Store as Keep, Erase};
+ghost use Rattle.lent.specs.Lent.{world};
 ghost use Rattle.results.specs.Result.{ran};
 ghost use Rattle.picture_commands.specs.Pictures.{pictureBy};
+use answers::Answer;
+use grammar::Named;
+use grammar::PictureCommand;
+use grammar::StorePicture;
 use parts::packed;
-use read::Named;
-use read::PictureCommand;
-use read::StorePicture;
 use results::Done;
 use results::answered;
 use results::names::entry_of;
@@ -19,7 +20,6 @@ use results::names::erase_found;
 use results::names::is_at;
 use results::names::is_missing;
 use results::taken;
-use session::Answer;
 use session::Session;
 
 fn keep_picture(
@@ -36,16 +36,16 @@ fn keep_picture(
     let at = p.at;
     let length = p.length;
     let title = packed(line, at, length);
-    if is_at(store::find(directory, true, title)) {
+    if is_at(finding::find(directory, true, title)) {
         return answered(Answer::InUse, session);
     }
-    if !picture::is_legal(more) {
+    if !pcx::is_legal(more) {
         return answered(Answer::Illegal, session);
     }
-    if !moves::has_room(links, directory, more.len()) {
+    if !room::has_room(links, directory, more.len()) {
         return answered(Answer::Full, session);
     }
-    moves::keep(store, links, directory, 2, title, more);
+    growing::keep(store, links, directory, 2, title, more);
     taken(session)
 }
 
@@ -65,7 +65,7 @@ fn erase_picture(
         return answered(Answer::Missing, session);
     }
     if all {
-        moves::erase_all(store, links, directory, true);
+        erasing::erase_all(store, links, directory, true);
         return taken(session);
     }
     erase_found(store, links, directory, found);

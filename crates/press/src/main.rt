@@ -2,39 +2,14 @@
 //
 //     press [-rows N] [-font F] [-out PREFIX] [-store FILE] [-quiet] [FILE ..]
 //
-// It is thin: what a command does is crate `station`, what a picture file is crate `pbm`, what the lasting store is crate `lasting`, what is said crate
-// `words`, what the command line is crate `options`, how input passes through a window crate `intake`. Here files are opened, read, written and named.
-mod inputs; // commands, one after the other
-mod keeping; // the lasting store
-mod labels; // labels, one after the other
-mod rooms; // room for what is lent
-mod saying; // what is said
-mod setup; // the command line, the font, the files
-
+// It is thin: what a command does is crate `station`, what is said and what the command line is crate `press_settings`, how the store lasts crate
+// `press_store`, how commands are read crate `press_input`, how labels become files crate `press_labels`. Here is the room that they are lent, and whose turn it is.
 use ground::front;
 use ground::least;
-use session::Session;
-use setup::Settings;
-
-// What is known between two turns. A descriptor that is not there is -1; file is the argument that is read, 0 for standard input.
-pub(crate) struct Run {
-    pub(crate) session: Session,
-    pub(crate) from: i32,
-    pub(crate) file: usize,
-    pub(crate) start: usize,
-    pub(crate) end: usize,
-    pub(crate) ended: bool,
-    pub(crate) skipping: bool,
-    pub(crate) line: usize,
-    pub(crate) taken: usize,
-    pub(crate) refused: usize,
-    pub(crate) labels: usize,
-    pub(crate) pictures: u32,
-    pub(crate) order: u32,
-    pub(crate) kept: i32,
-    pub(crate) over: bool,
-    pub(crate) failed: bool,
-}
+use press_settings::Settings;
+use press_settings::saying;
+use press_store::Run;
+use press_store::rooms;
 
 // One turn: a label where one is owed, else a command or a step towards the next one.
 fn turn(
@@ -43,37 +18,30 @@ fn turn(
     prefix: &[u8],
     path: &[u8],
     font: &[u8],
-    blank: &[u8],
-    page: &mut [u8],
     background: &mut [u8],
     store: &mut [u8],
     links: &mut [u16],
     directory: &mut [u8],
     values: &mut [u8],
-    output: &mut [u8],
     window: &mut [u8],
     file: &mut [u8],
-    next: &mut [u8],
 ) -> Run {
     let owed = run.session.owed;
     if 0 < owed {
-        return labels::one(
+        return press_labels::one(
             s,
             run,
             prefix,
             font,
-            blank,
-            page,
             background,
             store,
             links,
             directory,
             values,
-            output,
             file,
         );
     }
-    inputs::one(
+    press_input::one(
         s,
         run,
         path,
@@ -83,10 +51,8 @@ fn turn(
         links,
         directory,
         values,
-        output,
         window,
         file,
-        next,
     )
 }
 
@@ -97,17 +63,13 @@ fn turns(
     prefix: &[u8],
     path: &[u8],
     font: &[u8],
-    blank: &[u8],
-    page: &mut [u8],
     background: &mut [u8],
     store: &mut [u8],
     links: &mut [u16],
     directory: &mut [u8],
     values: &mut [u8],
-    output: &mut [u8],
     window: &mut [u8],
     file: &mut [u8],
-    next: &mut [u8],
 ) -> Run {
     let mut run = first;
     let mut left: u64 = 18446744073709551615;
@@ -121,17 +83,13 @@ fn turns(
             prefix,
             path,
             font,
-            blank,
-            page,
             background,
             store,
             links,
             directory,
             values,
-            output,
             window,
             file,
-            next,
         );
         left -= 1;
     }
@@ -152,21 +110,18 @@ fn work(
     prefix: &[u8],
     path: &[u8],
     font: &[u8],
-    blank: &[u8],
     page: &mut [u8],
     background: &mut [u8],
     store: &mut [u8],
     links: &mut [u16],
     directory: &mut [u8],
     values: &mut [u8],
-    output: &mut [u8],
     window: &mut [u8],
     file: &mut [u8],
-    next: &mut [u8],
 ) {
     let opened = station::open(page, background, store, links, directory, values);
     let session = opened.session;
-    let first = keeping::begin(
+    let first = press_store::begin(
         s,
         session,
         known,
@@ -177,7 +132,6 @@ fn work(
         directory,
         values,
         file,
-        next,
     );
     let last = turns(
         s,
@@ -185,17 +139,13 @@ fn work(
         prefix,
         path,
         font,
-        blank,
-        page,
         background,
         store,
         links,
         directory,
         values,
-        output,
         window,
         file,
-        next,
     );
     finished(s, last);
 }
@@ -208,7 +158,6 @@ fn cut(
     prefix: &[u8],
     path: &[u8],
     font: &[u8],
-    blank: &[u8],
     page: &mut [u8],
     background: &mut [u8],
     file: &mut [u8],
@@ -223,37 +172,31 @@ fn cut(
     let mut links = [0u16; 2024];
     let mut directory = [0u8; 8192];
     let mut values = [0u8; 340];
-    let mut output = rooms::portions();
     let mut window = io::large_buffer();
-    let mut next = rooms::file();
     work(
         s,
         known,
         prefix,
         path,
         font,
-        blank,
         &mut page[..n],
         &mut background[..n],
         &mut store,
         &mut links,
         &mut directory,
         &mut values,
-        &mut output,
         &mut window,
         file,
-        &mut next,
     );
 }
 
 // The run of a store, or of none.
 fn begin(s: Settings, prefix: &[u8], font: &[u8], path: &[u8], file: &mut [u8]) {
-    let known = keeping::found(s, path, file);
-    let rows = keeping::rows(s, path, known, front(file, known));
+    let known = press_store::found(s, path, file);
+    let rows = press_store::rows(s, path, known, front(file, known));
     if rows == 0 {
         return;
     }
-    let blank = rooms::rows();
     let mut page = rooms::rows();
     let mut background = rooms::rows();
     let n = 76 * least(rows, 4000);
@@ -264,7 +207,6 @@ fn begin(s: Settings, prefix: &[u8], font: &[u8], path: &[u8], file: &mut [u8]) 
         prefix,
         path,
         font,
-        &blank,
         &mut page,
         &mut background,
         file,
@@ -274,7 +216,7 @@ fn begin(s: Settings, prefix: &[u8], font: &[u8], path: &[u8], file: &mut [u8]) 
 // With the font at hand: the names, and room for the store file.
 fn named(s: Settings, font: &[u8]) {
     let mut prefix = io::buffer();
-    let p = setup::prefix(s, &mut prefix);
+    let p = press_settings::prefix(s, &mut prefix);
     let mut path = io::buffer();
     let k = os::arg(s.store, &mut path);
     let mut file = rooms::file();
@@ -282,16 +224,16 @@ fn named(s: Settings, font: &[u8]) {
 }
 
 fn main() {
-    let s = setup::command_line();
+    let s = press_settings::command_line();
     if !s.good {
         return;
     }
     let mut font = [0u8; 32768];
-    let n = setup::font(s, &mut font);
+    let n = press_settings::font(s, &mut font);
     if n == 0 {
         return;
     }
-    if setup::readable(s) {
+    if press_settings::readable(s) {
         named(s, front(&font, n));
     }
 }

@@ -1,4 +1,2 @@
-pub mod Grammar
 pub mod Commands
-pub mod Front
 pub mod Cases

@@ -1,45 +1,15 @@
-// The fields of a line, one after another, and the judgement of the whole line.
+// The line of a row: its form comes before its limits.
 ghost use mathlib.Core.Path.{_≡_};
-ghost use Rattle.read.specs.Grammar.{rowOf, Form, fieldsFrom, Filled};
+ghost use Rattle.grammar.specs.Forms.{rowOf, Form};
+ghost use Rattle.row_fields.specs.Reading.{fieldsFrom};
 ghost use Rattle.read.specs.Commands.{judged, withinLimits};
 use crate::Fault;
-use crate::Fields;
 use crate::Read;
-use crate::check::row_limits;
-use crate::orders::command_of;
-use fields::Field;
-use fields::Limits;
-use fields::stop;
-use grammar::table::line_up;
-use reader::read_field;
-
-// Reads the fields of a row, one after another: a value and a place for each byte of its form, up to the first that is not there.
-pub fn read_fields(line: &[u8], row: usize, vs: &mut [usize; 18], ps: &mut [usize; 18]) -> Fields
-    ensures { λ r. ⌜ Filled (fieldsFrom (rowOf row .fields) (now (line .entry)) 0) (now (vs .entry)) (now (ps .entry)) r (now (vs .exit)) (now (ps .exit)) ⌝ }
-{
-    let up = line_up(row);
-    let mut at = 0;
-    let mut i = 0;
-    while i < 18 {
-        let f = up[i];
-        if f == 32 {
-            break;
-        }
-        let found = read_field(line, f, at);
-        let Field::Is(v, end) = found else {
-            return Fields::Bad(stop(found));
-        };
-        vs[i] = v;
-        ps[i] = at;
-        at = end;
-        i += 1;
-    }
-    if at == line.len() {
-        Fields::All
-    } else {
-        Fields::Bad(at)
-    }
-}
+use data_field::Limits;
+use grammar::makers::command_of;
+use row_fields::Fields;
+use row_fields::read_fields;
+use row_limits::row_limits;
 
 // The line of a row whose fields are read: a command, or 7.
 pub fn within(line: &[u8], row: usize, rows: usize, vs: &[usize; 18], ps: &[usize; 18]) -> Read
@@ -48,7 +18,7 @@ pub fn within(line: &[u8], row: usize, rows: usize, vs: &[usize; 18], ps: &[usiz
     if let Limits::Outside(fault) = row_limits(line, row, rows, vs, ps) {
         return Read::Refused(Fault::Limit(fault));
     }
-    Read::Taken(command_of(line, row, *vs, *ps))
+    Read::Taken(command_of(line, row, vs, ps))
 }
 
 // The line of a row: the form comes before the limits.

@@ -5,9 +5,10 @@ use Prim.Native.Char.{code}
 use mathlib.Core.Bool.{cond, _||_}
 use mathlib.Core.List.{List}
 use lib.Dec.{eqb}
-use Rattle.fields.specs.Field.{numberAt, textAt, signedAt, byteAt, letterAt, typeAt}
-use Rattle.fields.specs.Data.{dataAt}
-use Rattle.fields.specs.declared.Class.the-variants.{Mode, Side}
+use Rattle.numbers.specs.Number.{numberAt, signedAt}
+use Rattle.fields.specs.Field.{textAt, byteAt, letterAt, typeAt}
+use Rattle.data_field.specs.Data.{dataAt}
+use Rattle.classes.specs.declared.Class.the-variants.{Mode, Side}
 use Rattle.fields.specs.declared.Field.{Field}
 
 -- n and w stand for a number, t, a, z and u for a quoted text, s for a number with or without sign, m and j for one letter (mode,

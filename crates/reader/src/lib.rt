@@ -1,12 +1,12 @@
 // A thin reader of a command's line.
 //
-// Paper 01: "One call reads one command at the front of the input." A `Reader` holds the line and a place in it, and `field` reads what a letter of
+// Paper 01: "One call reads one command at the front of the input". A `Reader` holds the line and a place in it, and `field` reads what a letter of
 // the grammar stands for at its place. The work is done by `field_at`, on slice and number, which knows nothing of a reader. What is written
 // over a `Reader` is proved by hand, so it is little: `read_field` has plain parameters, stands a reader at the place and reads with it, and
 // whoever reads the fields of a line calls `read_field`.
 ghost use mathlib.Core.Path.{_≡_};
 ghost use Rattle.reader.specs.Letters.{fieldAt};
-use fields::Class;
+use classes::Class;
 use fields::Field;
 
 pub struct Reader<'a> {
@@ -19,17 +19,17 @@ fn field_at(line: &[u8], f: u8, at: usize) -> Field
     ensures { λ r. ⌜ r ≡ fieldAt f (now (line .entry)) at ⌝ }
 {
     match f {
-        b'n' => fields::number(line, at),
-        b'w' => fields::number(line, at),
+        b'n' => numbers::number(line, at),
+        b'w' => numbers::number(line, at),
         b't' => fields::text(line, at),
         b'a' => fields::text(line, at),
         b'z' => fields::text(line, at),
         b'u' => fields::text(line, at),
-        b's' => fields::signed(line, at),
+        b's' => numbers::signed(line, at),
         b'm' => fields::letter(line, Class::Mode, at),
         b'j' => fields::letter(line, Class::Side, at),
         b'k' => fields::bar_type(line, at),
-        b'd' => fields::data_form(line, at),
+        b'd' => data_field::data_form(line, at),
         _ => fields::literal(line, f, at),
     }
 }

@@ -6,7 +6,7 @@ use Prim.Native.Nat.{ℕ, _%_, _≤_}
 use lib.ListN.{length}
 use lib.Dec.{eqb, ltb}
 use borrow.Author.Tests.{ltb-false}
-use Rattle.session.specs.Lent.{World, wrongLent, pageWrong, storeWrong, directoryWrong, valuesWrong, lengthsWrong}
+use Rattle.lent.specs.Lent.{World, wrongLent, pageWrong, storeWrong, directoryWrong, valuesWrong, lengthsWrong}
 use Rattle.results.proofs.Answers.{or-none}
 
 pub directory-bound : (b s l d v : ℕ) → lengthsWrong b s l d v ≡ false → d ≤ 8192

@@ -5,14 +5,14 @@ use mathlib.Core.Bool.{Bool, true, false, not, cond}
 use mathlib.Core.List.{List, []}
 use Prim.Native.Nat.{ℕ}
 use borrow.Author.Tests.{not-true, not-false}
-use Rattle.values.specs.Stored.{unset}
-use Rattle.store.specs.declared.Found.{Found}
-use Rattle.store.specs.declared.Found.the-variants.{At, Nothing}
-use Rattle.moves.specs.Memory.{Memory}
+use Rattle.stored_values.specs.Stored.{unset}
+use Rattle.finding.specs.declared.Found.{Found}
+use Rattle.finding.specs.declared.Found.the-variants.{At, Nothing}
+use Rattle.memory.specs.Memory.{Memory}
 use Rattle.session.specs.declared.Session.{Session}
-use Rattle.session.specs.declared.answers.Answer.{Answer}
-use Rattle.session.specs.Answers.{isTaken}
-use Rattle.session.specs.Lent.{World, world}
+use Rattle.answers.specs.declared.Answer.{Answer}
+use Rattle.answers.specs.Answers.{isTaken}
+use Rattle.lent.specs.Lent.{World, world}
 use Rattle.results.specs.declared.Done.{Done}
 use Rattle.results.specs.World.{unsetIn}
 use Rattle.results.specs.Result.{done, Ran, ran}

@@ -3,15 +3,15 @@
 use Prim.Native.Nat.{ℕ}
 use mathlib.Core.Bool.{Bool, not, _&&_}
 use mathlib.Core.List.{List}
-use Rattle.store.specs.declared.Found.{Found}
-use Rattle.store.specs.declared.Found.the-variants.{At, Nothing}
-use Rattle.store.specs.Find.{titledAt}
-use Rattle.moves.specs.Erase.{erasedAt, erasedAll}
-use Rattle.read.specs.declared.Named.{Named}
+use Rattle.finding.specs.declared.Found.{Found}
+use Rattle.finding.specs.declared.Found.the-variants.{At, Nothing}
+use Rattle.finding.specs.Find.{titledAt}
+use Rattle.erasing.specs.Erase.{erasedAt, erasedAll}
+use Rattle.grammar.specs.declared.Named.{Named}
 use Rattle.parts.specs.Names.{packedOf}
-use Rattle.forms.specs.Form.{isAt}
+use Rattle.recording.specs.Judged.{isAt}
 use Rattle.session.specs.Session.{noForm}
-use Rattle.session.specs.Lent.{World}
+use Rattle.lent.specs.Lent.{World}
 use Rattle.results.specs.World.{memoryOf, withMemory}
 use Rattle.results.specs.Result.{sixteenBits}
 

@@ -6,10 +6,10 @@ use mathlib.Core.List.{List}
 use lib.ListN.{length}
 use lib.Seq.{sets}
 use Rattle.session.specs.declared.Session.{Session}
-use Rattle.session.specs.declared.answers.Answer.{Answer}
-use Rattle.session.specs.declared.answers.Answer.the-variants.{Taken}
-use Rattle.session.specs.Answers.{isTaken}
-use Rattle.session.specs.Lent.{World}
+use Rattle.answers.specs.declared.Answer.{Answer}
+use Rattle.answers.specs.declared.Answer.the-variants.{Taken}
+use Rattle.answers.specs.Answers.{isTaken}
+use Rattle.lent.specs.Lent.{World}
 use Rattle.results.specs.declared.Done.{Done}
 use Rattle.results.specs.World.{State}
 

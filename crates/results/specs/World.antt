@@ -2,12 +2,12 @@
 -- Assumes nothing.
 use Prim.Native.Nat.{ℕ}
 use mathlib.Core.List.{List}
-use Rattle.values.specs.Stored.{unset}
-use Rattle.store.specs.Content.{content}
-use Rattle.moves.specs.Memory.{Memory, memory}
+use Rattle.stored_values.specs.Stored.{unset}
+use Rattle.contents.specs.Content.{content}
+use Rattle.memory.specs.Memory.{Memory, memory}
 use Rattle.session.specs.declared.Session.{Session}
 use Rattle.session.specs.Session.{noForm, activated}
-use Rattle.session.specs.Lent.{World, world}
+use Rattle.lent.specs.Lent.{World, world}
 
 -- the session and the lent lists together
 pub record State : Type 0 where

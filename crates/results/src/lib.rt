@@ -4,13 +4,13 @@
 // after it and how many bytes it wrote. A name that a command gives is looked up here, in the one directory of forms and pictures. A number that goes
 // into a session is cut to its 16 bits by one function for every number, so that no caller is asked for anything; within its limits it stays as it is.
 ghost use mathlib.Core.Path.{_≡_};
-ghost use Rattle.values.specs.Stored.{unset};
-ghost use Rattle.session.specs.declared.answers.Answer.the-variants.{Taken};
+ghost use Rattle.stored_values.specs.Stored.{unset};
+ghost use Rattle.answers.specs.declared.Answer.the-variants.{Taken};
 ghost use Rattle.session.specs.Session.{activated};
 ghost use Rattle.results.specs.Result.{done, sixteenBits};
-use session::Answer;
+use answers::Answer;
 use session::Session;
-use values::stored::unset_all;
+use stored_values::unset_all;
 
 pub mod names; // entries by name
 

@@ -2,16 +2,16 @@
 ghost use mathlib.Core.Path.{_≡_};
 ghost use mathlib.Core.Bool.{not, _&&_};
 ghost use mathlib.Core.List.{[]};
-ghost use Rattle.store.specs.Find.{titledAt};
+ghost use Rattle.finding.specs.Find.{titledAt};
 ghost use Rattle.parts.specs.Names.{packedOf};
-ghost use Rattle.forms.specs.Form.{isAt};
-ghost use Rattle.session.specs.Lent.{world};
+ghost use Rattle.recording.specs.Judged.{isAt};
+ghost use Rattle.lent.specs.Lent.{world};
 ghost use Rattle.results.specs.Named.{placeOf, erasedNamed};
 use crate::sixteen_bits;
+use finding::Found;
+use grammar::Named;
 use parts::packed;
-use read::Named;
 use session::NO_FORM;
-use store::Found;
 
 pub fn is_at(found: Found) -> bool
     ensures { λ r. ⌜ r ≡ isAt found ⌝ }
@@ -29,7 +29,7 @@ pub fn entry_of(directory: &[u8], picture: bool, line: &[u8], n: Named) -> Found
     let at = n.at;
     let length = n.length;
     let title = packed(line, at, length);
-    store::find(directory, picture, title)
+    finding::find(directory, picture, title)
 }
 
 // [11]: no entry has the name, and it is not the star that means all.
@@ -56,7 +56,7 @@ pub fn erase_found(store: &mut [u8], links: &mut [u16], directory: &mut [u8], fo
 {
     match found {
         Found::At(i) => {
-            moves::erase(store, links, directory, i);
+            erasing::erase(store, links, directory, i);
         }
         Found::Nothing => {}
     }

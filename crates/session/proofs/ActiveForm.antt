@@ -5,14 +5,16 @@ use mathlib.Core.Bool.{Bool, true}
 use mathlib.Core.List.{List, []}
 use Prim.Native.Nat.{ℕ}
 use borrow.Author.Tests.{eq-eqb, ne-eqb}
-use Rattle.store.specs.Content.{content}
-use Rattle.values.specs.declared.declarations.Declared.{Declared}
-use Rattle.values.specs.Declarations.{nothing}
+use Rattle.contents.specs.Content.{content}
+use Rattle.declarations.specs.declared.Declared.{Declared}
+use Rattle.declarations.specs.Declarations.{nothing}
 use Rattle.forms.specs.Form.{declaredOf, picturesStored}
-use Rattle.forms.specs.Draw.{Setting, formDrawn}
+use Rattle.item_drawing.specs.Draw.{Setting}
+use Rattle.form_drawing.specs.Draw.{formDrawn}
 use Rattle.session.specs.Session.{noForm}
 use Rattle.session.specs.Active.{activeBytes}
-use Rattle.forms.proofs.Growing.{declaredOf-empty, picturesStored-empty, formDrawn-empty}
+use Rattle.forms.proofs.Growing.{declaredOf-empty, picturesStored-empty}
+use Rattle.form_drawing.proofs.Running.{formDrawn-empty}
 
 module _ (store links directory : List ℕ) (active : ℕ) where
   bytes-none : active ≡ noForm → activeBytes store links directory active ≡ []

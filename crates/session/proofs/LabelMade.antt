@@ -4,13 +4,14 @@ use mathlib.Core.Path.{_≡_, sym, ap, _∙_}
 use mathlib.Core.List.{List}
 use Prim.Native.Nat.{ℕ}
 use lib.ListN.{length}
-use Rattle.dots.specs.Whole.{copied}
-use Rattle.dots.proofs.WholePages.{copied-same}
-use Rattle.values.specs.declared.declarations.Declared.{Declared}
-use Rattle.forms.specs.Draw.{setting, formDrawn}
+use Rattle.pages.specs.Pages.{copied}
+use Rattle.pages.proofs.WholePages.{copied-same}
+use Rattle.declarations.specs.declared.Declared.{Declared}
+use Rattle.item_drawing.specs.Draw.{setting}
+use Rattle.form_drawing.specs.Draw.{formDrawn}
 use Rattle.session.specs.declared.Session.{Session}
 use Rattle.session.specs.Session.{moved, counted}
-use Rattle.session.specs.Lent.{World}
+use Rattle.lent.specs.Lent.{World}
 use Rattle.session.specs.Active.{activeOf, activeDeclared}
 use Rattle.session.specs.Label.{turnedBy, labelOn, labelPage, labelSession, printed, printedOn}
 

@@ -1,4 +1,2 @@
-pub mod Rows
-pub mod Lengths
 pub mod ActiveForm
 pub mod LabelMade

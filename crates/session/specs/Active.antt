@@ -4,12 +4,12 @@ use Prim.Native.Nat.{ℕ}
 use mathlib.Core.Bool.{cond}
 use mathlib.Core.List.{List, []}
 use lib.Dec.{eqb}
-use Rattle.store.specs.Content.{content}
-use Rattle.values.specs.declared.declarations.Declared.{Declared}
+use Rattle.contents.specs.Content.{content}
+use Rattle.declarations.specs.declared.Declared.{Declared}
 use Rattle.forms.specs.Form.{declaredOf}
 use Rattle.session.specs.declared.Session.{Session}
 use Rattle.session.specs.Session.{noForm}
-use Rattle.session.specs.Lent.{World}
+use Rattle.lent.specs.Lent.{World}
 
 -- the bytes of the active form; none without one
 unfoldable pub activeBytes : List ℕ → List ℕ → List ℕ → ℕ → List ℕ

@@ -4,11 +4,15 @@ use Prim.Native.Nat.{ℕ}
 use mathlib.Core.Bool.{cond}
 use mathlib.Core.List.{List}
 use lib.Dec.{eqb}
-use Rattle.dots.specs.Whole.{copied, turned}
-use Rattle.forms.specs.Draw.{setting, formDrawn}
+use Rattle.pages.specs.Pages.{copied}
+use Rattle.half_turn.specs.Turn.{turned}
+use Rattle.item_drawing.specs.Draw.{setting}
+use Rattle.form_drawing.specs.Draw.{formDrawn}
+use Rattle.answers.specs.declared.Answer.{Answer}
 use Rattle.session.specs.declared.Session.{Session}
+use Rattle.session.specs.declared.Labelled.{Labelled}
 use Rattle.session.specs.Session.{moved, counted}
-use Rattle.session.specs.Lent.{World}
+use Rattle.lent.specs.Lent.{World}
 use Rattle.session.specs.Active.{activeOf, activeDeclared}
 
 -- "turns the page": with ZB
@@ -40,3 +44,7 @@ printed s page = record { session = s; page = page }
 -- a label drawn on a page of any length: where it is not the background's, bytes beyond the shorter stay
 unfoldable pub printedOn : List ℕ → Session → World → List ℕ → Printed
 printedOn font s w page = printed (labelSession s w) (labelOn font s w (copied page (w .background)))
+
+-- what opening and a label call answer
+abbrev pub labelled : Answer → Session → Labelled
+labelled a s = record { answer = a; session = s }

@@ -4,9 +4,9 @@ use Prim.Native.Nat.{ℕ, _+_, _-_}
 use mathlib.Core.Bool.{cond, _||_}
 use mathlib.Core.List.{[], _∷_}
 use lib.Dec.{eqb}
-use Rattle.values.specs.declared.declarations.Declared.{Declared}
-use Rattle.values.specs.declared.counters.Counters.{Counters}
-use Rattle.values.specs.Counters.{movedAll}
+use Rattle.declarations.specs.declared.Declared.{Declared}
+use Rattle.counters.specs.declared.Counters.{Counters}
+use Rattle.counters.specs.Counters.{movedAll}
 use Rattle.session.specs.declared.Session.{Session}
 
 -- "width 80 to 608"

@@ -3,7 +3,7 @@ ghost use mathlib.Core.Path.{_≡_};
 ghost use Rattle.forms.specs.Form.{declaredOf, picturesStored};
 ghost use Rattle.session.specs.Active.{activeBytes};
 use crate::NO_FORM;
-use values::Declared;
+use declarations::Declared;
 
 // Nothing without one.
 pub fn active_declared(store: &[u8], links: &[u16], directory: &[u8], active: u16) -> Declared

@@ -1,9 +1,10 @@
 // "A label call copies the background, runs the active form from the session's origin, turns the page, moves counters, and counts one drawn."
 ghost use mathlib.Core.Path.{_≡_};
-ghost use Rattle.forms.specs.Draw.{setting, formDrawn};
+ghost use Rattle.item_drawing.specs.Draw.{setting};
+ghost use Rattle.form_drawing.specs.Draw.{formDrawn};
+ghost use Rattle.lent.specs.Lent.{world};
 ghost use Rattle.session.specs.Active.{activeBytes};
 ghost use Rattle.session.specs.Label.{turnedBy, printed, printedOn};
-ghost use Rattle.session.specs.Lent.{world};
 use crate::NO_FORM;
 use crate::Session;
 use crate::active::active_declared;
@@ -31,7 +32,7 @@ impl Session {
         let x = self.x as usize;
         let y = self.y as usize;
         let i = active as usize;
-        forms::draw_form(
+        form_drawing::draw_form(
             page,
             font,
             store,
@@ -55,7 +56,7 @@ impl Session {
         let width = self.width as usize;
         let length = self.length as usize;
         if turn == 1 {
-            dots::turn(page, width, length);
+            half_turn::turn(page, width, length);
         }
     }
 
@@ -72,7 +73,7 @@ impl Session {
     ) -> Session
         ensures { λ r. ⌜ printed r (now (page .exit)) ≡ printedOn (now (font .entry)) self (world (now (background .entry)) (now (store .entry)) (now (links .entry)) (now (directory .entry)) (now (values .entry))) (now (page .entry)) ⌝ }
     {
-        dots::copy(page, background);
+        pages::copy(page, background);
         self.draw_active(font, page, store, links, directory, values);
         self.turn_page(page);
         let active = self.active;

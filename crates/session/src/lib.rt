@@ -1,26 +1,20 @@
-// The session, and the numbers of answers.
+// The session, and its methods.
 //
 // Paper 01, "What is lent": "The session holds width, length, turn, origin, counters with set or unset (then 0), active form, labels owed
 // and drawn." It is plain unsigned numbers by value, so that any bytes are some session and sound alone judges it; what changes it is a
-// method that takes the session and hands the next one back: the origin replaced, the counters moved, a label drawn (`labels`). The table of
-// answers is an enum whose numbers stand in one definition. Whether a session is sound with the memory beside it is left to crate `sound`, and when
-// a method is called to crate `station`.
+// method that takes the session and hands the next one back: the origin replaced, the counters moved, a label drawn (`labels`).
+// Whether a session is sound with the memory beside it is left to crate `sound`, and when a method is called to crate `station`.
 ghost use mathlib.Core.Path.{_≡_};
 ghost use Rattle.session.specs.Session.{fresh, none, blank, sized, turning, based, activated, counting, owing, moved, counted};
-use values::Counters;
-use values::Declared;
+use answers::Answer;
+use counters::Counters;
+use declarations::Declared;
 
 mod active; // the active form
-pub mod answers; // the table's answers
 mod labels; // one label drawn
-mod lent; // what is lent
 
 pub use active::active_declared;
 pub use active::active_pictures;
-pub use answers::Answer;
-pub use answers::Labelled;
-pub use lent::BYTES_OF_VALUES;
-pub use lent::lengths_wrong;
 
 // "width 80 to 608", "origin 0..2048, 0..4096".
 pub const LEAST_WIDTH: u16 = 80;
@@ -48,6 +42,12 @@ pub struct Session {
     pub owed: u16,
     pub drawn: u16,
     pub counters: Counters,
+}
+
+// What opening and a label call answer.
+pub struct Labelled {
+    pub answer: Answer,
+    pub session: Session,
 }
 
 // No counter is set.
@@ -160,7 +160,7 @@ impl Session {
         ensures { λ r. ⌜ r ≡ moved self declared ⌝ }
     {
         let counters = self.counters;
-        self.counting(values::counters::move_all(declared, counters))
+        self.counting(counters::move_all(declared, counters))
     }
 
     // "and counts one drawn": one is taken from owed. With none owed, or 65,535 drawn, neither number moves.

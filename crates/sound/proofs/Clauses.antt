@@ -1,40 +1,10 @@
 -- A chain of tests: one that fails decides, one that passes leaves it to the rest.
 use mathlib.Core.Path.{_≡_, sym, _∙_}
-use mathlib.Core.Bool.{Bool, true, false, not, _&&_, _||_}
-use mathlib.Core.List.{List}
-use Prim.Native.Nat.{ℕ, _+_}
-use lib.Dec.{eqb, leb}
-use borrow.Author.Tests.{eq-eqb, ne-eqb, not-true, not-false}
-use Rattle.values.specs.declared.declarations.Declared.{Declared}
-use Rattle.values.specs.Stored.{valuesSound}
-use Rattle.forms.specs.Form.{declaredOf}
-use Rattle.session.specs.declared.Session.{Session}
-use Rattle.sound.specs.Sound.{activeOk, owedWith, owedOk, activitySound}
+use mathlib.Core.Bool.{Bool, true, false, not, _&&_}
+use borrow.Author.Tests.{not-true, not-false}
 
 pub stop : (a b r : Bool) → r ≡ a → not r ≡ true → false ≡ (a && b)
 stop a b r e t = rw (sym e ∙ not-true r t)
 
 pub skip : (a b r x : Bool) → r ≡ a → not r ≡ false → x ≡ b → x ≡ (a && b)
 skip a b r x e t h = h ∙ rw (sym e ∙ not-false r t)
-
--- ---- labels owed
-
-pub owed-none : (n : ℕ) (b : Bool) → n ≡ 0 → true ≡ (eqb n 0 || b)
-owed-none n b e = rw (eq-eqb n 0 e)
-
-pub owed-recording : (n : ℕ) (t r b : Bool) → (n ≡ 0 → ⊥) → r ≡ t → r ≡ true → false ≡ (eqb n 0 || (not t && b))
-owed-recording n t r b z e h = rw (ne-eqb n 0 z, sym e ∙ h)
-
-pub owed-rest : (n : ℕ) (t r a p a′ p′ q : Bool) → (n ≡ 0 → ⊥) → r ≡ t → r ≡ false → a′ ≡ a → p′ ≡ p → q ≡ (a′ && p′)
-    → q ≡ (eqb n 0 || (not t && (a && p)))
-owed-rest n t r a p a′ p′ q z e h ea ep eq = eq ∙ rw (ne-eqb n 0 z, sym e ∙ h, ea, ep)
-
--- ---- the active form and the labels owed
-
-pub activity-is : (s : Session) (directory bytes values : List ℕ) (d : Declared) (a f n o b₁ b₂ r : Bool) → d ≡ declaredOf bytes
-    → a ≡ activeOk directory (s .active) → f ≡ valuesSound d values (s .counters) → n ≡ leb (s .owed + s .drawn) 65535
-    → o ≡ owedWith d (s .owed) directory bytes values (s .counters)
-    → b₁ ≡ (n && o) → b₂ ≡ (f && b₁) → r ≡ (a && b₂) → r ≡ activitySound s directory bytes values
-unfolding activitySound owedOk
-activity-is s directory bytes values d a f n o b₁ b₂ r ed ea ef en eo e₁ e₂ e =
-    e ∙ rw (e₂, e₁, ea, ef, en, eo, ed)

@@ -7,10 +7,10 @@ use Prim.Native.Nat.{ℕ}
 use borrow.Author.Tests.{not-true, not-false}
 use Rattle.font.specs.Rules.{legal}
 use Rattle.session.specs.declared.Session.{Session}
-use Rattle.session.specs.declared.answers.Answer.{Answer}
-use Rattle.session.specs.declared.answers.Answer.the-variants.{Lengths, Font, Unsound}
-use Rattle.session.specs.Answers.{Row, row, answerOf, isTaken, numberOf}
-use Rattle.session.specs.Lent.{World}
+use Rattle.answers.specs.declared.Answer.{Answer}
+use Rattle.answers.specs.declared.Answer.the-variants.{Lengths, Font, Unsound}
+use Rattle.answers.specs.Answers.{Row, row, answerOf, isTaken, numberOf}
+use Rattle.lent.specs.Lent.{World}
 use Rattle.sound.specs.Sound.{sound}
 use Rattle.sound.specs.Entry.{entryRows}
 

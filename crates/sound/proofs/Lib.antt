@@ -1,4 +1,2 @@
-pub mod Active
-pub mod Entries
 pub mod Clauses
 pub mod EntryRows

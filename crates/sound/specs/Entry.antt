@@ -5,9 +5,9 @@ use mathlib.Core.Bool.{Bool, not}
 use mathlib.Core.List.{List, _∷_}
 use Rattle.font.specs.Rules.{legal as legalFont}
 use Rattle.session.specs.declared.Session.{Session}
-use Rattle.session.specs.declared.answers.Answer.the-variants.{Lengths, Font, Unsound}
-use Rattle.session.specs.Answers.{Row, row}
-use Rattle.session.specs.Lent.{World}
+use Rattle.answers.specs.declared.Answer.the-variants.{Lengths, Font, Unsound}
+use Rattle.answers.specs.Answers.{Row, row}
+use Rattle.lent.specs.Lent.{World}
 use Rattle.sound.specs.Sound.{sound}
 
 -- [1] "a lent length is wrong", [2] "the font breaks its rules", "checked by every read and label call", [3] "not sound"; then the call's own rows

@@ -1,11 +1,11 @@
 // What every read and label call checks first: [1] the lengths (wrong, or not), [2] the font, [3] sound.
 ghost use mathlib.Core.Path.{_≡_};
 ghost use mathlib.Core.List.{[]};
-ghost use Rattle.session.specs.Answers.{answerOf};
-ghost use Rattle.session.specs.Lent.{world};
+ghost use Rattle.answers.specs.Answers.{answerOf};
+ghost use Rattle.lent.specs.Lent.{world};
 ghost use Rattle.sound.specs.Entry.{entryRows};
 use crate::is_sound;
-use session::Answer;
+use answers::Answer;
 use session::Session;
 
 pub fn entry_answer(

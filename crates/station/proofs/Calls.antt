@@ -1,49 +1,48 @@
 -- A command call: the ways it ends.
 -- Assumes nothing.
-use mathlib.Core.Path.{_≡_, refl, sym, ap, _∙_, subst}
-use mathlib.Core.Bool.{Bool, true, false, not, cond, _&&_, _||_, true≢false}
+use mathlib.Core.Path.{_≡_, refl, sym, ap, _∙_}
+use mathlib.Core.Bool.{Bool, true, false, not, cond, _&&_, true≢false}
 use mathlib.Core.List.{List, [], _∷_}
-use Prim.Native.Nat.{ℕ, _+_, _≤_, _<_}
-use native.Mathlib.Omega.{arith}
-use lib.ListN.{length, getD, take, length-take}
-use lib.Dec.{eqb, ltb, leb}
+use Prim.Native.Nat.{ℕ, _<_}
+use lib.ListN.{length}
+use lib.Dec.{leb}
 use lib.Seq.{sets}
-use borrow.Author.Tests.{not-true, ltb-true, le-ltb}
-use Rattle.fields.specs.Bytes.{run}
-use Rattle.fields.specs.declared.Class.the-variants.{Inside}
-use Rattle.store.specs.declared.Found.{Found}
-use Rattle.store.specs.declared.Found.the-variants.{At, Nothing}
-use Rattle.store.specs.Find.{recorded}
-use Rattle.read.specs.declared.Command.{Command}
-use Rattle.read.specs.declared.Command.the-variants.{Item as item, End, Page, Forms, Pictures, Values, Listing}
-use Rattle.read.specs.declared.FormCommand.the-variants.{Start, Retrieve, Erase as EraseForm}
-use Rattle.read.specs.declared.PictureCommand.the-variants.{Store, Erase as ErasePicture}
-use Rattle.read.specs.declared.ValueCommand.the-variants.{Variable as EnterVariable, Counter as EnterCounter, Clear, Print}
-use Rattle.read.specs.declared.ListingCommand.the-variants.{Forms as ListForms, Pictures as ListPictures, Form as ListForm}
+use borrow.Author.Tests.{not-true}
+use Rattle.finding.specs.declared.Found.{Found}
+use Rattle.finding.specs.declared.Found.the-variants.{At, Nothing}
+use Rattle.finding.specs.Find.{recorded}
+use Rattle.grammar.specs.declared.Command.{Command}
+use Rattle.grammar.specs.declared.Command.the-variants.{Item as item, End, Page, Forms, Pictures, Values, Listing}
+use Rattle.grammar.specs.declared.FormCommand.the-variants.{Start, Retrieve, Erase as EraseForm}
+use Rattle.grammar.specs.declared.PictureCommand.the-variants.{Store, Erase as ErasePicture}
+use Rattle.grammar.specs.declared.ValueCommand.the-variants.{Variable as EnterVariable, Counter as EnterCounter, Clear, Print}
+use Rattle.grammar.specs.declared.ListingCommand.the-variants.{Forms as ListForms, Pictures as ListPictures, Form as ListForm}
 use Rattle.read.specs.declared.Fault.the-variants.{Form as form, Limit}
 use Rattle.read.specs.declared.Read.{Read}
 use Rattle.read.specs.declared.Read.the-variants.{Taken as Reads, Refused}
-use Rattle.read.specs.declared.Front.{Front}
-use Rattle.read.specs.declared.Front.the-variants.{Short, Long as LongLine, Idle, Line}
+use Rattle.front.specs.declared.Front.{Front}
+use Rattle.front.specs.declared.Front.the-variants.{Short, Long as LongLine, Idle, Line}
 use Rattle.read.specs.Commands.{readOf}
-use Rattle.read.specs.Front.{frontOf, lineFront, asked}
+use Rattle.front.specs.Front.{frontOf}
 use Rattle.font.specs.Rules.{legal}
 use Rattle.sound.specs.Sound.{sound}
 use Rattle.session.specs.declared.Session.{Session}
-use Rattle.session.specs.declared.answers.Answer.{Answer}
-use Rattle.session.specs.declared.answers.Answer.the-variants.{Taken}
-use Rattle.session.specs.Answers.{Row, row, answerOf, isTaken, numberOf}
-use Rattle.session.specs.Lent.{World, rowsOf, wrongLent}
+use Rattle.answers.specs.declared.Answer.{Answer}
+use Rattle.answers.specs.declared.Answer.the-variants.{Taken}
+use Rattle.answers.specs.Answers.{Row, row, answerOf, isTaken, numberOf}
+use Rattle.lent.specs.Lent.{World, rowsOf, wrongLent}
 use Rattle.results.specs.World.{State}
 use Rattle.results.specs.Result.{done, ran, ranBy}
 use Rattle.commands.specs.Rows.{recordRows, runRows, placedRows, lineRows}
 use Rattle.commands.specs.Does.{doesLine, listsLine}
 use Rattle.commands.specs.Running.{lineBy}
 use Rattle.commands.proofs.Ends.{line-read}
-use Rattle.station.specs.declared.Outcome.{Outcome}
-use Rattle.station.specs.Outcomes.{After, after, outcome}
-use Rattle.station.specs.Table.{entryRows, frontAnswer, frontRead, isLine, lineIn, frontRows, commandTable, lineOf, moreOf}
-use Rattle.station.specs.Station.{readBy, doesFront, listsFront, accepted, refused, readAs, commanded}
+use Rattle.calls.specs.declared.Outcome.{Outcome}
+use Rattle.calls.specs.Outcomes.{After, after, outcome}
+use Rattle.unread.specs.Front.{lineOf, moreOf, frontAnswer, frontRead, readBy, isLine, lineIn}
+use Rattle.unread.proofs.Lengths.{line-is, line-short, line-least}
+use Rattle.calls.specs.Table.{entryRows, frontRows, commandTable}
+use Rattle.calls.specs.Station.{doesFront, listsFront, accepted, refused, readAs, commanded}
 use Rattle.sound.proofs.EntryRows.{checked, entry-passed, entry-right}
 
 -- ---- a command call that ends there
@@ -100,12 +99,6 @@ front-other s font w output input Short e = refl
 front-other s font w output input (LongLine k) e = refl
 front-other s font w output input (Idle k) e = refl
 front-other s font w output input (Line n k) e = absurd (true≢false e)
-
-line-is : (f : Front) → isLine f ≡ true → f ≡ Line (lineIn f) (frontRead f)
-line-is Short e = absurd (true≢false (sym e))
-line-is (LongLine k) e = absurd (true≢false (sym e))
-line-is (Idle k) e = absurd (true≢false (sym e))
-line-is (Line n k) e = refl
 
 -- ---- a line: no answer from 6 on is one of 1 to 4
 
@@ -189,36 +182,6 @@ line-call s font w o line more k r a e =
     line-choice (isTaken a) (leb 1 (numberOf a) && leb (numberOf a) 4) a s w o k (doesLine font w s line more r) (listsLine w line r)
     (ap late e ∙ late-answer (lineRows w s line more (length o) r) (late-line w s line more (length o) r))
 
--- ---- "A line is up to 255 bytes"
-
-line-front : (b c : Bool) (n k : ℕ) → n < 256 → lineIn (cond b (Idle (n + 1)) (cond c (Line n k) Short)) < 256
-line-front true c n k h = omega arith
-line-front false true n k h = h
-line-front false false n k h = omega arith
-
-front-length : (s : List ℕ) (n : ℕ) → n < 256 → lineIn (lineFront s n) < 256
-unfolding lineFront
-front-length s n h =
-    line-front (eqb n 0 || eqb (getD s 0 0) 59) (leb (n + 1 + asked (take n s)) (length s)) n (n + 1 + asked (take n s)) h
-
-front-cases : (s : List ℕ) (a b c : Bool) (n k m : ℕ) → (b ≡ true → n < 256) → lineIn (cond a (cond b (lineFront s n) (LongLine k)) (cond c Short (LongLine m))) < 256
-front-cases s true true c n k m h = front-length s n (h refl)
-front-cases s true false c n k m h = omega arith
-front-cases s false b true n k m h = omega arith
-front-cases s false b false n k m h = omega arith
-
-front-least : (s : List ℕ) → lineIn (frontOf s) < 256
-unfolding frontOf
-front-least s =
-    front-cases s (ltb (run Inside s) (length s)) (ltb (run Inside s) 256) (ltb (length s) 256) (run Inside s) (run Inside s + 1) (length s)
-    (ltb-true (run Inside s) 256)
-
-line-short : (s : List ℕ) (n k : ℕ) → frontOf s ≡ Line n k → n < 256
-line-short s n k e = subst (λ (f : Front). lineIn f < 256) e (front-least s)
-
-line-least : (s : List ℕ) (n : ℕ) → n < 256 → ltb 255 (length (lineOf s n)) ≡ false
-line-least s n h = let z : length (take n s) ≤ n = omega (arith, length-take n s) in le-ltb 255 (length (take n s)) (omega (arith, z, h))
-
 front-line :
     (s : Session) (font : List ℕ) (w : World) (output input : List ℕ) (n k : ℕ) → wrongLent w ≡ false → n < 256 →
     fronted s font w output input (Line n k) ≡ readAs k (lineBy font w s (lineOf input n) (moreOf input n k) output)
@@ -227,10 +190,6 @@ front-line s font w output input n k h l =
     (answerOf (lineRows w s (lineOf input n) (moreOf input n k) (length output) (readOf (rowsOf w) (lineOf input n)))) refl
     ∙ ap (readAs k)
     (line-read font w s (lineOf input n) (moreOf input n k) output (readOf (rowsOf w) (lineOf input n)) h (line-least input n l) refl)
-
--- a line's length as the code has it
-pub line-fits : (s : List ℕ) (f : Front) (n : ℕ) → f ≡ frontOf s → n ≡ lineIn f → n < 256
-line-fits s f n e h = subst (λ (k : ℕ). k < 256) (sym (h ∙ ap lineIn e)) (front-least s)
 
 -- ---- a command call that passes the checks, from its own steps to `commanded`
 

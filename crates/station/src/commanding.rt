@@ -1,70 +1,25 @@
 // "One call reads one command at the front of the input and hands back the unread rest as a part of that input."
 ghost use mathlib.Core.Path.{_≡_};
-ghost use Prim.Native.Nat.{_<_};
 ghost use mathlib.Core.List.{[]};
-ghost use lib.ListN.{drop};
-ghost use Rattle.session.specs.Answers.{answerOf};
-ghost use Rattle.session.specs.Lent.{world, wrongLent};
+ghost use Rattle.answers.specs.Answers.{answerOf};
+ghost use Rattle.lent.specs.Lent.{world, wrongLent};
 ghost use Rattle.commands.specs.Running.{lineBy};
-ghost use Rattle.station.specs.Outcomes.{after, outcome};
-ghost use Rattle.station.specs.Table.{entryRows, lineOf, moreOf, frontAnswer, frontRead, isLine, lineIn};
-ghost use Rattle.station.specs.Station.{readBy, readAs, commanded};
-use crate::Outcome;
-use ground::both;
-use ground::less;
+ghost use Rattle.unread.specs.Front.{lineOf, moreOf};
+ghost use Rattle.calls.specs.Outcomes.{after, outcome};
+ghost use Rattle.calls.specs.Table.{entryRows};
+ghost use Rattle.calls.specs.Station.{readAs, commanded};
+use answers::Answer;
+use answers::is_taken;
+use calls::Outcome;
 use parts::first;
-use read::Front;
 use results::Done;
-use session::Answer;
 use session::Session;
-use session::answers::is_taken;
-use session::answers::number;
 use sound::entry_answer;
-
-// The front of an input, case by case: the answer that the paper gives there, the bytes it takes, and the line that is to be run.
-fn front_answer(f: Front) -> Answer
-    ensures { λ r. ⌜ r ≡ frontAnswer f ⌝ }
-{
-    match f {
-        Front::Short => Answer::Unended,
-        Front::Long(_) => Answer::Long,
-        Front::Idle(_) => Answer::Taken,
-        Front::Line(_, _) => Answer::Taken,
-    }
-}
-
-fn front_read(f: Front) -> usize
-    ensures { λ r. ⌜ r ≡ frontRead f ⌝ }
-{
-    match f {
-        Front::Short => 0,
-        Front::Long(k) => k,
-        Front::Idle(k) => k,
-        Front::Line(_, k) => k,
-    }
-}
-
-fn is_line(f: Front) -> bool
-    ensures { λ r. ⌜ r ≡ isLine f ⌝ }
-{
-    match f {
-        Front::Short => false,
-        Front::Long(_) => false,
-        Front::Idle(_) => false,
-        Front::Line(_, _) => true,
-    }
-}
-
-fn line_in(f: Front) -> usize
-    ensures { λ r. ⌜ r ≡ lineIn f ⌝ }
-{
-    match f {
-        Front::Short => 0,
-        Front::Long(_) => 0,
-        Front::Idle(_) => 0,
-        Front::Line(n, _) => n,
-    }
-}
+use unread::front_answer;
+use unread::front_read;
+use unread::is_line;
+use unread::line_in;
+use unread::more_of;
 
 // 1, 2 and 3.
 fn first_answer(
@@ -78,7 +33,7 @@ fn first_answer(
 ) -> Answer
     ensures { λ r. ⌜ r ≡ answerOf (entryRows (wrongLent (world (now (background .entry)) (now (store .entry)) (now (links .entry)) (now (directory .entry)) (now (values .entry)))) (now (font .entry)) session (world (now (background .entry)) (now (store .entry)) (now (links .entry)) (now (directory .entry)) (now (values .entry))) []) ⌝ }
 {
-    let wrong = session::lengths_wrong(
+    let wrong = lent::lengths_wrong(
         background.len(),
         store.len(),
         links.len(),
@@ -95,14 +50,6 @@ fn first_answer(
         directory,
         values,
     )
-}
-
-// What follows a line of n bytes, up to k bytes read.
-fn more_of<'a>(input: &'a [u8], n: usize, k: usize) -> &'a [u8]
-    requires { ⌜ n < 256 ⌝ }
-    ensures { λ r. ⌜ now r ≡ moreOf (now (input .entry)) n k ⌝ }
-{
-    first(parts::rest(input, n + 1), less(k, n + 1))
 }
 
 // A line that was run, when k bytes of the input were read.
@@ -133,7 +80,6 @@ fn on_line(
     n: usize,
     k: usize,
 ) -> Outcome
-    requires { ⌜ n < 256 ⌝ }
     ensures { λ r. ⌜ after r (world (now (background .exit)) (now (store .exit)) (now (links .exit)) (now (directory .exit)) (now (values .exit))) (now (output .exit)) ≡ readAs k (lineBy (now (font .entry)) (world (now (background .entry)) (now (store .entry)) (now (links .entry)) (now (directory .entry)) (now (values .entry))) session (lineOf (now (input .entry)) n) (moreOf (now (input .entry)) n k) (now (output .entry))) ⌝ }
 {
     let line = first(input, n);
@@ -182,7 +128,7 @@ pub fn command(
     if !is_taken(a) {
         return outcome(a, session, 0);
     }
-    let f = read::input::front(input);
+    let f = front::input::front(input);
     let read = front_read(f);
     if is_line(f) {
         return on_line(
@@ -200,23 +146,4 @@ pub fn command(
         );
     }
     outcome(front_answer(f), session, read)
-}
-
-// "Answers 1 to 4 read nothing."
-fn read_by(input: &[u8], answer: Answer) -> usize
-    ensures { λ r. ⌜ r ≡ readBy answer (now (input .entry)) ⌝ }
-{
-    let n = number(answer);
-    if both(1 <= n, n <= 4) {
-        return 0;
-    }
-    front_read(read::input::front(input))
-}
-
-// The unread rest of the input of a call that gave this answer, as a part of the caller's slice.
-pub fn rest<'a>(input: &'a [u8], answer: Answer) -> &'a [u8]
-    ensures { λ r. ⌜ now r ≡ drop (readBy answer (now (input .entry))) (now (input .entry)) ⌝ }
-{
-    let read = read_by(input, answer);
-    parts::rest(input, read)
 }

@@ -1,5 +1,1 @@
-pub mod Finding
-pub mod Naming
-pub mod Runs
-pub mod Reading
-pub mod Lines
+pub mod Chains

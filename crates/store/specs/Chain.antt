@@ -8,6 +8,10 @@ use lib.Dec.{eqb, ltb}
 use Rattle.cells.specs.Cell.{cell}
 use Rattle.cells.specs.Count.{times}
 
+-- "1 to 2,024 portions"
+abbrev pub mostPortions : ℕ
+mostPortions = 2024
+
 -- "portions of 256 bytes"; the place of a portion's last byte
 abbrev pub bytesAPortion : ℕ
 bytesAPortion = 256

@@ -2,11 +2,15 @@
 -- portion (2 bytes), size (4 bytes), low byte first. An empty entry is all zero."
 use mathlib.Core.List.{List, [], _∷_}
 use mathlib.Core.Bool.{Bool, true, false, _||_, cond}
-use Prim.Native.Nat.{ℕ, _+_, _*_, _/_}
+use Prim.Native.Nat.{ℕ, _+_, _-_, _*_, _/_, min}
 use lib.ListN.{length, getD}
 use lib.Dec.{eqb}
 use Rattle.cells.specs.Cell.{cell}
-use Rattle.store.specs.Chain.{needed}
+use Rattle.store.specs.Chain.{needed, walk}
+
+-- "1 to 512 entries"
+abbrev pub mostEntries : ℕ
+mostEntries = 512
 
 -- "entries of 16 bytes"
 abbrev pub bytesAnEntry : ℕ
@@ -36,9 +40,17 @@ first e = getD e 10 0 + 256 * getD e 11 0
 unfoldable pub size : List ℕ → ℕ
 size e = getD e 12 0 + 256 * getD e 13 0 + 65536 * getD e 14 0 + 16777216 * getD e 15 0
 
+-- "size (4 bytes)": a size that can be written is below this
+abbrev pub sizeLimit : ℕ
+sizeLimit = 4294967296
+
 -- how many portions an entry has: none if it is empty
 unfoldable pub many : List ℕ → ℕ
 many e = cond (eqb (kind e) 0) 0 (needed (size e))
+
+-- the last portion of an entry's chain; on damaged memory no more links are followed than there are
+unfoldable pub lastOf : List ℕ → List ℕ → ℕ
+lastOf links e = walk links (first e) (min (needed (size e)) (length links) - 1)
 
 -- "1 and 3 are one kind": a kind is a picture's, or a form's
 abbrev pub ofKind : Bool → ℕ → Bool

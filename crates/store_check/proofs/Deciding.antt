@@ -9,16 +9,15 @@ use lib.ListN.{length, getD, take, drop, length-drop}
 use lib.Seq.{take-nil, drop-nil, drop-drop, take-all}
 use lib.Dec.{eqb, leb}
 use lib.Bits.{bitOr, or-add-and, and-le-r}
-use borrow.Author.Tests.{eq-eqb, ne-eqb, le-leb, lt-leb, not-true, not-false, leb-true}
+use borrow.Author.Tests.{eq-eqb, ne-eqb, le-leb, lt-leb, not-true, not-false}
 use Rattle.cells.specs.Cell.{cell}
 use Rattle.cells.specs.Count.{allTo, allZero}
 use Rattle.cells.proofs.Counts.{drop-step, drop-none}
-use Rattle.store.specs.declared.Found.{Found}
-use Rattle.store.specs.Chain.{needed, portion}
-use Rattle.store.specs.Entry.{entries, entry, kind, nameLength, name, size}
-use Rattle.store.specs.Find.{titledAt, recorded}
-use Rattle.moves.specs.Grow.{lastOf}
-use Rattle.store_sound.specs.Sound.{lentOk, nameByteOk, nameOk, namedOk, isHere, uniqueOk, singleOk, emptyOk, freeOk, tailOf, tailOk}
+use Rattle.finding.specs.declared.Found.{Found}
+use Rattle.store.specs.Chain.{mostPortions, needed, portion}
+use Rattle.store.specs.Entry.{entries, entry, kind, nameLength, name, size, lastOf}
+use Rattle.finding.specs.Find.{titledAt, recorded}
+use Rattle.store_sound.specs.Sound.{lentOk, chainsOk, nameByteOk, nameOk, namedOk, isHere, uniqueOk, singleOk, emptyOk, freeOk, tailOf, tailOk}
 use Rattle.ground.proofs.Tests.{and-left, same?}
 
 -- ---- lengths
@@ -144,6 +143,7 @@ stop r a b e h = rw (sym e ∙ not-true r h)
 pub skip : (r a b x : Bool) → r ≡ a → not r ≡ false → x ≡ b → x ≡ (a && b)
 skip r a b x e h k = rw (sym e ∙ not-false r h) k
 
-pub lent-few : (st ls dir : List ℕ) → lentOk st ls dir ≡ true → length ls ≤ 2024
+-- where the lengths are right there are no more portions than may be lent, so that the answer to the chains is that of their clauses
+pub chains-lent : (st ls dir : List ℕ) {l r : Bool} → l ≡ lentOk st ls dir → not l ≡ false → r ≡ (leb (length ls) mostPortions && chainsOk ls dir) → r ≡ chainsOk ls dir
 unfolding lentOk
-lent-few st ls dir h = leb-true (length ls) 2024 (and-left (leb (length ls) 2024) _ h)
+chains-lent st ls dir {l} e h k = k ∙ rw (and-left (leb (length ls) mostPortions) _ (sym e ∙ not-false l h))

@@ -1,4 +1,1 @@
-pub mod Claiming
-pub mod Claims
-pub mod Passing
 pub mod Deciding

@@ -1,27 +1,21 @@
 // Decides the store's part of sound (paper 01), clause by clause, on any memory: each function answers exactly its Bool of `store_sound`. All but one do
-// so in one pass over what they read; names are compared with each other, entry by entry. Chains are walked by marking each portion that is met, so that
-// links that cross, run in circles or point anywhere are found at once.
+// so in one pass over what they read; names are compared with each other, entry by entry. The clauses of the chains are decided in `chain_check`.
 ghost use mathlib.Core.Path.{_≡_};
 ghost use mathlib.Core.Bool.{true, false, _&&_};
 ghost use Prim.Native.Nat.{ℕ, _≤_, _<_};
 ghost use lib.ListN.{length, getD, take, drop};
 ghost use Rattle.cells.specs.Count.{allTo, allZero, setAll};
-ghost use Rattle.store.specs.Chain.{chain};
+ghost use Rattle.store.specs.Chain.{chain, mostPortions};
 ghost use Rattle.store.specs.Entry.{entries, entry};
-ghost use Rattle.store_sound.specs.Sound.{mostPortions, lentOk, kindsOk, legalByte, nameByteOk, namedOk, namesOk, isHere, uniqueOk, uniquesOk, singleOk, singlesOk, firsts, counts, linksOk, chainsOk, emptyOk, emptiesOk, freeOk, freesOk, tailOk, tailsOk, storeSound};
-ghost use Rattle.store_check.specs.Claim.{claimOk, claimEntry, Claimed, markFits};
+ghost use Rattle.store_sound.specs.Sound.{lentOk, kindsOk, legalByte, nameByteOk, namedOk, namesOk, isHere, uniqueOk, uniquesOk, singleOk, singlesOk, firsts, counts, linksOk, chainsOk, emptyOk, emptiesOk, freeOk, freesOk, tailOk, tailsOk, storeSound};
+use finding::Found;
 use ground::both;
 use ground::least;
 use store::BYTES_A_PORTION;
 use store::BYTES_AN_ENTRY;
-use store::END_LINK;
 use store::FREE_LINK;
-use store::Found;
-
-// "1 to 2,024 portions" and "1 to 512 entries".
-const MOST_PORTIONS: usize = 2024;
-
-const MOST_ENTRIES: usize = 512;
+use store::MOST_ENTRIES;
+use store::MOST_PORTIONS;
 
 pub fn lent_ok(store: &[u8], links: &[u16], directory: &[u8]) -> bool
     ensures { λ r. ⌜ r ≡ lentOk (now (store .entry)) (now (links .entry)) (now (directory .entry)) ⌝ }
@@ -139,7 +133,7 @@ fn unique_ok(directory: &[u8], i: usize) -> bool
     }
     is_here(
         i,
-        store::find(directory, k == 2, store::name_at(directory, i)),
+        finding::find(directory, k == 2, store::name_at(directory, i)),
     )
 }
 
@@ -164,7 +158,7 @@ fn single_ok(directory: &[u8], i: usize) -> bool
     if store::kind_at(directory, i) != 3 {
         return true;
     }
-    is_here(i, store::recording(directory))
+    is_here(i, finding::recording(directory))
 }
 
 pub fn singles_ok(directory: &[u8]) -> bool
@@ -179,100 +173,6 @@ pub fn singles_ok(directory: &[u8]) -> bool
         i += 1;
     }
     true
-}
-
-// ---- chains
-
-// Walks the chain of n portions that starts at first, and marks its portions: false where it is no chain of n portions or meets a mark.
-fn claim(links: &[u16], first: usize, n: usize, marks: &mut [u8]) -> bool
-    requires { ⌜ length (now links) ≤ length (now marks) ⌝ }
-    ensures walked { λ r. ⌜ r ≡ claimOk (now (links .entry)) (now (marks .entry)) first n ⌝ }
-    ensures marked { λ r. ⌜ (r ≡ true → now (marks .exit) ≡ setAll (now (marks .entry)) (chain (now (links .entry)) first n) 1) ⌝ }
-{
-    let mut p = first;
-    let mut k = n;
-    while 0 < k {
-        if links.len() <= p {
-            return false;
-        }
-        if marks[p] != 0 {
-            return false;
-        }
-        marks[p] = 1;
-        p = links[p] as usize;
-        k -= 1;
-    }
-    p == END_LINK as usize
-}
-
-// Claims the portions of entry i, if it has any.
-fn claim_entry(links: &[u16], directory: &[u8], i: usize, marks: &mut [u8]) -> bool
-    requires { ⌜ length (now links) ≤ length (now marks) ⌝ }
-    ensures walked { λ r. ⌜ r ≡ claimEntry (now (links .entry)) (now (marks .entry)) (firsts (now (directory .entry)) i) (counts (now (directory .entry)) i) ⌝ }
-    ensures marked { λ r. ⌜ (r ≡ true → now (marks .exit) ≡ setAll (now (marks .entry)) (chain (now (links .entry)) (firsts (now (directory .entry)) i) (counts (now (directory .entry)) i)) 1) ⌝ }
-{
-    let k = moves::many_at(directory, i);
-    if k == 0 {
-        return true;
-    }
-    let f = store::first_at(directory, i);
-    claim(links, f, k, marks)
-}
-
-// Portion q is marked, or free and not marked.
-fn mark_fits(links: &[u16], marks: &[u8], q: usize) -> bool
-    requires { ⌜ (q < length (now links)) × (q < length (now marks)) ⌝ }
-    ensures { λ r. ⌜ r ≡ markFits (now (links .entry)) (now (marks .entry)) q ⌝ }
-{
-    if links[q] == FREE_LINK {
-        return marks[q] == 0;
-    }
-    marks[q] == 1
-}
-
-// Claims the portions of every entry: false only where the links are not sound.
-fn claim_all(links: &[u16], directory: &[u8], marks: &mut [u8]) -> bool
-    requires { ⌜ length (now links) ≤ length (now marks) ⌝ }
-    requires { ⌜ ((q : ℕ) → getD (now marks) q 0 ≡ 0) ⌝ }
-    ensures refused { λ r. ⌜ (r ≡ false → linksOk (now (links .entry)) (firsts (now (directory .entry))) (counts (now (directory .entry))) (entries (now (directory .entry))) ≡ false) ⌝ }
-    ensures claimed { λ r. ⌜ (r ≡ true → Claimed (now (links .entry)) (firsts (now (directory .entry))) (counts (now (directory .entry))) (entries (now (directory .entry))) (now (marks .exit))) ⌝ }
-{
-    let n = directory.len() / BYTES_AN_ENTRY;
-    let mut i = 0;
-    while i < n {
-        if !claim_entry(links, directory, i, marks) {
-            return false;
-        }
-        i += 1;
-    }
-    true
-}
-
-// Each portion is marked, or free and not marked.
-fn marks_fit(links: &[u16], marks: &[u8]) -> bool
-    requires { ⌜ length (now links) ≤ length (now marks) ⌝ }
-    ensures { λ r. ⌜ r ≡ allTo (markFits (now (links .entry)) (now (marks .entry))) (length (now (links .entry))) ⌝ }
-{
-    let mut q = 0;
-    while q < links.len() {
-        if !mark_fits(links, marks, q) {
-            return false;
-        }
-        q += 1;
-    }
-    true
-}
-
-// Each chain has its portions and then ends, no portion is in two, and all others are free.
-fn chains_ok(links: &[u16], directory: &[u8]) -> bool
-    requires { ⌜ length (now links) ≤ mostPortions ⌝ }
-    ensures { λ r. ⌜ r ≡ chainsOk (now (links .entry)) (now (directory .entry)) ⌝ }
-{
-    let mut marks = [0u8; MOST_PORTIONS];
-    if !claim_all(links, directory, &mut marks) {
-        return false;
-    }
-    marks_fit(links, &marks)
 }
 
 // ---- unused bytes
@@ -360,7 +260,7 @@ fn tail_ok(store: &[u8], links: &[u16], directory: &[u8], i: usize) -> bool
     }
     let s = store::size_at(directory, i);
     let o = s - BYTES_A_PORTION * (store::needed_for(s) - 1);
-    let p = moves::last_at(links, directory, i);
+    let p = store::last_at(links, directory, i);
     if store.len() / BYTES_A_PORTION < p {
         return true;
     }
@@ -420,7 +320,7 @@ pub fn store_sound(store: &[u8], links: &[u16], directory: &[u8]) -> bool
     if !titles_ok(directory) {
         return false;
     }
-    if !chains_ok(links, directory) {
+    if !chain_check::chains_ok(links, directory) {
         return false;
     }
     unused_ok(store, links, directory)

@@ -9,7 +9,7 @@ use lib.ListN.{length, take}
 use lib.Dec.{eqb}
 use borrow.Author.Tests.{eq-eqb, ne-eqb}
 use Rattle.store.specs.Chain.{chain, bytesOf, needed}
-use Rattle.moves.specs.Grow.{nextLast, Growing, growing, putAll}
+use Rattle.growing.specs.Grow.{nextLast, Growing, growing, putAll}
 use Rattle.store_sound.proofs.Linked.{changed}
 use Rattle.store_sound.proofs.Bytes.{Fill, filled}
 use Rattle.store_sound.proofs.PutSound.{Grows, put-sound, stay}

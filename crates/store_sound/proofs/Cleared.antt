@@ -9,19 +9,16 @@ use lib.Seq.{drop-nil}
 use Rattle.cells.specs.Cell.{cell, zeros}
 use Rattle.cells.specs.Count.{times, sumTo, allZero}
 use Rattle.cells.proofs.Counts.{sum-none}
-use Rattle.cells.proofs.Cells.{length-zeros, getD-zeros, cell-fits, length-cell}
+use Rattle.cells.proofs.Cells.{length-zeros, getD-zeros, cell-fits, length-cell, cell-at}
 use Rattle.store.specs.Chain.{chain}
 use Rattle.store.specs.Entry.{entries, entry, kind, many, ofKind}
-use Rattle.moves.specs.Memory.{memory}
-use Rattle.moves.specs.Erase.{cleared}
-use Rattle.store_sound.specs.Sound.{firsts, counts, storeSound}
+use Rattle.memory.specs.Memory.{memory}
+use Rattle.clearing.specs.Clear.{cleared}
+use Rattle.store_sound.specs.Sound.{firsts, counts, storeSound, lentOk}
 use Rattle.store_sound.specs.Shelf.{nothing, heldOf, shelfOf}
-use Rattle.store_sound.proofs.Facts.{SoundAt, facts-sound, sizesOf, lent-store}
+use Rattle.store_sound.proofs.Facts.{SoundAt, facts-sound, sizesOf, lent-store, lent-same}
 use lib.ListN.{replicate, length-replicate, getD-replicate}
 use lib.Seq.{ext-getD}
-use Rattle.cells.proofs.Cells.{cell-at}
-use Rattle.store_sound.specs.Sound.{lentOk}
-use Rattle.store_sound.proofs.Facts.{lent-same}
 use Rattle.store_sound.proofs.Erase.{allZero-zeros, zeros-kind, zeros-many, zeros-held}
 use Rattle.store_sound.proofs.Listing.{shelf-at}
 

@@ -10,9 +10,8 @@ use Rattle.cells.specs.Count.{times}
 use Rattle.cells.proofs.Counts.{one-yes, sum-most, times-portions}
 use Rattle.cells.proofs.Cells.{cell-fits, cell-at, length-cell}
 use Rattle.store.specs.Chain.{chain, portion, bytesOf, walk, needed}
-use Rattle.store.specs.Entry.{first, size}
-use Rattle.store.specs.Content.{portionAfter, placeAfter, bytesFrom, extent, contentOf}
-use Rattle.moves.specs.Grow.{lastOf}
+use Rattle.store.specs.Entry.{first, size, lastOf}
+use Rattle.contents.specs.Content.{portionAfter, placeAfter, bytesFrom, extent, contentOf}
 use Rattle.store_sound.specs.Sound.{tailOf}
 use Rattle.store_sound.proofs.Changes.{chain-snoc}
 use Rattle.store_sound.proofs.Bytes.{bytes-append, bytes-length}

@@ -15,8 +15,8 @@ use Rattle.cells.proofs.Counts.{one-yes, one-no, length-setAll, setAll-in}
 use Rattle.cells.proofs.Cells.{length-zeros, cell-fits, setCell-other, setCell-same}
 use Rattle.store.specs.Chain.{chain, portion, isFree}
 use Rattle.store.specs.Entry.{entries, entry, kind, name, first, size, many, ofKind}
-use Rattle.store.specs.Content.{contentOf, extent, bytesFrom}
-use Rattle.moves.specs.Memory.{Memory, memory}
+use Rattle.contents.specs.Content.{contentOf, extent, bytesFrom}
+use Rattle.memory.specs.Memory.{Memory, memory}
 use Rattle.ground.proofs.Tests.{same?}
 use Rattle.store_sound.specs.Sound.{firsts, counts, storeSound}
 use Rattle.store_sound.specs.Shelf.{held, nothing, heldOf}
@@ -25,9 +25,8 @@ use Rattle.store_sound.proofs.Linked.{Change, changed, others, held-bel
 use Rattle.store_sound.proofs.Bytes.{Fill, filled, others-bytes}
 use Rattle.store_sound.proofs.Facts.{Sound, sound-facts, sizesOf, lent-store, chain-few}
 use Rattle.store_sound.proofs.Moving.{Moved, inside, moved-is}
-use Rattle.moves.specs.Grow.{lowestPortion}
-use Rattle.moves.specs.Start.{lowestEntry}
-use Rattle.moves.specs.Erase.{freed, emptied, erased, erasedAt}
+use Rattle.room.specs.Room.{lowestPortion, lowestEntry}
+use Rattle.erasing.specs.Erase.{freed, emptied, erased, erasedAt}
 use Rattle.cells.proofs.Scan.{lowest-first}
 use Rattle.store_sound.proofs.Changes.{erase}
 

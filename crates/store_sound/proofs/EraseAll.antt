@@ -6,12 +6,11 @@ use Prim.Native.Nat.{ℕ, zero, suc, _+_, _/_, _≤_, _<_}
 use native.Mathlib.Omega.{arith}
 use lib.ListN.{length, getD}
 use Rattle.store.specs.Entry.{entries, kind, ofKind}
-use Rattle.moves.specs.Memory.{Memory, entryOf}
+use Rattle.memory.specs.Memory.{Memory, entryOf}
 use Rattle.ground.proofs.Tests.{same?, either}
 use Rattle.store_sound.specs.Sound.{storeSound}
-use Rattle.store_sound.specs.Shelf.{Held, nothing, shelfOf}
-use Rattle.moves.specs.Erase.{erased, erasedIf, erasedFrom, erasedAll}
-use Rattle.store_sound.specs.Shelf.{swept}
+use Rattle.store_sound.specs.Shelf.{Held, nothing, shelfOf, swept}
+use Rattle.erasing.specs.Erase.{erased, erasedIf, erasedFrom, erasedAll}
 use Rattle.store_sound.proofs.Listing.{shelf-at}
 use Rattle.store_sound.proofs.Moving.{moved-other, moved-here}
 use Rattle.store_sound.proofs.Erase.{erase-moved}

@@ -12,12 +12,12 @@ use Rattle.cells.specs.Count.{times, allZero}
 use Rattle.cells.specs.Scan.{lowest}
 use Rattle.cells.proofs.Counts.{all-at, all-of}
 use Rattle.cells.proofs.Scan.{lowest-passes, lowest-first}
-use Rattle.store.specs.declared.Found.{Found}
-use Rattle.store.specs.declared.Found.the-variants.{At, Nothing}
+use Rattle.finding.specs.declared.Found.{Found}
+use Rattle.finding.specs.declared.Found.the-variants.{At, Nothing}
 use Rattle.store.specs.Chain.{chain, bytesOf, needed}
 use Rattle.store.specs.Entry.{entries, entry, kind, name, size, many, ofKind}
-use Rattle.store.specs.Find.{isRecording, sameName, titled, found}
-use Rattle.store.proofs.Finding.{at-says, found-at}
+use Rattle.finding.specs.Find.{isRecording, sameName, titled, found}
+use Rattle.finding.proofs.Finding.{at-says, found-at}
 use Rattle.ground.proofs.Tests.{same?, and-left, and-right, and-both}
 use Rattle.store_sound.specs.Sound.{lentOk, kindOk, kindsOk, nameOk, namedOk, namesOk, isHere, uniqueOk, uniquesOk, singleOk, singlesOk, firsts, counts, chainsOk, emptyOk, emptiesOk, freeOk, freesOk, tailOf, tailOk, tailsOk, storeSound}
 use Rattle.store_sound.proofs.Linked.{Linked, linked-facts, facts-linked, held-below, held-once}

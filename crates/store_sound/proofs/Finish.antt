@@ -13,14 +13,14 @@ use Rattle.cells.specs.Count.{times, sumTo}
 use Rattle.cells.proofs.Cells.{length-cell, cell-set-same, cell-set-other}
 use Rattle.store.specs.Chain.{chain}
 use Rattle.store.specs.Entry.{entries, entry, kind, name, first, size, many, ofKind}
-use Rattle.store.specs.Content.{contentOf, extent}
-use Rattle.moves.specs.Memory.{memory}
+use Rattle.contents.specs.Content.{contentOf, extent}
+use Rattle.memory.specs.Memory.{memory}
 use Rattle.ground.proofs.Tests.{same?}
 use Rattle.store_sound.specs.Sound.{nameOk, firsts, counts, storeSound}
 use Rattle.store_sound.specs.Shelf.{held}
 use Rattle.store_sound.proofs.Facts.{Sound, sound-facts, sizesOf}
 use Rattle.store_sound.proofs.Moving.{Moved, inside, moved-is}
-use Rattle.moves.specs.Start.{finished}
+use Rattle.starting.specs.Start.{finished}
 
 module _ (e : List ℕ) (long : length e ≡ 16) (r : kind e ≡ 3) where
   end-kind : kind (set e 0 1) ≡ 1

@@ -12,9 +12,9 @@ use borrow.Author.Tests.{eq-eqb, ltb-true, leb-true}
 use Rattle.cells.specs.Count.{times, sumTo}
 use Rattle.cells.proofs.Cells.{length-cell, cell-set-same, cell-set-other}
 use Rattle.store.specs.Chain.{chain, bytesOf, walk, needed, freeCount}
-use Rattle.store.specs.Entry.{entries, entry, kind, name, first, size, many}
-use Rattle.store.specs.Content.{contentOf}
-use Rattle.moves.specs.Memory.{memory}
+use Rattle.store.specs.Entry.{entries, entry, kind, name, first, size, many, lastOf}
+use Rattle.contents.specs.Content.{contentOf}
+use Rattle.memory.specs.Memory.{memory}
 use Rattle.ground.proofs.Tests.{same?, and-left, and-right}
 use Rattle.store_sound.specs.Sound.{nameOk, firsts, counts, storeSound}
 use Rattle.store_sound.specs.Shelf.{held}
@@ -22,8 +22,9 @@ use Rattle.store_sound.proofs.Linked.{Linked, held-below, free-out}
 use Rattle.store_sound.proofs.Bytes.{Filled}
 use Rattle.store_sound.proofs.Facts.{Sound, sound-facts, sizesOf, lent-few, lent-store, many-some, chain-few}
 use Rattle.store_sound.proofs.Moving.{Moved, inside, content-at, changed-sound, moved-is}
-use Rattle.moves.specs.Grow.{Growing, growing, putAll, lastOf, withSize, grown, canGrow, appended}
-use Rattle.moves.proofs.Growth.{putAll-store, putAll-links}
+use Rattle.growing.specs.Grow.{Growing, growing, putAll, withSize, grown, appended}
+use Rattle.room.specs.Room.{canGrow}
+use Rattle.growing.proofs.Growth.{putAll-store, putAll-links}
 use Rattle.store_sound.proofs.Changes.{last-in}
 use Rattle.store_sound.proofs.PutSound.{Grows}
 use Rattle.store_sound.proofs.AppendSound.{Appended, append-sound}

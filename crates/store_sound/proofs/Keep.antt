@@ -12,13 +12,15 @@ use Rattle.cells.proofs.Counts.{one-yes, one-no}
 use Rattle.cells.proofs.Cells.{setCell-same}
 use Rattle.store.specs.Chain.{needed, freeCount}
 use Rattle.store.specs.Entry.{entries, entry, kind, name}
-use Rattle.store.specs.Content.{contentOf}
-use Rattle.moves.specs.Memory.{memory}
+use Rattle.contents.specs.Content.{contentOf}
+use Rattle.memory.specs.Memory.{memory}
 use Rattle.ground.proofs.Tests.{and-left, and-right, and-both}
 use Rattle.store_sound.specs.Shelf.{Held, held}
 use Rattle.store_sound.proofs.Moving.{Moved, moved-twice, inside}
-use Rattle.moves.specs.Grow.{lowestPortion, grown, canGrow}
-use Rattle.moves.specs.Start.{lowestEntry, hasRoom, newEntry, begun, canKeep, kept}
+use Rattle.room.specs.Room.{lowestPortion, canGrow, lowestEntry, hasRoom}
+use Rattle.growing.specs.Grow.{grown}
+use Rattle.starting.specs.Start.{newEntry, begun}
+use Rattle.growing.specs.Keep.{canKeep, kept}
 use Rattle.store_sound.proofs.Room.{lowest-below, lowest-free, times-set}
 use Rattle.store_sound.proofs.Start.{MayStart, room-says, begin-moved, new-long, new-kind, new-size, new-name, new-content}
 use Rattle.store_sound.proofs.Grow.{grow-moved}

@@ -12,8 +12,8 @@ use borrow.Author.Tests.{eqb-true}
 use Rattle.cells.specs.Count.{allZero}
 use Rattle.store.specs.Chain.{chain, bytesOf}
 use Rattle.store.specs.Entry.{entries, entry, kind, name, size, ofKind}
-use Rattle.store.specs.Content.{contentOf}
-use Rattle.moves.specs.Memory.{Memory, memory}
+use Rattle.contents.specs.Content.{contentOf}
+use Rattle.memory.specs.Memory.{Memory, memory}
 use Rattle.ground.proofs.Tests.{same?, and-left, and-right}
 use Rattle.store_sound.specs.Sound.{nameOk, firsts, counts, storeSound}
 use Rattle.store_sound.specs.Shelf.{Held, held, nothing, heldOf, shelf, shelfOf}

@@ -9,7 +9,8 @@ use lib.ListN.{length, getD, drop, take, set}
 use lib.Seq.{getD-append-seam, take-append-le}
 use Rattle.cells.specs.Count.{times, allZero}
 use Rattle.store.specs.Chain.{chain, chainOk, bytesOf, walk, needed}
-use Rattle.moves.specs.Grow.{lowestPortion, nextLast, nextLinks}
+use Rattle.room.specs.Room.{lowestPortion}
+use Rattle.growing.specs.Grow.{nextLast, nextLinks}
 use Rattle.cells.proofs.Counts.{one-yes, times-append}
 use Rattle.store_sound.proofs.Frame.{chain-below}
 use Rattle.cells.proofs.Cells.{cell-fits, cell-set-other}
@@ -17,7 +18,7 @@ use Rattle.store_sound.proofs.Linked.{Linked, Change, changed, others, 
 use Rattle.store_sound.proofs.Changes.{hung, chain-snoc, grow, hung-chain}
 use Rattle.store_sound.proofs.Bytes.{Filled, Fill, filled, others-bytes, put-content, put-tail, tail-new, bytes-append, bytes-length}
 use Rattle.store_sound.proofs.Room.{Room, Case, isFull, isIn, isFirst, case, next-full, room-some, lowest-below, lowest-free}
-use Rattle.moves.proofs.Growth.{next-in, next-first}
+use Rattle.growing.proofs.Growth.{next-in, next-first}
 
 pub chain-length : (ls : List ℕ) (p n : ℕ) → length (chain ls p n) ≡ n
 chain-length ls p zero = refl

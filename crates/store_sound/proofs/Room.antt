@@ -12,9 +12,10 @@ use Rattle.cells.specs.Count.{times}
 use Rattle.cells.proofs.Counts.{one-yes, one-no, times-some}
 use Rattle.cells.proofs.Scan.{lowest-passes, lowest-first}
 use Rattle.store.specs.Chain.{needed, isFree}
-use Rattle.moves.specs.Grow.{lowestPortion, nextLast, nextLinks}
-use Rattle.moves.proofs.Growth.{next-in, next-first}
-use Rattle.moves.proofs.Growth as growth
+use Rattle.room.specs.Room.{lowestPortion}
+use Rattle.growing.specs.Grow.{nextLast, nextLinks}
+use Rattle.growing.proofs.Growth.{next-in, next-first}
+use Rattle.growing.proofs.Growth as growth
 use Rattle.ground.proofs.Tests.{same?}
 use Rattle.ground.specs.Numbers.{one}
 use Rattle.store_sound.proofs.Changes.{hung}

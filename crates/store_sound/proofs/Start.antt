@@ -12,27 +12,25 @@ use Rattle.cells.specs.Cell.{setCell}
 use Rattle.cells.proofs.Cells.{setCell-other, setCell-same}
 use Rattle.store.specs.Chain.{portion, needed, freeCount}
 use Rattle.store.specs.Entry.{entries, entry, kind, name, first, size, many, ofKind}
-use Rattle.store.specs.Content.{contentOf, extent, bytesFrom}
-use Rattle.moves.specs.Memory.{memory}
+use Rattle.contents.specs.Content.{contentOf, extent, bytesFrom}
+use Rattle.memory.specs.Memory.{memory}
 use Rattle.ground.proofs.Tests.{and-left, and-right, and-both}
 use Rattle.store_sound.specs.Sound.{nameOk, nameByteOk, firsts, counts, storeSound}
-use Rattle.store_sound.specs.Shelf.{held}
+use Rattle.store_sound.specs.Shelf.{held, titleOk}
 use Rattle.store_sound.proofs.Linked.{Change, changed, others}
 use Rattle.store_sound.proofs.Bytes.{Fill, filled, others-bytes}
-use Rattle.store_sound.proofs.Facts.{Sound, sound-facts, sizesOf, lent-few, many-none}
+use Rattle.store_sound.proofs.Facts.{Sound, sound-facts, sizesOf, lent-few, many-none, own-name, kind-class}
 use Rattle.store_sound.proofs.Moving.{Moved, inside, moved-is}
 use lib.Seq.{drop-cons}
 use Rattle.cells.proofs.Counts.{drop-none}
 use Rattle.cells.proofs.Scan.{lowest-passes, lowest-first}
-use Rattle.store.specs.declared.Found.the-variants.{Nothing}
-use Rattle.store.specs.Find.{isEmpty, isRecording, recorded, sameName, titled, titledAt}
-use Rattle.store.proofs.Finding.{nothing-says}
-use Rattle.moves.specs.Grow.{lowestPortion}
-use Rattle.moves.specs.Start.{lowestEntry, hasRoom, newEntry, begun, started}
-use Rattle.store_sound.specs.Shelf.{titleOk}
+use Rattle.finding.specs.declared.Found.the-variants.{Nothing}
+use Rattle.finding.specs.Find.{isEmpty, isRecording, recorded, sameName, titled, titledAt}
+use Rattle.finding.proofs.Finding.{nothing-says}
+use Rattle.room.specs.Room.{lowestPortion, lowestEntry, hasRoom}
+use Rattle.starting.specs.Start.{newEntry, begun, started}
 use Rattle.store_sound.proofs.Changes.{start}
 use Rattle.store_sound.proofs.Room.{lowest-below, lowest-free}
-use Rattle.store_sound.proofs.Facts.{own-name, kind-class}
 
 -- ---- a new entry's fields
 

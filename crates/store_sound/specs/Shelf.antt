@@ -3,11 +3,11 @@ use mathlib.Core.List.{List, [], _∷_, _++_}
 use mathlib.Core.Bool.{Bool, cond, _&&_}
 use Prim.Native.Nat.{ℕ, zero, suc}
 use Rattle.store.specs.Entry.{entries, entry, kind, name, ofKind}
-use Rattle.store.specs.Content.{contentOf}
+use Rattle.contents.specs.Content.{contentOf}
 use lib.Dec.{leb}
 use Rattle.cells.specs.Count.{allTo}
-use Rattle.moves.specs.Memory.{Memory}
-use Rattle.moves.specs.Start.{nameEnd}
+use Rattle.memory.specs.Memory.{Memory}
+use Rattle.starting.specs.Start.{nameEnd}
 use Rattle.store_sound.specs.Sound.{nameByteOk}
 
 -- f 0 , .. , f (n - 1)

@@ -4,23 +4,17 @@
 use mathlib.Core.List.{List}
 use mathlib.Core.Bool.{Bool, false, not, _&&_, _||_, cond}
 use Prim.Native.Nat.{ℕ, _-_, _*_}
+use Prim.Native.Char.{code}
 use lib.ListN.{length, getD, drop}
 use lib.Dec.{eqb, ltb, leb}
 use Rattle.cells.specs.Count.{times, sumTo, allTo, allZero}
-use Rattle.store.specs.declared.Found.{Found}
-use Rattle.store.specs.declared.Found.the-variants.{At, Nothing}
-use Rattle.store.specs.Chain.{bytesAPortion, needed, portion, isFree, chain, chainOk}
-use Rattle.store.specs.Entry.{bytesAnEntry, entries, entry, kind, nameLength, name, first, size, many}
-use Rattle.store.specs.Find.{isEmpty, isRecording, recorded, titledAt}
-use Rattle.moves.specs.Grow.{lastOf}
+use Rattle.finding.specs.declared.Found.{Found}
+use Rattle.finding.specs.declared.Found.the-variants.{At, Nothing}
+use Rattle.store.specs.Chain.{mostPortions, bytesAPortion, needed, portion, isFree, chain, chainOk}
+use Rattle.store.specs.Entry.{mostEntries, bytesAnEntry, entries, entry, kind, nameLength, name, first, size, many, lastOf}
+use Rattle.finding.specs.Find.{isEmpty, isRecording, recorded, titledAt}
 
 -- "Store: 1 to 2,024 portions of 256 bytes", links "one for each portion", "Directory: 1 to 512 entries of 16 bytes"
-abbrev pub mostPortions : ℕ
-mostPortions = 2024
-
-abbrev pub mostEntries : ℕ
-mostEntries = 512
-
 unfoldable pub lentOk : List ℕ → List ℕ → List ℕ → Bool
 lentOk store links directory =
     leb (length links) mostPortions
@@ -38,7 +32,7 @@ kindsOk directory = allTo (kindOk directory) (entries directory)
 -- "names upper-case, legal": 1 to 8 bytes, codes 32 to 126 without `*` and quote, no letter a to z; the 8 bytes zero-filled
 unfoldable pub legalByte : ℕ → Bool
 legalByte b =
-    (leb 32 b && leb b 126) && (not (eqb b 42) && (not (eqb b 34) && not (leb 97 b && leb b 122)))
+    (leb (code " ") b && leb b (code "~")) && (not (eqb b (code "*")) && (not (eqb b (code "\"")) && not (leb (code "a") b && leb b (code "z"))))
 
 unfoldable pub nameByteOk : ℕ → List ℕ → ℕ → Bool
 nameByteOk n title k = cond (ltb k n) (legalByte (getD title k 0)) (eqb (getD title k 0) 0)

@@ -1,10 +1,10 @@
 // One call, with the lengths and the input that its record gives.
 ghost use Prim.Native.Nat.{_≤_};
 ghost use Rattle.io.specs.Counts.{Counts};
-use crate::desk::Desk;
-use crate::file::byte;
-use crate::file::number;
-use crate::file::part;
+use file_parts::part;
+use file_parts::two_at;
+use ground::byte;
+use try_desk::Desk;
 
 pub(crate) struct Called {
     pub(crate) answer: u8,
@@ -16,7 +16,7 @@ fn lent_of(record: &[u8], i: usize, room: usize) -> usize
     requires { ⌜ i ≤ 8 ⌝ }
     ensures { λ r. ⌜ r ≤ room ⌝ }
 {
-    ground::least(number(record, 1 + 2 * i), room)
+    ground::least(two_at(record, 1 + 2 * i) as usize, room)
 }
 
 fn lent(record: &[u8], i: usize, bytes: &[u8]) -> usize
@@ -86,7 +86,7 @@ fn command_lent(
     let d = lent(record, 6, directory);
     let v = lent(record, 7, values);
     let o = lent(record, 8, output);
-    let input = part(record, 21, number(record, 19));
+    let input = part(record, 21, two_at(record, 19) as usize);
     face::station_command(
         &mut session[..s],
         &mut counts[..c],

@@ -7,18 +7,16 @@
 // than a call is lent. `stdout` has a line for each call: its number, the answer, the two counts, and a digest of all slices, the room beyond what was
 // lent included. Both files are those of peer/vectors.
 mod calls; // one call
-mod desk; // a new desk, and one byte changed
-mod file; // what stands in calls.bin
-mod lines; // the line of a call
 
 use calls::call;
-use desk::Desk;
-use desk::changed;
-use desk::new_desk;
-use file::byte;
-use file::number;
-use file::part;
-use lines::line;
+use file_parts::part;
+use file_parts::two_at;
+use ground::back;
+use ground::byte;
+use try_desk::Desk;
+use try_desk::changed;
+use try_desk::line;
+use try_desk::new_desk;
 
 // The desk, where the next record stands, how many calls were made, and where the font stands.
 struct Progress {
@@ -37,7 +35,7 @@ fn moved(r: Progress, size: usize) -> Progress {
 
 // F
 fn font(r: Progress, record: &[u8]) -> Progress {
-    let length = number(record, 1);
+    let length = two_at(record, 1) as usize;
     let mut next = moved(r, 3 + length);
     next.font = ground::capped_sum(r.at, 3);
     next.length = length;
@@ -47,7 +45,7 @@ fn font(r: Progress, record: &[u8]) -> Progress {
 // How many bytes the record of a call takes.
 fn size(record: &[u8]) -> usize {
     if byte(record, 0) == b'C' {
-        return 21 + number(record, 19);
+        return 21 + two_at(record, 19) as usize;
     }
     19
 }
@@ -68,7 +66,7 @@ fn called(file: &[u8], r: Progress, record: &[u8]) -> Progress {
 
 // One record.
 fn one(file: &[u8], r: Progress) -> Progress {
-    let record = parts::rest(file, r.at);
+    let record = back(file, r.at);
     match byte(record, 0) {
         b'S' => {
             let mut next = moved(r, 2);
@@ -79,7 +77,12 @@ fn one(file: &[u8], r: Progress) -> Progress {
         b'K' => {
             let desk = r.desk;
             let mut next = moved(r, 5);
-            next.desk = changed(desk, byte(record, 1), number(record, 2), byte(record, 4));
+            next.desk = changed(
+                desk,
+                byte(record, 1),
+                two_at(record, 2) as usize,
+                byte(record, 4),
+            );
             next
         }
         _ => called(file, r, record),

@@ -16,12 +16,12 @@ fn sign_of(page: &[u8], x: usize, y: usize) -> u8
 {
     let at = y * 76 + x / 8;
     if page.len() <= at {
-        return 32;
+        return b' ';
     }
     if (page[at] >> (7 - x % 8)) % 2 == 1 {
-        35
+        b'#'
     } else {
-        46
+        b'.'
     }
 }
 
@@ -29,7 +29,7 @@ fn sign_of(page: &[u8], x: usize, y: usize) -> u8
 fn show_row(page: &[u8], from: usize, y: usize)
     requires { ⌜ (from < 545) × (y < 4000) ⌝ }
 {
-    let mut line = [10u8; 65];
+    let mut line = [b'\n'; 65];
     let mut x: usize = 0;
     while x < 64 {
         line[x] = sign_of(page, from + x, y);
@@ -55,10 +55,10 @@ fn turns(h: usize, v: usize, reverse: bool, at1: usize, at2: usize, at3: usize, 
     requires { ⌜ rows ≤ 4000 ⌝ }
 {
     let mut page = [0u8; 1672];
-    font::draw(&mut page, 608, 22, 1, 1, 0, h, v, reverse, &NARROW, b"FR");
-    font::draw(&mut page, 608, 22, at1, 1, 1, h, v, reverse, &NARROW, b"FR");
-    font::draw(&mut page, 608, 22, at2, 1, 2, h, v, reverse, &NARROW, b"FR");
-    font::draw(&mut page, 608, 22, at3, 1, 3, h, v, reverse, &NARROW, b"FR");
+    text::draw(&mut page, 608, 22, 1, 1, 0, h, v, reverse, &NARROW, b"FR");
+    text::draw(&mut page, 608, 22, at1, 1, 1, h, v, reverse, &NARROW, b"FR");
+    text::draw(&mut page, 608, 22, at2, 1, 2, h, v, reverse, &NARROW, b"FR");
+    text::draw(&mut page, 608, 22, at3, 1, 3, h, v, reverse, &NARROW, b"FR");
     show(&page, 0, rows);
 }
 
@@ -71,14 +71,14 @@ fn scales(reverse: bool) {
 // Cut at a width of 13 and a length of 7, in each turn: the text stands 4 to the right and 3 down.
 fn cut_at_label(r: usize, reverse: bool) {
     let mut page = [0u8; 760];
-    font::draw(&mut page, 13, 7, 4, 3, r, 1, 1, reverse, &NARROW, b"FR");
+    text::draw(&mut page, 13, 7, 4, 3, r, 1, 1, reverse, &NARROW, b"FR");
     show(&page, 0, 10);
 }
 
 // Cut at the page's own edges: column 608 and the last row.
 fn cut_at_page(reverse: bool) {
     let mut page = [0u8; 608];
-    font::draw(
+    text::draw(
         &mut page,
         9999,
         9999,
@@ -91,7 +91,7 @@ fn cut_at_page(reverse: bool) {
         &NARROW,
         b"FR",
     );
-    font::draw(
+    text::draw(
         &mut page,
         9999,
         9999,
@@ -110,16 +110,16 @@ fn cut_at_page(reverse: bool) {
 // A code that no glyph has is blank; rows of two bytes; no bytes draw nothing.
 fn blanks(reverse: bool) {
     let mut page = [0u8; 760];
-    font::draw(&mut page, 608, 10, 1, 1, 0, 1, 1, reverse, &NARROW, b"F?R");
-    font::draw(&mut page, 608, 10, 18, 1, 0, 1, 2, reverse, &WIDE, b"AA");
-    font::draw(&mut page, 608, 10, 50, 1, 0, 1, 1, reverse, &NARROW, b"");
+    text::draw(&mut page, 608, 10, 1, 1, 0, 1, 1, reverse, &NARROW, b"F?R");
+    text::draw(&mut page, 608, 10, 18, 1, 0, 1, 2, reverse, &WIDE, b"AA");
+    text::draw(&mut page, 608, 10, 50, 1, 0, 1, 1, reverse, &NARROW, b"");
     show(&page, 0, 9);
 }
 
 // Draws with a font that is judged first.
 fn draw_judged(page: &mut [u8], bytes: &[u8]) {
     if font::is_legal(bytes) {
-        font::draw(page, 608, 2, 0, 0, 0, 1, 1, true, bytes, b"FR");
+        text::draw(page, 608, 2, 0, 0, 0, 1, 1, true, bytes, b"FR");
     }
 }
 

@@ -68,7 +68,7 @@ fn changed(line: &[u8], k: usize, place: usize, b: u8) -> u8 {
     if k == place {
         return b;
     }
-    fields::byte(line, k)
+    ground::byte(line, k)
 }
 
 // The line with another byte at a place.

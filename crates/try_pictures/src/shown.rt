@@ -40,7 +40,7 @@ pub(crate) fn show(page: &[u8]) {
 }
 
 pub(crate) fn judged(bytes: &[u8]) {
-    if picture::is_legal(bytes) {
+    if pcx::is_legal(bytes) {
         say(b": legal\n");
     } else {
         say(b": not legal\n");

@@ -18,12 +18,12 @@ fn kind_of(b: u8) -> Kind {
 }
 
 fn value_of(b: u8) -> u8 {
-    if b < 48 { 0 } else { b - 48 }
+    if b < b'0' { 0 } else { b - b'0' }
 }
 
 fn digit_of(n: usize) -> u8 {
     let d = (n % 10) as u8;
-    48 + d
+    b'0' + d
 }
 
 fn emit(line: &mut [u8], at: usize, b: u8) -> usize {
@@ -54,7 +54,7 @@ fn show(line: &[u8], n: usize) {
 }
 
 fn symbol(kind: Kind, e: u8, f: u8, bytes: &[u8], ws: &mut [u8], line: &mut [u8]) {
-    let n = bars::elements(kind, bytes, ws);
+    let n = symbols::elements(kind, bytes, ws);
     let mut at: usize = 0;
     let mut k: usize = 0;
     while k < n {

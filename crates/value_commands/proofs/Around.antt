@@ -3,13 +3,13 @@
 use mathlib.Core.Path.{_≡_, refl}
 use mathlib.Core.List.{List, []}
 use Prim.Native.Nat.{ℕ}
-use Rattle.read.specs.declared.ValueCommand.{ValueCommand}
-use Rattle.read.specs.declared.ValueCommand.the-variants.{Variable, Counter, Clear, Print}
+use Rattle.grammar.specs.declared.ValueCommand.{ValueCommand}
+use Rattle.grammar.specs.declared.ValueCommand.the-variants.{Variable, Counter, Clear, Print}
 use Rattle.session.specs.declared.Session.{Session}
-use Rattle.session.specs.declared.answers.Answer.{Answer}
-use Rattle.session.specs.declared.answers.Answer.the-variants.{Taken}
-use Rattle.session.specs.Answers.{answerOf, isTaken}
-use Rattle.session.specs.Lent.{World, world}
+use Rattle.answers.specs.declared.Answer.{Answer}
+use Rattle.answers.specs.declared.Answer.the-variants.{Taken}
+use Rattle.answers.specs.Answers.{answerOf, isTaken}
+use Rattle.lent.specs.Lent.{World, world}
 use Rattle.results.specs.World.{State}
 use Rattle.results.specs.Result.{done, ran, ranBy}
 use Rattle.results.proofs.Answers.{cond-map}

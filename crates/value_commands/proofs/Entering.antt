@@ -6,19 +6,20 @@ use mathlib.Core.List.{List, [], _∷_}
 use Prim.Native.Nat.{ℕ, _*_}
 use lib.Dec.{ltb}
 use lib.Seq.{sets}
-use Rattle.values.specs.declared.declarations.Declared.{Declared}
-use Rattle.values.specs.declared.counters.Entered.{Entered}
-use Rattle.values.specs.declared.counters.Entered.the-variants.{Taken as Enters, Undeclared as NotDeclared, Unfit as DoesNotFit}
-use Rattle.values.specs.Stored.{Stored, stored, variableEntered, enters, padded, field}
-use Rattle.values.specs.declared.counters.Counters.{Counters}
-use Rattle.values.specs.declared.counters.Counted.{Counted}
-use Rattle.values.specs.Declarations.{variableDeclared, counterDeclared, sideAt, lengthAt, widthAt}
-use Rattle.values.specs.Counters.{counterEntered, tenTo}
+use Rattle.declarations.specs.declared.Declared.{Declared}
+use Rattle.declarations.specs.declared.Entered.{Entered}
+use Rattle.declarations.specs.declared.Entered.the-variants.{Taken as Enters, Undeclared as NotDeclared, Unfit as DoesNotFit}
+use Rattle.stored_values.specs.Stored.{Stored, stored, variableEntered, field}
+use Rattle.padding.specs.Padding.{enters, padded}
+use Rattle.counters.specs.declared.Counters.{Counters}
+use Rattle.counters.specs.declared.Counted.{Counted}
+use Rattle.declarations.specs.Declarations.{variableDeclared, counterDeclared, sideAt, lengthAt, widthAt}
+use Rattle.counters.specs.Counters.{counterEntered, tenTo}
 use Rattle.session.specs.declared.Session.{Session}
-use Rattle.session.specs.declared.answers.Answer.{Answer}
-use Rattle.session.specs.declared.answers.Answer.the-variants.{Taken, Undeclared, Misfit}
-use Rattle.session.specs.Answers.{row, answerOf, isTaken, numberOf}
-use Rattle.session.specs.Lent.{world}
+use Rattle.answers.specs.declared.Answer.{Answer}
+use Rattle.answers.specs.declared.Answer.the-variants.{Taken, Undeclared, Misfit}
+use Rattle.answers.specs.Answers.{row, answerOf, isTaken, numberOf}
+use Rattle.lent.specs.Lent.{world}
 use Rattle.results.specs.Result.{done, ran}
 use Rattle.value_commands.specs.Values.{enteredAnswer}
 

@@ -5,20 +5,22 @@ use mathlib.Core.Bool.{not}
 use mathlib.Core.List.{List, [], _∷_}
 use lib.ListN.{take, drop}
 use lib.Dec.{ltb}
-use Rattle.values.specs.declared.counters.Entered.{Entered}
-use Rattle.values.specs.declared.counters.Entered.the-variants.{Taken as Enters, Undeclared as NotDeclared, Unfit as DoesNotFit}
-use Rattle.values.specs.Declarations.{variableDeclared, counterDeclared, sideAt, lengthAt, widthAt}
-use Rattle.values.specs.Counters.{counterEntered, tenTo}
-use Rattle.values.specs.Stored.{enters, variableEntered, allSet}
-use Rattle.read.specs.declared.ValueCommand.{ValueCommand}
-use Rattle.read.specs.declared.ValueCommand.the-variants.{Variable, Counter, Clear, Print}
+use Rattle.declarations.specs.declared.Entered.{Entered}
+use Rattle.declarations.specs.declared.Entered.the-variants.{Taken as Enters, Undeclared as NotDeclared, Unfit as DoesNotFit}
+use Rattle.declarations.specs.Declarations.{variableDeclared, counterDeclared, sideAt, lengthAt, widthAt}
+use Rattle.counters.specs.Counters.{counterEntered, tenTo}
+use Rattle.padding.specs.Padding.{enters}
+use Rattle.stored_values.specs.Stored.{variableEntered}
+use Rattle.values.specs.Sound.{allSet}
+use Rattle.grammar.specs.declared.ValueCommand.{ValueCommand}
+use Rattle.grammar.specs.declared.ValueCommand.the-variants.{Variable, Counter, Clear, Print}
 use Rattle.forms.specs.Form.{picturesStored}
 use Rattle.session.specs.declared.Session.{Session}
-use Rattle.session.specs.declared.answers.Answer.{Answer}
-use Rattle.session.specs.declared.answers.Answer.the-variants.{Taken, Missing, Undeclared, Misfit, Unset}
-use Rattle.session.specs.Answers.{Row, row, answerOf}
+use Rattle.answers.specs.declared.Answer.{Answer}
+use Rattle.answers.specs.declared.Answer.the-variants.{Taken, Missing, Undeclared, Misfit, Unset}
+use Rattle.answers.specs.Answers.{Row, row, answerOf}
 use Rattle.session.specs.Session.{counting, owing}
-use Rattle.session.specs.Lent.{World}
+use Rattle.lent.specs.Lent.{World}
 use Rattle.session.specs.Active.{activeOf, activeDeclared}
 use Rattle.results.specs.World.{State, state, withValues, unsetIn}
 use Rattle.results.specs.Result.{sixteenBits, Ran, ranBy}

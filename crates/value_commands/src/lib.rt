@@ -4,25 +4,25 @@
 // `run_value` promises one equation with `valueBy` (specs/Values.antt): its rows of the table, then what it does.
 ghost use mathlib.Core.Path.{_≡_};
 ghost use mathlib.Core.List.{[]};
-ghost use Rattle.read.specs.declared.ValueCommand.the-variants.{Variable as Enter, Counter as Count, Clear, Print as Owe};
-ghost use Rattle.session.specs.Lent.{world};
+ghost use Rattle.grammar.specs.declared.ValueCommand.the-variants.{Variable as Enter, Counter as Count, Clear, Print as Owe};
+ghost use Rattle.lent.specs.Lent.{world};
 ghost use Rattle.results.specs.Result.{ran};
 ghost use Rattle.value_commands.specs.Values.{enteredAnswer, valueBy};
+use answers::Answer;
+use answers::is_taken;
+use declarations::Entered;
+use grammar::Print;
+use grammar::SetCounter;
+use grammar::SetVariable;
+use grammar::ValueCommand;
 use parts::inside;
-use read::Print;
-use read::SetCounter;
-use read::SetVariable;
-use read::ValueCommand;
 use results::Done;
 use results::answered;
 use results::sixteen_bits;
 use results::taken;
-use session::Answer;
 use session::Session;
-use session::answers::is_taken;
 use sound::active_declared;
-use values::Entered;
-use values::stored::unset_all;
+use stored_values::unset_all;
 
 // [13] and [17], by what entering a value answers.
 fn entered(e: Entered) -> Answer
@@ -54,7 +54,7 @@ fn enter_variable(
     let d = active_declared(store, links, directory, active);
     let text = inside(line, at, length);
     answered(
-        entered(values::stored::set_variable(d, values, n, text)),
+        entered(stored_values::set_variable(d, values, n, text)),
         session,
     )
 }
@@ -74,7 +74,7 @@ fn enter_counter(
     let active = session.active;
     let counters = session.counters;
     let d = active_declared(store, links, directory, active);
-    let after = values::counters::set_counter(d, counters, n, value);
+    let after = counters::set_counter(d, counters, n, value);
     let answer = after.answer;
     let next = after.counters;
     let a = entered(answer);
@@ -110,7 +110,7 @@ fn owe(
         return answered(Answer::Missing, session);
     }
     let d = active_declared(store, links, directory, active);
-    if !values::stored::all_set(d, values, counters) {
+    if !values::all_set(d, values, counters) {
         return answered(Answer::Unset, session);
     }
     taken(session.owing(k))

@@ -1,5 +1,1 @@
-pub mod Lists
-pub mod Tens
-pub mod Fields
-pub mod Laying
 pub mod Sound

@@ -1,25 +1,62 @@
-// Variables and counters: what a form declares, what is stored of them, and what data shows.
+// The ten variables and ten counters of a form together: whether they are sound, and whether all that are declared are set.
 //
-// Paper 01 gives a form ten variables and ten counters. `?V` and `?C` enter their values, which are taken, or refused as undeclared (13) or
-// unfit (17); a variable is stored as padded in a field of 34 bytes, a counter moves by its step modulo 10^w after each label. Each piece of
-// data is a part of the line, of such a field, or of a counter's digits. The definitions (specs/) say all of this of any bytes and any numbers, and
-// each function here gives exactly what they say; that entering, unsetting and moving keep the values sound is proved in proofs/Sound.antt.
-// The elements of a line are read in crate `fields`, and which data may stand in a form is judged in crate `fitness`.
-pub mod counters;
-pub mod data;
-pub mod declarations;
-pub mod pieces;
-pub mod stored;
+// Sound asks that "set values fit its declarations, undeclared ones unset", and that labels are owed only when "all declared values are set". Both are asked of
+// each number from 0 to 9: of its field among the values that are lent (crate `stored_values`) and of its counter in the session (crate `counters`). That
+// entering a value, unsetting and moving keep the values sound is proved in proofs/Sound.antt.
+ghost use mathlib.Core.Path.{_≡_};
+ghost use Rattle.values.specs.Sound.{soundAt, valuesSound, setAt, allSet};
+use counters::Counters;
+use counters::counter_sound;
+use declarations::Declared;
+use ground::both;
+use ground::byte;
+use ground::either;
+use stored_values::field_at;
+use stored_values::field_sound;
 
-pub use counters::Counted;
-pub use counters::Counters;
-pub use counters::Entered;
-pub use counters::move_all;
-pub use counters::set_counter;
-pub use data::assemble;
-pub use declarations::Declared;
-pub use pieces::piece;
-pub use stored::all_set;
-pub use stored::set_variable;
-pub use stored::unset_all;
-pub use stored::values_sound;
+fn sound_at(d: Declared, values: &[u8], c: Counters, k: usize) -> bool
+    ensures { λ r. ⌜ r ≡ soundAt d (now (values .entry)) c k ⌝ }
+{
+    both(
+        field_sound(d, k, field_at(values, k)),
+        counter_sound(d, c, k),
+    )
+}
+
+// Whether values and counters are sound under a form's declarations.
+pub fn values_sound(d: Declared, values: &[u8], c: Counters) -> bool
+    ensures { λ r. ⌜ r ≡ valuesSound d (now (values .entry)) c ⌝ }
+{
+    let mut k: usize = 0;
+    while k < 10 {
+        if sound_at(d, values, c, k) {
+            k += 1;
+        } else {
+            return false;
+        }
+    }
+    true
+}
+
+fn set_at(d: Declared, values: &[u8], c: Counters, k: usize) -> bool
+    ensures { λ r. ⌜ r ≡ setAt d (now (values .entry)) c k ⌝ }
+{
+    let kept = byte(field_at(values, k), 0) == 1;
+    let variable = either(!d.variable_declared(k), kept);
+    both(variable, either(!d.counter_declared(k), c.is_set(k)))
+}
+
+// Whether every declared variable and counter is set.
+pub fn all_set(d: Declared, values: &[u8], c: Counters) -> bool
+    ensures { λ r. ⌜ r ≡ allSet d (now (values .entry)) c ⌝ }
+{
+    let mut k: usize = 0;
+    while k < 10 {
+        if set_at(d, values, c, k) {
+            k += 1;
+        } else {
+            return false;
+        }
+    }
+    true
+}

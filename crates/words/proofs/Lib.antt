@@ -1,1 +1,1 @@
-pub mod Slashes
+pub mod Table

@@ -1,13 +1,11 @@
--- What the program says in words. Assumes nothing.
-use Prim.Native.Nat.{ℕ, suc}
-use mathlib.Core.Bool.{cond}
-use mathlib.Core.List.{List, [], _∷_, _++_}
-use lib.Dec.{eqb, ltb}
-use Rattle.fields.specs.Text.{bytes}
-use Rattle.normal.specs.Written.{decimal}
-use Rattle.session.specs.Answers.{numberOf}
-use Rattle.session.specs.declared.answers.Answer.{Answer}
-use Rattle.session.specs.declared.answers.Answer.the-variants.{
+-- The answers in words, and the line of a call. Assumes nothing.
+use Prim.Native.Nat.{ℕ}
+use mathlib.Core.List.{List, _++_}
+use Rattle.kinds.specs.Text.{bytes}
+use Rattle.sentences.specs.Texts.{numbered}
+use Rattle.answers.specs.Answers.{numberOf}
+use Rattle.answers.specs.declared.Answer.{Answer}
+use Rattle.answers.specs.declared.Answer.the-variants.{
   Taken,
   Lengths,
   Font,
@@ -60,33 +58,4 @@ wordsOf NoneOwed = bytes "no label is owed"
 -- `line K: A, WORDS: LINE`
 unfoldable pub saidOf : ℕ → Answer → List ℕ → List ℕ
 saidOf k a line =
-    bytes "line " ++ (decimal k ++ (bytes ": " ++ (decimal (numberOf a) ++ (bytes ", " ++ (wordsOf a ++ (bytes ": " ++ (line ++ bytes "\n")))))))
-
--- `label I of N: NAME`
-unfoldable pub whichOf : ℕ → ℕ → List ℕ → List ℕ
-whichOf i n name = bytes "label " ++ (decimal i ++ (bytes " of " ++ (decimal n ++ (bytes ": " ++ name))))
-
--- `, W by L dots, B black`
-unfoldable pub sizeOf : ℕ → ℕ → ℕ → List ℕ
-sizeOf width rows black = bytes ", " ++ (decimal width ++ (bytes " by " ++ (decimal rows ++ (bytes " dots, " ++ (decimal black ++ bytes " black\n")))))
-
-abbrev pub labelOf : ℕ → ℕ → List ℕ → ℕ → ℕ → ℕ → List ℕ
-labelOf i n name width rows black = whichOf i n name ++ sizeOf width rows black
-
--- `T lines taken, R refused, L labels drawn`
-unfoldable pub sumOf : ℕ → ℕ → ℕ → List ℕ
-sumOf taken refused labels =
-    decimal taken ++ (bytes " lines taken, " ++ (decimal refused ++ (bytes " refused, " ++ (decimal labels ++ bytes " labels drawn\n"))))
-
--- zeros that make four digits of a number
-unfoldable pub zerosOf : ℕ → List ℕ
-zerosOf n = cond (ltb n 10) (bytes "000") (cond (ltb n 100) (bytes "00") (cond (ltb n 1000) (bytes "0") []))
-
--- `PREFIX-0001.pbm`
-unfoldable pub nameOf : List ℕ → ℕ → List ℕ
-nameOf prefix n = prefix ++ (bytes "-" ++ (zerosOf n ++ (decimal n ++ bytes ".pbm")))
-
--- the place after the last `/`, from a place on, where the last so far is known
-unfoldable pub lastSlash : ℕ → ℕ → List ℕ → ℕ
-lastSlash at best [] = best
-lastSlash at best (b ∷ l) = lastSlash (suc at) (cond (eqb b 47) (suc at) best) l
+    numbered (bytes "line ") k ++ (numbered (bytes ": ") (numberOf a) ++ (bytes ", " ++ (wordsOf a ++ (bytes ": " ++ (line ++ bytes "\n")))))

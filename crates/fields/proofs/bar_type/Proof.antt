@@ -1,10 +1,11 @@
 use Prim.Native.Nat.{_+_}
+use Prim.Native.Char.{code}
 use native.Mathlib.Omega.{arith}
 use denote.Ref.{now}
 use borrow.Author.Tests.{ne-eqb}
 use mathlib.Core.Bool.{and-false}
 use Rattle.fields.specs.Field.{typeAt}
-use Rattle.fields.proofs.Laws.{inside}
+use Rattle.classes.proofs.Laws.{inside}
 use borrow.Author.Needs.{needs}
 use Rattle.fields.proofs.bar_type.Statement.{statement}
 use Rattle.fields.proofs.bar_type.Tie as tie
@@ -29,7 +30,7 @@ byte-requires-2 c κs = search needs
 
 returns : tie.Need-returns
 unfolding typeAt
-returns c = rw (← c .before .before .before .byte .ensures, c .before .before .match .keys4) (simp (← c .before .byte2 .ensures, ne-eqb _ 51 (c .if1 .taken)))
+returns c = rw (← c .before .before .before .byte .ensures, c .before .before .match .keys4) (simp (← c .before .byte2 .ensures, ne-eqb _ (code "3") (c .if1 .taken)))
 
 add-byte-2 : tie.Need-add-byte-2
 add-byte-2 c = let h = inside (now (c .before .before .before .before .before .args .line)) (c .before .before .before .before .before .args .at) (omega arith) in omega arith
@@ -39,7 +40,7 @@ byte-requires-3 c κs = search needs
 
 returns-2 : tie.Need-returns-2
 unfolding typeAt
-returns-2 c = rw (← c .before .before .before .before .before .byte .ensures, c .before .before .before .before .match .keys4) (simp (← c .before .byte3 .ensures, ne-eqb _ 48 (c .if2 .taken), and-false))
+returns-2 c = rw (← c .before .before .before .before .before .byte .ensures, c .before .before .before .before .match .keys4) (simp (← c .before .byte3 .ensures, ne-eqb _ (code "0") (c .if2 .taken), and-false))
 
 add-t9 : tie.Need-add-t9
 add-t9 c = let h = inside (now (c .before .before .before .before .before .before .before .args .line)) (c .before .before .before .before .before .before .before .args .at + 2) (omega arith) in omega arith
@@ -62,7 +63,7 @@ returns-6 c = rw (← c .before .before .before .before .before .byte .ensures, 
 
 returns-7 : tie.Need-returns-7
 unfolding typeAt
-returns-7 c = let r = c .match .rest in simp (← c .before .byte .ensures, ne-eqb _ 49 (r .0 .0 .0 .1), ne-eqb _ 50 (r .0 .0 .1), ne-eqb _ 51 (r .0 .1), ne-eqb _ 69 (r .1))
+returns-7 c = let r = c .match .rest in simp (← c .before .byte .ensures, ne-eqb _ (code "1") (r .0 .0 .0 .1), ne-eqb _ (code "2") (r .0 .0 .1), ne-eqb _ (code "3") (r .0 .1), ne-eqb _ (code "E") (r .1))
 
 pub bar-type-spec : {M : Type 1} → statement M
 bar-type-spec =

@@ -1,7 +1,8 @@
 use native.Mathlib.Omega.{arith}
 use denote.Ref.{now}
 use mathlib.Core.Path.{sym}
-use Rattle.fields.proofs.Laws.{text-open, text-short, text-close, text-is, past}
+use Rattle.fields.proofs.Laws.{text-open, text-short, text-close, text-is}
+use Rattle.classes.proofs.Laws.{past}
 use borrow.Author.Needs.{needs}
 use Rattle.fields.proofs.text.Statement.{statement}
 use Rattle.fields.proofs.text.Tie as tie

@@ -1,6 +1,6 @@
 use mathlib.Core.Bool.{false}
 use mathlib.Core.Path.{ap}
-use Rattle.session.specs.Answers.{answerOf, isTaken, numberOf}
+use Rattle.answers.specs.Answers.{answerOf, isTaken, numberOf}
 use borrow.Author.Tests.{eq-eqb, ne-eqb}
 use Rattle.results.proofs.Parts.{inMemory, inWorld, erased-by, erased-unset}
 use borrow.Author.Needs.{needs}

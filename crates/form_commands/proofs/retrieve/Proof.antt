@@ -1,4 +1,4 @@
-use Rattle.session.specs.Answers.{answerOf, isTaken, numberOf}
+use Rattle.answers.specs.Answers.{answerOf, isTaken, numberOf}
 use borrow.Author.Needs.{needs}
 use Rattle.form_commands.proofs.retrieve.Statement.{statement}
 use Rattle.form_commands.proofs.retrieve.Tie as tie

@@ -1,5 +1,5 @@
 use Rattle.item_commands.proofs.First.{fit-answer}
-use Rattle.session.specs.Answers.{answerOf}
+use Rattle.answers.specs.Answers.{answerOf}
 use borrow.Author.Needs.{needs}
 use Rattle.item_commands.proofs.item_answer.Statement.{statement}
 use Rattle.item_commands.proofs.item_answer.Tie as tie

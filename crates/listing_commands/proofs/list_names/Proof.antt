@@ -1,4 +1,4 @@
-use Rattle.session.specs.Answers.{answerOf, isTaken, numberOf}
+use Rattle.answers.specs.Answers.{answerOf, isTaken, numberOf}
 use borrow.Author.Tests.{lt-ltb, le-ltb}
 use borrow.Author.Needs.{needs}
 use Rattle.listing_commands.proofs.list_names.Statement.{statement}

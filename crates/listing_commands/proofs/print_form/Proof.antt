@@ -1,4 +1,4 @@
-use Rattle.session.specs.Answers.{answerOf, isTaken, numberOf}
+use Rattle.answers.specs.Answers.{answerOf, isTaken, numberOf}
 use Rattle.results.proofs.Parts.{inOutput, lifted}
 use Rattle.listing_commands.proofs.Around.{nothing-exceeds}
 use borrow.Author.Needs.{needs}

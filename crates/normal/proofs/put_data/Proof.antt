@@ -3,10 +3,11 @@ use mathlib.Core.Path.{_∙_, sym}
 use native.Mathlib.Omega.{arith}
 use denote.Ref.{now}
 use lib.ListN.{length}
-use Rattle.fields.specs.Data.{elements}
-use Rattle.fields.proofs.Steps.{element-took, element-past}
+use Rattle.elements.specs.Elements.{elements}
+use Rattle.elements.proofs.Steps.{element-took, element-past}
 use Rattle.normal.specs.Written.{dataWritten}
-use Rattle.normal.proofs.Writes.{Rest, rest-start, rest-step, rest-done, rest-same, wrote-length, data-next, data-stop}
+use Rattle.writing.proofs.Writes.{Rest, rest-start, rest-step, rest-done, rest-same, wrote-length}
+use Rattle.normal.proofs.Writes.{data-next, data-stop}
 use borrow.Author.Needs.{needs}
 use Rattle.normal.proofs.put_data.Statement.{statement}
 use Rattle.normal.proofs.put_data.Tie as tie

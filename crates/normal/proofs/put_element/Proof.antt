@@ -1,7 +1,7 @@
 use mathlib.Core.Path.{_∙_, ap}
 use lib.ListN.{take}
 use Rattle.normal.specs.Written.{whatWritten}
-use Rattle.normal.proofs.Writes.{wrote-same, cased-kept}
+use Rattle.writing.proofs.Writes.{wrote-same, cased-kept}
 use borrow.Author.Needs.{needs}
 use Rattle.normal.proofs.put_element.Statement.{statement}
 use Rattle.normal.proofs.put_element.Tie as tie

@@ -1,18 +1,20 @@
+use Prim.Native.Char.{code}
 use borrow.Author.Tests.{ne-eqb}
 use mathlib.Core.Path.{_∙_, ap}
 use mathlib.Core.Bool.{false}
 use lib.ListN.{take}
-use Rattle.normal.specs.Written.{writtenField, cased}
-use Rattle.normal.proofs.Writes.{wrote-same}
+use Rattle.normal.specs.Written.{writtenField}
+use Rattle.writing.specs.Writing.{cased}
+use Rattle.writing.proofs.Writes.{wrote-same}
 use borrow.Author.Needs.{needs}
 use Rattle.normal.proofs.put_field.Statement.{statement}
 use Rattle.normal.proofs.put_field.Tie as tie
 
-put-number-requires : tie.Need-put-number-requires
-put-number-requires c κs = search needs
+put-decimal-requires : tie.Need-put-decimal-requires
+put-decimal-requires c κs = search needs
 
-put-number-requires-2 : tie.Need-put-number-requires-2
-put-number-requires-2 c κs = search needs
+put-decimal-requires-2 : tie.Need-put-decimal-requires-2
+put-decimal-requires-2 c κs = search needs
 
 put-text-requires : tie.Need-put-text-requires
 put-text-requires c κs = search needs
@@ -70,14 +72,14 @@ same-length c = search needs
 
 returns : tie.Need-returns
 unfolding writtenField
-returns c = rw (c .before .before .before .before .match .keys1) (c .before .before .put-number .ensures)
+returns c = rw (c .before .before .before .before .match .keys1) (c .before .before .put-decimal .ensures)
 
 same-length-2 : tie.Need-same-length-2
 same-length-2 c = search needs
 
 returns-2 : tie.Need-returns-2
 unfolding writtenField
-returns-2 c = rw (c .before .before .before .before .match .keys2) (c .before .before .put-number2 .ensures)
+returns-2 c = rw (c .before .before .before .before .match .keys2) (c .before .before .put-decimal2 .ensures)
 
 same-length-3 : tie.Need-same-length-3
 same-length-3 c = search needs
@@ -147,14 +149,14 @@ same-length-12 c = search needs
 
 returns-12 : tie.Need-returns-12
 unfolding writtenField
-returns-12 c = let r = c .before .before .before .before .match .rest in simp (ne-eqb _ 110 (r .0 .0 .0 .0 .0 .0 .0 .0 .0 .0 .1), ne-eqb _ 119 (r .0 .0 .0 .0 .0 .0 .0 .0 .0 .1), ne-eqb _ 116 (r .0 .0 .0 .0 .0 .0 .0 .0 .1), ne-eqb _ 117 (r .0 .0 .0 .0 .0 .0 .0 .1), ne-eqb _ 97 (r .0 .0 .0 .0 .0 .0 .1), ne-eqb _ 122 (r .0 .0 .0 .0 .0 .1), ne-eqb _ 115 (r .0 .0 .0 .0 .1), ne-eqb _ 109 (r .0 .0 .0 .1), ne-eqb _ 106 (r .0 .0 .1), ne-eqb _ 107 (r .0 .1), ne-eqb _ 100 (r .1)) (c .before .before .put .ensures)
+returns-12 c = let r = c .before .before .before .before .match .rest in simp (ne-eqb _ (code "n") (r .0 .0 .0 .0 .0 .0 .0 .0 .0 .0 .1), ne-eqb _ (code "w") (r .0 .0 .0 .0 .0 .0 .0 .0 .0 .1), ne-eqb _ (code "t") (r .0 .0 .0 .0 .0 .0 .0 .0 .1), ne-eqb _ (code "u") (r .0 .0 .0 .0 .0 .0 .0 .1), ne-eqb _ (code "a") (r .0 .0 .0 .0 .0 .0 .1), ne-eqb _ (code "z") (r .0 .0 .0 .0 .0 .1), ne-eqb _ (code "s") (r .0 .0 .0 .0 .1), ne-eqb _ (code "m") (r .0 .0 .0 .1), ne-eqb _ (code "j") (r .0 .0 .1), ne-eqb _ (code "k") (r .0 .1), ne-eqb _ (code "d") (r .1)) (c .before .before .put .ensures)
 
 pub put-field-spec : {M : Type 1} → statement M
 put-field-spec =
     tie.close
     (tie.spec
-    put-number-requires
-    put-number-requires-2
+    put-decimal-requires
+    put-decimal-requires-2
     put-text-requires
     put-text-requires-2
     put-text-requires-3

@@ -2,10 +2,11 @@ use Prim.Native.Nat.{_-_}
 use native.Mathlib.Omega.{arith}
 use denote.Ref.{now}
 use lib.ListN.{drop, getD}
-use Rattle.read.specs.Grammar.{rowOf}
+use Rattle.grammar.specs.Forms.{rowOf}
 use Rattle.grammar.proofs.Rows.{form-at, in-row, out-row, row-short}
 use Rattle.normal.specs.Written.{writtenFrom}
-use Rattle.normal.proofs.Writes.{Rest, rest-start, rest-step, rest-done, rest-same, wrote-length, written-more, written-done}
+use Rattle.writing.proofs.Writes.{Rest, rest-start, rest-step, rest-done, rest-same, wrote-length}
+use Rattle.normal.proofs.Writes.{written-more, written-done}
 use borrow.Author.Needs.{needs}
 use Rattle.normal.proofs.put_row.Statement.{statement}
 use Rattle.normal.proofs.put_row.Tie as tie

@@ -2,8 +2,9 @@ use Prim.Native.Nat.{_+_}
 use mathlib.Core.Path.{_∙_, ap, sym}
 use denote.Ref.{now}
 use lib.ListN.{take}
-use Rattle.normal.specs.Written.{cased}
-use Rattle.normal.proofs.Writes.{wrote-same, kept-all}
+use Rattle.writing.specs.Writing.{cased}
+use Rattle.writing.proofs.Writes.{wrote-same}
+use Rattle.normal.proofs.Writes.{kept-all}
 use borrow.Author.Needs.{needs}
 use Rattle.normal.proofs.put_text.Statement.{statement}
 use Rattle.normal.proofs.put_text.Tie as tie

@@ -2,7 +2,8 @@ use mathlib.Core.Path.{sym}
 use native.Mathlib.Omega.{arith}
 use denote.Ref.{now}
 use Rattle.normal.specs.Written.{headWritten}
-use Rattle.normal.proofs.Writes.{wrote-none, wrote-same, written-bad, written-good}
+use Rattle.writing.proofs.Writes.{wrote-none, wrote-same}
+use Rattle.normal.proofs.Writes.{written-bad, written-good}
 use borrow.Author.Needs.{needs}
 use Rattle.normal.proofs.write.Statement.{statement}
 use Rattle.normal.proofs.write.Tie as tie

@@ -1,6 +1,6 @@
 use mathlib.Core.Path.{sym, _∙_}
 use native.Mathlib.Omega.{arith}
-use Rattle.session.proofs.Lengths.{page-bound}
+use Rattle.lent.proofs.Lengths.{page-bound}
 use Rattle.opening.proofs.Cleared.{opened-wrong, opened-uneven, opened-good}
 use borrow.Author.Needs.{needs}
 use Rattle.opening.proofs.open.Statement.{statement}

@@ -3,8 +3,8 @@ use mathlib.Core.Bool.{true, false}
 use lib.Dec.{eqb}
 use lib.ListN.{getD}
 use borrow.Author.Tests.{eq-eqb, ne-eqb}
-use Rattle.fields.specs.Text.{bytes}
-use Rattle.normal.specs.Written.{equal}
+use Rattle.kinds.specs.Text.{bytes}
+use Rattle.writing.specs.Writing.{equal}
 use Rattle.options.specs.Options.{wordOf}
 use borrow.Author.Needs.{needs}
 use Rattle.options.proofs.word_of.Statement.{statement}

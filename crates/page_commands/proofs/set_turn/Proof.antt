@@ -1,4 +1,4 @@
-use Rattle.session.specs.Answers.{answerOf, isTaken, numberOf}
+use Rattle.answers.specs.Answers.{answerOf, isTaken, numberOf}
 use borrow.Author.Needs.{needs}
 use Rattle.page_commands.proofs.set_turn.Statement.{statement}
 use Rattle.page_commands.proofs.set_turn.Tie as tie

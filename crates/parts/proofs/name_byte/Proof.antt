@@ -3,7 +3,7 @@ use native.Mathlib.Omega.{arith}
 use denote.Ref.{now}
 use borrow.Author.Tests.{le-ltb, lt-ltb}
 use Rattle.kinds.specs.Bytes.{between}
-use Rattle.fields.proofs.Laws.{past}
+use Rattle.classes.proofs.Laws.{past}
 use Rattle.parts.specs.Names.{nameByte, capital}
 use borrow.Author.Needs.{needs}
 use Rattle.parts.proofs.name_byte.Statement.{statement}

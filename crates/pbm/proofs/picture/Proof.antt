@@ -1,4 +1,4 @@
-use Rattle.normal.proofs.Writes.{wrote-then}
+use Rattle.writing.proofs.Writes.{wrote-then}
 use borrow.Author.Needs.{needs}
 use Rattle.pbm.proofs.picture.Statement.{statement}
 use Rattle.pbm.proofs.picture.Tie as tie

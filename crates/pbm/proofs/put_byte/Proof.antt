@@ -1,7 +1,7 @@
 use mathlib.Core.Path.{ap}
 use mathlib.Core.List.{List, [], _∷_}
 use Prim.Native.Nat.{ℕ}
-use Rattle.normal.proofs.Writes.{wrote-same}
+use Rattle.writing.proofs.Writes.{wrote-same}
 use borrow.Author.Needs.{needs}
 use Rattle.pbm.proofs.put_byte.Statement.{statement}
 use Rattle.pbm.proofs.put_byte.Tie as tie

@@ -3,7 +3,7 @@ use mathlib.Core.Path.{_≡_, refl, ap, _∙_}
 use Prim.Native.Nat.{_-_}
 use native.Mathlib.Omega.{arith}
 use lib.ListN.{length}
-use Rattle.normal.proofs.Writes.{Rest, wrote-length, wrote-same}
+use Rattle.writing.proofs.Writes.{Rest, wrote-length, wrote-same}
 use Rattle.pbm.specs.Pbm.{rowFrom}
 use Rattle.pbm.proofs.Rows.{row-next, row-last}
 use borrow.Author.Needs.{needs}

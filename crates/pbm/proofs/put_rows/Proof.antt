@@ -2,7 +2,7 @@ use mathlib.Core.Path.{_≡_, refl, _∙_}
 use Prim.Native.Nat.{_-_}
 use native.Mathlib.Omega.{arith}
 use lib.ListN.{length}
-use Rattle.normal.proofs.Writes.{Rest, wrote-length}
+use Rattle.writing.proofs.Writes.{Rest, wrote-length}
 use Rattle.pbm.specs.Pbm.{rowsFrom}
 use Rattle.pbm.proofs.Rows.{none-yet, rows-next, rows-last}
 use borrow.Author.Needs.{needs}

@@ -1,6 +1,6 @@
 use mathlib.Core.Bool.{true}
 use mathlib.Core.Path.{ap}
-use Rattle.session.specs.Answers.{answerOf, isTaken, numberOf}
+use Rattle.answers.specs.Answers.{answerOf, isTaken, numberOf}
 use Rattle.results.proofs.Parts.{inMemory, inWorld, erased-by}
 use borrow.Author.Needs.{needs}
 use Rattle.picture_commands.proofs.erase_picture.Statement.{statement}

@@ -13,26 +13,20 @@ returns-2 c = search needs
 portions-requires : tie.Need-portions-requires
 portions-requires c κs = search needs
 
-portions-requires-2 : tie.Need-portions-requires-2
-portions-requires-2 c κs = search needs
-
 large-buffer-requires : tie.Need-large-buffer-requires
 large-buffer-requires c κs = search needs
-
-file-requires : tie.Need-file-requires
-file-requires c κs = search needs
 
 slice-relend-prefix-work : tie.Need-slice-relend-prefix-work
 slice-relend-prefix-work c = search needs
 
 slice-aggregate-work : tie.Need-slice-aggregate-work
-slice-aggregate-work c = sym (length-take-le _ _ (c .before .before .before .before .before .before .if1 .left))
+slice-aggregate-work c = sym (length-take-le _ _ (c .before .before .before .before .if1 .left))
 
 slice-relend-prefix-work-2 : tie.Need-slice-relend-prefix-work-2
 slice-relend-prefix-work-2 c = search needs
 
 slice-aggregate-work-2 : tie.Need-slice-aggregate-work-2
-slice-aggregate-work-2 c = sym (length-take-le _ _ (c .before .before .before .before .before .before .if2 .left))
+slice-aggregate-work-2 c = sym (length-take-le _ _ (c .before .before .before .before .if2 .left))
 
 slice-aggregate-work-3 : tie.Need-slice-aggregate-work-3
 slice-aggregate-work-3 c = search needs
@@ -48,12 +42,6 @@ slice-aggregate-work-6 c = search needs
 
 slice-aggregate-work-7 : tie.Need-slice-aggregate-work-7
 slice-aggregate-work-7 c = search needs
-
-slice-aggregate-work-8 : tie.Need-slice-aggregate-work-8
-slice-aggregate-work-8 c = search needs
-
-slice-aggregate-work-9 : tie.Need-slice-aggregate-work-9
-slice-aggregate-work-9 c = search needs
 
 work-requires : tie.Need-work-requires
 work-requires c κs = search needs
@@ -77,9 +65,7 @@ cut-spec =
     returns
     returns-2
     portions-requires
-    portions-requires-2
     large-buffer-requires
-    file-requires
     slice-relend-prefix-work
     slice-aggregate-work
     slice-relend-prefix-work-2
@@ -89,8 +75,6 @@ cut-spec =
     slice-aggregate-work-5
     slice-aggregate-work-6
     slice-aggregate-work-7
-    slice-aggregate-work-8
-    slice-aggregate-work-9
     work-requires
     same-length
     same-length-2

@@ -1,3 +1,4 @@
+use Prim.Native.Char.{code}
 use borrow.Author.Tests.{ne-eqb}
 use Rattle.reader.specs.Letters.{fieldAt}
 use borrow.Author.Needs.{needs}
@@ -86,7 +87,7 @@ returns-11 c = rw (c .before .match .keys11) (c .data-form .ensures)
 
 returns-12 : tie.Need-returns-12
 unfolding fieldAt
-returns-12 c = let r = c .before .match .rest in simp (ne-eqb _ 110 (r .0 .0 .0 .0 .0 .0 .0 .0 .0 .0 .1), ne-eqb _ 119 (r .0 .0 .0 .0 .0 .0 .0 .0 .0 .1), ne-eqb _ 116 (r .0 .0 .0 .0 .0 .0 .0 .0 .1), ne-eqb _ 97 (r .0 .0 .0 .0 .0 .0 .0 .1), ne-eqb _ 122 (r .0 .0 .0 .0 .0 .0 .1), ne-eqb _ 117 (r .0 .0 .0 .0 .0 .1), ne-eqb _ 115 (r .0 .0 .0 .0 .1), ne-eqb _ 109 (r .0 .0 .0 .1), ne-eqb _ 106 (r .0 .0 .1), ne-eqb _ 107 (r .0 .1), ne-eqb _ 100 (r .1), c .literal .ensures)
+returns-12 c = let r = c .before .match .rest in simp (ne-eqb _ (code "n") (r .0 .0 .0 .0 .0 .0 .0 .0 .0 .0 .1), ne-eqb _ (code "w") (r .0 .0 .0 .0 .0 .0 .0 .0 .0 .1), ne-eqb _ (code "t") (r .0 .0 .0 .0 .0 .0 .0 .0 .1), ne-eqb _ (code "a") (r .0 .0 .0 .0 .0 .0 .0 .1), ne-eqb _ (code "z") (r .0 .0 .0 .0 .0 .0 .1), ne-eqb _ (code "u") (r .0 .0 .0 .0 .0 .1), ne-eqb _ (code "s") (r .0 .0 .0 .0 .1), ne-eqb _ (code "m") (r .0 .0 .0 .1), ne-eqb _ (code "j") (r .0 .0 .1), ne-eqb _ (code "k") (r .0 .1), ne-eqb _ (code "d") (r .1), c .literal .ensures)
 
 pub field-at-spec : {M : Type 1} → statement M
 field-at-spec =

@@ -2,8 +2,6 @@ use Rattle.kinds.specs.Bytes.{between}
 use borrow.Author.Needs.{needs}
 use Rattle.sound.proofs.is_in.Statement.{statement}
 use Rattle.sound.proofs.is_in.Tie as tie
-use Rattle.sound.proofs.is_in.Reads as reads
-use Rattle.sound.proofs.is_in.Lts as lts
 
 both-requires : tie.Need-both-requires
 both-requires c κs = search needs

@@ -3,13 +3,6 @@ use Rattle.sound.proofs.Clauses.{stop, skip}
 use borrow.Author.Needs.{needs}
 use Rattle.sound.proofs.is_sound.Statement.{statement}
 use Rattle.sound.proofs.is_sound.Tie as tie
-use Rattle.sound.proofs.is_sound.Reads as reads
-use Rattle.sound.proofs.is_sound.Lts as lts
-use Rattle.store_check.proofs.store_sound.Reads as store-sound-reads
-use Rattle.sound.proofs.activity_sound.Reads as activity-sound-reads
-use Rattle.sound.proofs.background_ok.Reads as background-ok-reads
-use Rattle.sound.proofs.contents.contents_ok.Reads as contents-ok-reads
-use Rattle.sound.proofs.numbers_ok.Reads as numbers-ok-reads
 
 numbers-ok-requires : tie.Need-numbers-ok-requires
 numbers-ok-requires c κs = search needs

@@ -1,3 +1,4 @@
+use mathlib.Core.List.{[], _∷_}
 use Rattle.store.specs.Entry.{name}
 use borrow.Author.Needs.{needs}
 use Rattle.store.proofs.name_at.Statement.{statement}
@@ -53,7 +54,16 @@ cast-h c = search needs
 
 returns : tie.Need-returns
 unfolding name
-returns c = cc (c .before .before .before .before .before .before .before .field .ensures .0, c .before .before .before .before .before .before .field2 .ensures .0, c .before .before .before .before .before .field3 .ensures .0, c .before .before .before .before .field4 .ensures .0, c .before .before .before .field5 .ensures .0, c .before .before .field6 .ensures .0, c .before .field7 .ensures .0, c .field8 .ensures .0)
+returns c = λ j.
+    (c .before .before .before .before .before .before .before .field .ensures .0) j
+    ∷ (c .before .before .before .before .before .before .field2 .ensures .0) j
+    ∷ (c .before .before .before .before .before .field3 .ensures .0) j
+    ∷ (c .before .before .before .before .field4 .ensures .0) j
+    ∷ (c .before .before .before .field5 .ensures .0) j
+    ∷ (c .before .before .field6 .ensures .0) j
+    ∷ (c .before .field7 .ensures .0) j
+    ∷ (c .field8 .ensures .0) j
+    ∷ []
 
 pub name-at-spec : {M : Type 1} → statement M
 name-at-spec =

@@ -3,7 +3,7 @@ use Prim.Native.Nat.{_-_}
 use native.Mathlib.Omega.{arith}
 use borrow.Author.Tests.{lt-leb, le-leb}
 use Rattle.store_sound.specs.Sound.{kindOk, kindsOk}
-use Rattle.store_check.proofs.Passing.{Passing, passing-start, passing-step, passing-stop, passing-done}
+use Rattle.cells.proofs.Passing.{Passing, passing-start, passing-step, passing-stop, passing-done}
 use borrow.Author.Needs.{needs}
 use Rattle.store_check.proofs.kinds_ok.Statement.{statement}
 use Rattle.store_check.proofs.kinds_ok.Tie as tie

@@ -2,7 +2,7 @@ use mathlib.Core.Path.{sym, _∙_}
 use Prim.Native.Nat.{_-_}
 use borrow.Author.Tests.{not-true, not-false}
 use Rattle.store_sound.specs.Sound.{nameByteOk}
-use Rattle.store_check.proofs.Passing.{Passing, passing-start, passing-step, passing-stop, passing-done}
+use Rattle.cells.proofs.Passing.{Passing, passing-start, passing-step, passing-stop, passing-done}
 use borrow.Author.Needs.{needs}
 use Rattle.store_check.proofs.name_bytes_ok.Statement.{statement}
 use Rattle.store_check.proofs.name_bytes_ok.Tie as tie

@@ -1,4 +1,4 @@
-use Rattle.session.specs.Answers.{answerOf, isTaken, numberOf}
+use Rattle.answers.specs.Answers.{answerOf, isTaken, numberOf}
 use borrow.Author.Needs.{needs}
 use Rattle.value_commands.proofs.clear.Statement.{statement}
 use Rattle.value_commands.proofs.clear.Tie as tie

@@ -1,5 +1,5 @@
 use mathlib.Core.Path.{refl, sym, ap, _∙_}
-use Rattle.values.specs.declared.counters.Counted.{Counted}
+use Rattle.counters.specs.declared.Counted.{Counted}
 use Rattle.value_commands.specs.Values.{enteredAnswer}
 use Rattle.value_commands.proofs.Entering.{counter-first}
 use Rattle.results.proofs.Parts.{refused-by, taken-by}

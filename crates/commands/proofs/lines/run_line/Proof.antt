@@ -1,7 +1,7 @@
 use mathlib.Core.Path.{sym, _∙_}
 use borrow.Author.Tests.{lt-ltb, le-ltb}
 use borrow.Author.Needs.{needs}
-use Rattle.session.specs.Lent.{world}
+use Rattle.lent.specs.Lent.{world}
 use Rattle.commands.proofs.Kept.{short-read}
 use Rattle.commands.proofs.Ends.{lengths-by, long-by, line-read, fault-by}
 use Rattle.commands.proofs.lines.run_line.Statement.{statement}

@@ -1,4 +1,4 @@
-use Rattle.session.specs.Answers.{answerOf, isTaken, numberOf}
+use Rattle.answers.specs.Answers.{answerOf, isTaken, numberOf}
 use borrow.Author.Needs.{needs}
 use Rattle.commands.proofs.records.end_form.Statement.{statement}
 use Rattle.commands.proofs.records.end_form.Tie as tie

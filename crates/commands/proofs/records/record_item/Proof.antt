@@ -1,8 +1,8 @@
 use Rattle.normal.specs.Written.{normal}
 use mathlib.Core.Path.{ap, _∙_}
 use native.Mathlib.Omega.{arith}
-use Rattle.moves.specs.Grow.{appended}
-use Rattle.session.specs.Answers.{answerOf}
+use Rattle.growing.specs.Grow.{appended}
+use Rattle.answers.specs.Answers.{answerOf}
 use Rattle.results.proofs.Parts.{inMemory, refused-by, taken-by}
 use Rattle.commands.proofs.Kept.{kept-line, wrote-length}
 use borrow.Author.Needs.{needs}

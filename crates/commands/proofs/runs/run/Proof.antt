@@ -1,21 +1,31 @@
-use Rattle.session.specs.Answers.{answerOf, isTaken, numberOf}
-use Rattle.results.proofs.Parts.{onBackground, lifted}
-use Rattle.commands.proofs.Arms.{page-run, form-run, picture-run, value-run, listing-run}
+use Rattle.lent.specs.Lent.{world}
+use Rattle.commands.proofs.Arms.{misplaced-run, end-run, item-run, page-run, form-run, picture-run, value-run, listing-run}
 use borrow.Author.Needs.{needs}
 use Rattle.commands.proofs.runs.run.Statement.{statement}
 use Rattle.commands.proofs.runs.run.Tie as tie
 
+has-place-requires : tie.Need-has-place-requires
+has-place-requires c κs = search needs
+
+answered-requires : tie.Need-answered-requires
+answered-requires c κs = search needs
+
+returns : tie.Need-returns
+returns c =
+    let a = c .before .before .before .before .before .before .before .before .before .before .before .before .args in
+    rw (c .answered .ensures) (misplaced-run (a .session) (a .font .now) (a .line .now) (a .more .now) (a .output .now) (world (a .background .now) (a .store .now) (a .links .now) (a .directory .now) (a .values .now)) (a .command) _ (c .before .before .has-place .ensures) (c .before .if1 .taken))
+
 enum-known-command : tie.Need-enum-known-command
 enum-known-command c = search needs
 
-run-placed-requires : tie.Need-run-placed-requires
-run-placed-requires c κs = search needs
+run-item-requires : tie.Need-run-item-requires
+run-item-requires c κs = search needs
 
 enum-told : tie.Need-enum-told
 enum-told c = search needs
 
-answered-requires : tie.Need-answered-requires
-answered-requires c κs = search needs
+taken-requires : tie.Need-taken-requires
+taken-requires c κs = search needs
 
 enum-known-command-2 : tie.Need-enum-known-command-2
 enum-known-command-2 c = search needs
@@ -62,12 +72,14 @@ same-length-4 c = search needs
 same-length-5 : tie.Need-same-length-5
 same-length-5 c = search needs
 
-returns : tie.Need-returns
-returns c = rw (c .before .before .before .before .before .before .before .before .before .command .given .1) (lifted (onBackground _ _ _ _ _) _ _ _ _ (c .before .before .run-placed .ensures))
-
 returns-2 : tie.Need-returns-2
-unfolding answerOf isTaken numberOf
-returns-2 c = rw (c .before .enum-told .given .1, c .answered .ensures)
+returns-2 c =
+    item-run _ _ _ _ _ _ _ _ _ _ _ _ _ _ (c .before .before .before .before .before .before .before .before .before .command .given .1) (c .before .before .before .before .before .before .before .before .before .before .before .before .has-place .ensures) (c .before .before .before .before .before .before .before .before .before .before .before .if1 .left) (c .before .before .run-item .ensures)
+
+returns-3 : tie.Need-returns-3
+returns-3 c =
+    let a = c .before .before .before .before .before .before .before .before .before .before .before .before .before .before .args in
+    end-run (a .session) (a .font .now) (a .line .now) (a .more .now) (a .output .now) (world (a .background .now) (a .store .now) (a .links .now) (a .directory .now) (a .values .now)) (a .command) _ _ (c .before .enum-told .given .1) (c .before .before .before .before .has-place .ensures) (c .before .before .before .if1 .left)
 
 same-length-6 : tie.Need-same-length-6
 same-length-6 c = search needs
@@ -75,8 +87,10 @@ same-length-6 c = search needs
 same-length-7 : tie.Need-same-length-7
 same-length-7 c = search needs
 
-returns-3 : tie.Need-returns-3
-returns-3 c = rw (c .before .before .before .before .before .before .before .before .command2 .given .1) (page-run (c .before .before .before .before .before .before .before .before .before .before .before .before .before .before .before .before .before .before .before .args .session) (c .before .before .before .before .before .before .before .before .before .before .before .before .before .before .before .before .before .before .before .args .font .now) (c .before .before .before .before .before .before .before .before .before .before .before .before .before .before .before .before .before .before .before .args .line .now) (c .before .before .before .before .before .before .before .before .before .before .before .before .before .before .before .before .before .before .before .args .more .now) (c .before .before .before .before .before .before .before .before .before .before .before .before .before .before .before .before .before .before .before .args .background .now) (c .before .before .before .before .before .before .before .before .before .before .before .before .before .before .before .before .before .before .before .args .store .now) (c .before .before .before .before .before .before .before .before .before .before .before .before .before .before .before .before .before .before .before .args .links .now) (c .before .before .before .before .before .before .before .before .before .before .before .before .before .before .before .before .before .before .before .args .directory .now) (c .before .before .before .before .before .before .before .before .before .before .before .before .before .before .before .before .before .before .before .args .values .now) (c .before .before .before .before .before .before .before .before .before .before .before .before .before .before .before .before .before .before .before .args .output .now) _ (c .before .before .before .before .before .before .before .before .command2 .given .0 .0) (c .before .before .before .before .run-page .ensures))
+returns-4 : tie.Need-returns-4
+returns-4 c =
+    let a = c .before .before .before .before .before .before .before .before .before .before .before .before .before .before .before .before .before .before .before .before .before .args in
+    rw (c .before .before .before .before .before .before .before .before .command2 .given .1) (page-run (a .session) (a .font .now) (a .line .now) (a .more .now) (a .background .now) (a .store .now) (a .links .now) (a .directory .now) (a .values .now) (a .output .now) _ (c .before .before .before .before .before .before .before .before .command2 .given .0 .0) (c .before .before .before .before .run-page .ensures))
 
 same-length-8 : tie.Need-same-length-8
 same-length-8 c = search needs
@@ -90,8 +104,10 @@ same-length-10 c = search needs
 same-length-11 : tie.Need-same-length-11
 same-length-11 c = search needs
 
-returns-4 : tie.Need-returns-4
-returns-4 c = rw (c .before .before .before .before .before .before .before .before .before .before .before .before .before .before .command3 .given .1) (form-run (c .before .before .before .before .before .before .before .before .before .before .before .before .before .before .before .before .before .before .before .before .before .before .before .before .before .args .session) (c .before .before .before .before .before .before .before .before .before .before .before .before .before .before .before .before .before .before .before .before .before .before .before .before .before .args .font .now) (c .before .before .before .before .before .before .before .before .before .before .before .before .before .before .before .before .before .before .before .before .before .before .before .before .before .args .line .now) (c .before .before .before .before .before .before .before .before .before .before .before .before .before .before .before .before .before .before .before .before .before .before .before .before .before .args .more .now) (c .before .before .before .before .before .before .before .before .before .before .before .before .before .before .before .before .before .before .before .before .before .before .before .before .before .args .background .now) (c .before .before .before .before .before .before .before .before .before .before .before .before .before .before .before .before .before .before .before .before .before .before .before .before .before .args .store .now) (c .before .before .before .before .before .before .before .before .before .before .before .before .before .before .before .before .before .before .before .before .before .before .before .before .before .args .links .now) (c .before .before .before .before .before .before .before .before .before .before .before .before .before .before .before .before .before .before .before .before .before .before .before .before .before .args .directory .now) (c .before .before .before .before .before .before .before .before .before .before .before .before .before .before .before .before .before .before .before .before .before .before .before .before .before .args .values .now) (c .before .before .before .before .before .before .before .before .before .before .before .before .before .before .before .before .before .before .before .before .before .before .before .before .before .args .output .now) _ (c .before .before .before .before .before .before .before .before .before .before .before .before .before .before .command3 .given .0 .0) (c .before .before .before .before .before .before .before .before .run-form .ensures))
+returns-5 : tie.Need-returns-5
+returns-5 c =
+    let a = c .before .before .before .before .before .before .before .before .before .before .before .before .before .before .before .before .before .before .before .before .before .before .before .before .before .before .before .args in
+    rw (c .before .before .before .before .before .before .before .before .before .before .before .before .before .before .command3 .given .1) (form-run (a .session) (a .font .now) (a .line .now) (a .more .now) (a .background .now) (a .store .now) (a .links .now) (a .directory .now) (a .values .now) (a .output .now) _ (c .before .before .before .before .before .before .before .before .before .before .before .before .before .before .command3 .given .0 .0) (c .before .before .before .before .before .before .before .before .run-form .ensures))
 
 same-length-12 : tie.Need-same-length-12
 same-length-12 c = search needs
@@ -102,8 +118,10 @@ same-length-13 c = search needs
 same-length-14 : tie.Need-same-length-14
 same-length-14 c = search needs
 
-returns-5 : tie.Need-returns-5
-returns-5 c = rw (c .before .before .before .before .before .before .before .before .before .before .before .command4 .given .1) (picture-run (c .before .before .before .before .before .before .before .before .before .before .before .before .before .before .before .before .before .before .before .before .before .before .args .session) (c .before .before .before .before .before .before .before .before .before .before .before .before .before .before .before .before .before .before .before .before .before .before .args .font .now) (c .before .before .before .before .before .before .before .before .before .before .before .before .before .before .before .before .before .before .before .before .before .before .args .line .now) (c .before .before .before .before .before .before .before .before .before .before .before .before .before .before .before .before .before .before .before .before .before .before .args .more .now) (c .before .before .before .before .before .before .before .before .before .before .before .before .before .before .before .before .before .before .before .before .before .before .args .background .now) (c .before .before .before .before .before .before .before .before .before .before .before .before .before .before .before .before .before .before .before .before .before .before .args .store .now) (c .before .before .before .before .before .before .before .before .before .before .before .before .before .before .before .before .before .before .before .before .before .before .args .links .now) (c .before .before .before .before .before .before .before .before .before .before .before .before .before .before .before .before .before .before .before .before .before .before .args .directory .now) (c .before .before .before .before .before .before .before .before .before .before .before .before .before .before .before .before .before .before .before .before .before .before .args .values .now) (c .before .before .before .before .before .before .before .before .before .before .before .before .before .before .before .before .before .before .before .before .before .before .args .output .now) _ (c .before .before .before .before .before .before .before .before .before .before .before .command4 .given .0 .0) (c .before .before .before .before .before .before .run-picture .ensures))
+returns-6 : tie.Need-returns-6
+returns-6 c =
+    let a = c .before .before .before .before .before .before .before .before .before .before .before .before .before .before .before .before .before .before .before .before .before .before .before .before .args in
+    rw (c .before .before .before .before .before .before .before .before .before .before .before .command4 .given .1) (picture-run (a .session) (a .font .now) (a .line .now) (a .more .now) (a .background .now) (a .store .now) (a .links .now) (a .directory .now) (a .values .now) (a .output .now) _ (c .before .before .before .before .before .before .before .before .before .before .before .command4 .given .0 .0) (c .before .before .before .before .before .before .run-picture .ensures))
 
 same-length-15 : tie.Need-same-length-15
 same-length-15 c = search needs
@@ -117,8 +135,10 @@ same-length-17 c = search needs
 same-length-18 : tie.Need-same-length-18
 same-length-18 c = search needs
 
-returns-6 : tie.Need-returns-6
-returns-6 c = rw (c .before .before .before .before .before .before .before .before .command5 .given .1) (value-run (c .before .before .before .before .before .before .before .before .before .before .before .before .before .before .before .before .before .before .before .args .session) (c .before .before .before .before .before .before .before .before .before .before .before .before .before .before .before .before .before .before .before .args .font .now) (c .before .before .before .before .before .before .before .before .before .before .before .before .before .before .before .before .before .before .before .args .line .now) (c .before .before .before .before .before .before .before .before .before .before .before .before .before .before .before .before .before .before .before .args .more .now) (c .before .before .before .before .before .before .before .before .before .before .before .before .before .before .before .before .before .before .before .args .background .now) (c .before .before .before .before .before .before .before .before .before .before .before .before .before .before .before .before .before .before .before .args .store .now) (c .before .before .before .before .before .before .before .before .before .before .before .before .before .before .before .before .before .before .before .args .links .now) (c .before .before .before .before .before .before .before .before .before .before .before .before .before .before .before .before .before .before .before .args .directory .now) (c .before .before .before .before .before .before .before .before .before .before .before .before .before .before .before .before .before .before .before .args .values .now) (c .before .before .before .before .before .before .before .before .before .before .before .before .before .before .before .before .before .before .before .args .output .now) _ (c .before .before .before .before .before .before .before .before .command5 .given .0 .0) (c .before .before .run-value .ensures))
+returns-7 : tie.Need-returns-7
+returns-7 c =
+    let a = c .before .before .before .before .before .before .before .before .before .before .before .before .before .before .before .before .before .before .before .before .before .args in
+    rw (c .before .before .before .before .before .before .before .before .command5 .given .1) (value-run (a .session) (a .font .now) (a .line .now) (a .more .now) (a .background .now) (a .store .now) (a .links .now) (a .directory .now) (a .values .now) (a .output .now) _ (c .before .before .before .before .before .before .before .before .command5 .given .0 .0) (c .before .before .run-value .ensures))
 
 same-length-19 : tie.Need-same-length-19
 same-length-19 c = search needs
@@ -132,8 +152,58 @@ same-length-21 c = search needs
 same-length-22 : tie.Need-same-length-22
 same-length-22 c = search needs
 
-returns-7 : tie.Need-returns-7
-returns-7 c = rw (c .before .before .before .before .before .before .before .before .command6 .given .1) (listing-run (c .before .before .before .before .before .before .before .before .before .before .before .before .before .before .before .before .before .before .before .args .session) (c .before .before .before .before .before .before .before .before .before .before .before .before .before .before .before .before .before .before .before .args .font .now) (c .before .before .before .before .before .before .before .before .before .before .before .before .before .before .before .before .before .before .before .args .line .now) (c .before .before .before .before .before .before .before .before .before .before .before .before .before .before .before .before .before .before .before .args .more .now) (c .before .before .before .before .before .before .before .before .before .before .before .before .before .before .before .before .before .before .before .args .background .now) (c .before .before .before .before .before .before .before .before .before .before .before .before .before .before .before .before .before .before .before .args .store .now) (c .before .before .before .before .before .before .before .before .before .before .before .before .before .before .before .before .before .before .before .args .links .now) (c .before .before .before .before .before .before .before .before .before .before .before .before .before .before .before .before .before .before .before .args .directory .now) (c .before .before .before .before .before .before .before .before .before .before .before .before .before .before .before .before .before .before .before .args .values .now) (c .before .before .before .before .before .before .before .before .before .before .before .before .before .before .before .before .before .before .before .args .output .now) _ (c .before .before .before .before .before .before .before .before .command6 .given .0 .0) (c .before .before .run-listing .ensures))
+returns-8 : tie.Need-returns-8
+returns-8 c =
+    let a = c .before .before .before .before .before .before .before .before .before .before .before .before .before .before .before .before .before .before .before .before .before .args in
+    rw (c .before .before .before .before .before .before .before .before .command6 .given .1) (listing-run (a .session) (a .font .now) (a .line .now) (a .more .now) (a .background .now) (a .store .now) (a .links .now) (a .directory .now) (a .values .now) (a .output .now) _ (c .before .before .before .before .before .before .before .before .command6 .given .0 .0) (c .before .before .run-listing .ensures))
 
 pub run-spec : {M : Type 1} → statement M
-run-spec = tie.close (tie.spec enum-known-command run-placed-requires enum-told answered-requires enum-known-command-2 run-page-requires enum-known-command-3 run-form-requires enum-known-command-4 run-picture-requires enum-known-command-5 run-value-requires enum-known-command-6 run-listing-requires same-length same-length-2 same-length-3 same-length-4 same-length-5 returns returns-2 same-length-6 same-length-7 returns-3 same-length-8 same-length-9 same-length-10 same-length-11 returns-4 same-length-12 same-length-13 same-length-14 returns-5 same-length-15 same-length-16 same-length-17 same-length-18 returns-6 same-length-19 same-length-20 same-length-21 same-length-22 returns-7)
+run-spec =
+    tie.close
+    (tie.spec
+    has-place-requires
+    answered-requires
+    returns
+    enum-known-command
+    run-item-requires
+    enum-told
+    taken-requires
+    enum-known-command-2
+    run-page-requires
+    enum-known-command-3
+    run-form-requires
+    enum-known-command-4
+    run-picture-requires
+    enum-known-command-5
+    run-value-requires
+    enum-known-command-6
+    run-listing-requires
+    same-length
+    same-length-2
+    same-length-3
+    same-length-4
+    same-length-5
+    returns-2
+    returns-3
+    same-length-6
+    same-length-7
+    returns-4
+    same-length-8
+    same-length-9
+    same-length-10
+    same-length-11
+    returns-5
+    same-length-12
+    same-length-13
+    same-length-14
+    returns-6
+    same-length-15
+    same-length-16
+    same-length-17
+    same-length-18
+    returns-7
+    same-length-19
+    same-length-20
+    same-length-21
+    same-length-22
+    returns-8)

@@ -12,12 +12,12 @@ is-whole-requires-2 : tie.Need-is-whole-requires-2
 is-whole-requires-2 c κs = search needs
 
 -- src/judged.rt:77:9
-four-at-requires : tie.Need-four-at-requires
-four-at-requires c κs = search needs
+order-of-requires : tie.Need-order-of-requires
+order-of-requires c κs = search needs
 
 -- src/judged.rt:78:9
-four-at-requires-2 : tie.Need-four-at-requires-2
-four-at-requires-2 c κs = search needs
+order-of-requires-2 : tie.Need-order-of-requires-2
+order-of-requires-2 c κs = search needs
 
 -- src/judged.rt:79:21
 either-requires : tie.Need-either-requires
@@ -29,15 +29,15 @@ both-requires c κs = search needs
 
 -- src/judged.rt:80:9
 returns : tie.Need-returns
-returns c = chosen-second _ _ _ _ _ _ _ (c .before .before .before .before .before .before .is-whole .ensures) (c .before .before .before .before .before .is-whole2 .ensures) (c .before .before .before .before .four-at .ensures) (c .before .before .before .four-at2 .ensures) (c .before .before .either .ensures) (c .before .both .ensures) (c .if1 .taken)
+returns c = chosen-second _ _ _ _ _ _ _ (c .before .before .before .before .before .before .is-whole .ensures) (c .before .before .before .before .before .is-whole2 .ensures) (c .before .before .before .before .order-of .ensures) (c .before .before .before .order-of2 .ensures) (c .before .before .either .ensures) (c .before .both .ensures) (c .if1 .taken)
 
 -- src/judged.rt:83:9
 returns-2 : tie.Need-returns-2
-returns-2 c = chosen-first _ _ _ _ _ _ _ (c .before .before .before .before .before .before .before .is-whole .ensures) (c .before .before .before .before .before .before .is-whole2 .ensures) (c .before .before .before .before .before .four-at .ensures) (c .before .before .before .before .four-at2 .ensures) (c .before .before .before .either .ensures) (c .before .before .both .ensures) (c .before .if1 .left) (c .if2 .taken)
+returns-2 c = chosen-first _ _ _ _ _ _ _ (c .before .before .before .before .before .before .before .is-whole .ensures) (c .before .before .before .before .before .before .is-whole2 .ensures) (c .before .before .before .before .before .order-of .ensures) (c .before .before .before .before .order-of2 .ensures) (c .before .before .before .either .ensures) (c .before .before .both .ensures) (c .before .if1 .left) (c .if2 .taken)
 
 -- src/judged.rt:72:1
 returns-3 : tie.Need-returns-3
-returns-3 c = chosen-none _ _ _ _ _ _ _ (c .before .before .before .before .before .before .before .is-whole .ensures) (c .before .before .before .before .before .before .is-whole2 .ensures) (c .before .before .before .before .before .four-at .ensures) (c .before .before .before .before .four-at2 .ensures) (c .before .before .before .either .ensures) (c .before .before .both .ensures) (c .before .if1 .left) (c .if2 .left)
+returns-3 c = chosen-none _ _ _ _ _ _ _ (c .before .before .before .before .before .before .before .is-whole .ensures) (c .before .before .before .before .before .before .is-whole2 .ensures) (c .before .before .before .before .before .order-of .ensures) (c .before .before .before .before .order-of2 .ensures) (c .before .before .before .either .ensures) (c .before .before .both .ensures) (c .before .if1 .left) (c .if2 .left)
 
 pub choose-spec : {M : Type 1} → statement M
 choose-spec =
@@ -45,8 +45,8 @@ choose-spec =
     (tie.spec
     is-whole-requires
     is-whole-requires-2
-    four-at-requires
-    four-at-requires-2
+    order-of-requires
+    order-of-requires-2
     either-requires
     both-requires
     returns

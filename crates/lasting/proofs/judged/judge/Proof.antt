@@ -5,10 +5,11 @@ use Prim.Native.Nat.{ℕ}
 use lib.ListN.{length}
 use lib.Dec.{eqb}
 use borrow.Author.Tests.{eq-eqb, ne-eqb}
-use Rattle.fields.specs.Text.{bytes}
-use Rattle.normal.specs.Written.{equal}
-use Rattle.face.specs.Image.{numberAt}
-use Rattle.lasting.specs.File.{partOf, rowsOf, fileSize, fileSum, sizesWrong}
+use Rattle.kinds.specs.Text.{bytes}
+use Rattle.writing.specs.Writing.{equal}
+use Rattle.low_first.specs.Low.{numberAt}
+use Rattle.lasting.specs.File.{rowsOf, fileSize, fileSum, sizesWrong}
+use Rattle.file_parts.specs.Sums.{partOf}
 use Rattle.lasting.proofs.Verdicts.{judged-by}
 use borrow.Author.Needs.{needs}
 use Rattle.lasting.proofs.judged.judge.Statement.{statement}

@@ -18,7 +18,7 @@ command-of-requires : tie.Need-command-of-requires
 command-of-requires c κs = search needs
 
 returns-2 : tie.Need-returns-2
-returns-2 c = rw (← c .before .before .before .before .before .row-limits .ensures, c .before .before .before .enum-told .given .1, c .command-of .ensures)
+returns-2 c = rw (← c .before .before .before .row-limits .ensures, c .before .enum-told .given .1, c .command-of .ensures)
 
 pub within-spec : {M : Type 1} → statement M
 within-spec =

@@ -1,7 +1,7 @@
 use mathlib.Core.Path.{ap}
 use mathlib.Core.List.{[]}
-use Rattle.moves.specs.Memory.{Memory}
-use Rattle.session.specs.Lent.{world}
+use Rattle.memory.specs.Memory.{Memory}
+use Rattle.lent.specs.Lent.{world}
 use borrow.Author.Needs.{needs}
 use Rattle.results.proofs.names.erase_found.Statement.{statement}
 use Rattle.results.proofs.names.erase_found.Tie as tie

@@ -1,4 +1,4 @@
-use Rattle.session.specs.Answers.{answerOf}
+use Rattle.answers.specs.Answers.{answerOf}
 use borrow.Author.Tests.{not-true, not-false}
 use borrow.Author.Needs.{needs}
 use Rattle.sound.proofs.checks.entry_answer.Statement.{statement}

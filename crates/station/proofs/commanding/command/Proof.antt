@@ -1,5 +1,5 @@
 use mathlib.Core.Path.{refl}
-use Rattle.station.proofs.Calls.{command-refused, command-other, command-line, line-fits}
+use Rattle.station.proofs.Calls.{command-refused, command-other, command-line}
 use borrow.Author.Needs.{needs}
 use Rattle.station.proofs.commanding.command.Statement.{statement}
 use Rattle.station.proofs.commanding.command.Tie as tie
@@ -46,7 +46,7 @@ line-in-requires : tie.Need-line-in-requires
 line-in-requires c κs = search needs
 
 on-line-requires : tie.Need-on-line-requires
-on-line-requires c κs = line-fits _ _ _ (c .before .before .before .before .before .before .before .before .before .before .front .ensures) (c .line-in .ensures)
+on-line-requires c κs = search needs
 
 same-length-6 : tie.Need-same-length-6
 same-length-6 c = c .before .before .before .before .before .before .before .before .before .before .before .background .given

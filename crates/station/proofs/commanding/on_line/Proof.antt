@@ -1,5 +1,5 @@
 use mathlib.Core.Path.{ap}
-use Rattle.station.specs.Station.{readAs}
+use Rattle.calls.specs.Station.{readAs}
 use borrow.Author.Needs.{needs}
 use Rattle.station.proofs.commanding.on_line.Statement.{statement}
 use Rattle.station.proofs.commanding.on_line.Tie as tie

@@ -1,0 +1,2 @@
+-- The active form and the labels owed.
+pub mod Activity

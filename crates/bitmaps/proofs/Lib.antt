@@ -1,0 +1,3 @@
+pub mod Bitmaps
+pub mod ByteRuns
+pub mod ByteRows

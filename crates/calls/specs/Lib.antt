@@ -1,0 +1,4 @@
+pub mod Outcomes
+pub mod Table
+pub mod Station
+pub mod Samples

@@ -1,0 +1,2 @@
+-- How the chains are decided.
+pub mod Claim

@@ -1,0 +1,2 @@
+-- Opening clears the store.
+pub mod Clear

@@ -1,0 +1,4 @@
+pub mod Widths
+pub mod Code128
+pub mod Rule
+pub mod Cases

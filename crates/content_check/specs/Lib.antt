@@ -1,0 +1,2 @@
+-- What the entries must hold.
+pub mod Contents

@@ -1,0 +1,3 @@
+-- The lines of a content.
+pub mod Lines
+pub mod Samples

@@ -1,0 +1,177 @@
+// Counters: their digits, their values, and their move after each label.
+//
+// "A counter is its w digits; after each label it moves by s modulo 10^w." The session keeps ten of them, set or unset (then 0), each a number from 0 to
+// 10^w-1; `?Cn,value` sets one, or is refused as undeclared (13) or unfit (17). The definitions (specs/Counters.antt) say this of any numbers, and
+// each function here gives exactly what they say; that entering and moving keep every counter sound is proved in proofs/Sound.antt. What a counter's
+// width and step are, a form declares (crate `declarations`).
+ghost use mathlib.Core.Path.{_≡_};
+ghost use Rattle.counters.specs.Counters.{tenTo, digitAt, digitsOf, noneSet, counterSet, counterValue, counterEntered, counterSound, moved, movedAt, movedAll};
+use declarations::Declared;
+use declarations::Entered;
+use declarations::tenth_byte;
+use declarations::tenth_number;
+use ground::both;
+use ground::either;
+use ground::least;
+
+// The session's ten counters: set (0 or 1) and value (0 where unset).
+pub struct Counters {
+    pub set: [u8; 10],
+    pub value: [u32; 10],
+}
+
+// The answer to a value for a counter, and the counters after it.
+pub struct Counted {
+    pub answer: Entered,
+    pub counters: Counters,
+}
+
+const TENS: [u32; 10] = [
+    1,
+    10,
+    100,
+    1000,
+    10000,
+    100000,
+    1000000,
+    10000000,
+    100000000,
+    1000000000,
+];
+
+fn wide32(x: u32) -> usize
+    ensures { λ r. ⌜ r ≡ x ⌝ }
+{
+    x as usize
+}
+
+// A power of ten, up to the ninth.
+pub fn ten(w: usize) -> u32
+    ensures { λ r. ⌜ r ≡ tenTo w ⌝ }
+{
+    if w < 10 { TENS[w] } else { 1000000000 }
+}
+
+// The digit that stands before k others.
+fn digit_at(n: u32, k: usize) -> u8
+    ensures { λ r. ⌜ r ≡ digitAt n k ⌝ }
+{
+    (n / ten(k) % 10) as u8 + b'0'
+}
+
+// A counter's w digits, at the front of nine bytes.
+pub fn digits_of(n: u32, w: usize) -> [u8; 9]
+    ensures { λ r. ⌜ r ≡ digitsOf n w ⌝ }
+{
+    let width = least(w, 9);
+    let mut out = [0u8; 9];
+    let mut i = 0;
+    while i < width {
+        out[i] = digit_at(n, width - 1 - i);
+        i += 1;
+    }
+    out
+}
+
+// A counter of w digits moved by a step.
+pub fn move_by(n: u32, w: usize, minus: bool, step: u32) -> u32
+    ensures { λ r. ⌜ r ≡ moved w minus step n ⌝ }
+{
+    let t = ten(w);
+    let a = n % t;
+    let b = step % t;
+    if minus {
+        (a + (t - b)) % t
+    } else {
+        (a + b) % t
+    }
+}
+
+impl Counters {
+    pub fn none() -> Counters
+        ensures { λ r. ⌜ r ≡ noneSet ⌝ }
+    {
+        Counters {
+            set: [0; 10],
+            value: [0; 10],
+        }
+    }
+
+    pub fn is_set(self, k: usize) -> bool
+        ensures { λ r. ⌜ r ≡ counterSet self k ⌝ }
+    {
+        let set = self.set;
+        tenth_byte(set, k) == 1
+    }
+
+    pub fn value_at(self, k: usize) -> u32
+        ensures { λ r. ⌜ r ≡ counterValue self k ⌝ }
+    {
+        let value = self.value;
+        tenth_number(value, k)
+    }
+}
+
+// `?Cn,value`.
+pub fn set_counter(d: Declared, c: Counters, n: usize, value: usize) -> Counted
+    ensures { λ r. ⌜ r ≡ counterEntered d c n value ⌝ }
+{
+    let w = d.width_at(n);
+    if w < 1 {
+        return Counted {
+            answer: Entered::Undeclared,
+            counters: c,
+        };
+    }
+    if wide32(ten(w)) <= value {
+        return Counted {
+            answer: Entered::Unfit,
+            counters: c,
+        };
+    }
+    let mut set = c.set;
+    let mut values = c.value;
+    set[n] = 1;
+    values[n] = value as u32;
+    Counted {
+        answer: Entered::Taken,
+        counters: Counters { set, value: values },
+    }
+}
+
+// Whether counter k is sound under a form's declarations.
+pub fn counter_sound(d: Declared, c: Counters, k: usize) -> bool
+    ensures { λ r. ⌜ r ≡ counterSound d c k ⌝ }
+{
+    let set = c.set;
+    let n = c.value_at(k);
+    let blank = both(tenth_byte(set, k) == 0, n == 0);
+    let below = n < ten(d.width_at(k));
+    either(blank, both(c.is_set(k), both(d.counter_declared(k), below)))
+}
+
+// Counter k after a label.
+fn moved_at(d: Declared, c: Counters, k: usize) -> u32
+    ensures { λ r. ⌜ r ≡ movedAt d c k ⌝ }
+{
+    let n = c.value_at(k);
+    if both(d.counter_declared(k), c.is_set(k)) {
+        return move_by(n, d.width_at(k), d.minus_at(k), d.step_at(k));
+    }
+    n
+}
+
+// All ten after a label.
+pub fn move_all(d: Declared, c: Counters) -> Counters
+    ensures { λ r. ⌜ r ≡ movedAll d c ⌝ }
+{
+    let set = c.set;
+    let mut value = c.value;
+    let mut i: usize = 0;
+    while i < 10 {
+        let n = moved_at(d, c, i);
+        value[i] = n;
+        i += 1;
+    }
+    Counters { set, value }
+}

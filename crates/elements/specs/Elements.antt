@@ -1,0 +1,102 @@
+-- Paper 01, "Data": "One or more elements side by side: quoted text, or `V`/`C` and a digit, then at most one of `Ln`, `Rn`, `Mp.n`".
+-- Assumes nothing.
+use Prim.Native.Nat.{ℕ, zero, suc, _+_, _-_}
+use Prim.Native.Char.{code}
+use mathlib.Core.Bool.{Bool, true, false, cond}
+use mathlib.Core.List.{List, [], _∷_}
+use lib.ListN.{length, getD}
+use lib.Dec.{eqb, ltb}
+use Rattle.kinds.specs.Bytes.{between}
+use Rattle.fields.specs.Field.{textAt, byteAt}
+use Rattle.fields.specs.declared.Field.{Field}
+use Rattle.fields.specs.declared.Field.the-variants.{Is, Not}
+use Rattle.numbers.specs.Number.{digitOf, numberAt}
+use Rattle.elements.specs.declared.Part.{Part}
+use Rattle.elements.specs.declared.Part.the-variants.{Whole, First, Last, Middle}
+use Rattle.elements.specs.declared.What.{What}
+use Rattle.elements.specs.declared.What.the-variants.{Text, Variable, Counter}
+use Rattle.elements.specs.declared.Element.{Element}
+use Rattle.elements.specs.declared.Step.{Step}
+use Rattle.elements.specs.declared.Step.the-variants.{Next, Stop}
+use Rattle.elements.specs.declared.Modifier.{Modifier}
+use Rattle.elements.specs.declared.Modifier.the-variants.{Takes, Wrong}
+
+-- `Ln`: the first n, after the letter
+abbrev pub first : ℕ → Field → Modifier
+first at (Is n e) = Takes (First n) e
+first at (Not p) = Wrong at
+
+-- `Rn`: the last n
+abbrev pub last : ℕ → Field → Modifier
+last at (Is n e) = Takes (Last n) e
+last at (Not p) = Wrong at
+
+-- `Mp.n`: n from place p
+abbrev pub middle-n : ℕ → ℕ → Field → Modifier
+middle-n p at (Is n e) = Takes (Middle p n) e
+middle-n p at (Not q) = Wrong at
+
+abbrev pub middle-dot : ℕ → List ℕ → ℕ → Field → Modifier
+middle-dot p s at (Is d e) = middle-n p e (numberAt s e)
+middle-dot p s at (Not q) = Wrong at
+
+abbrev pub middle : List ℕ → ℕ → Field → Modifier
+middle s at (Is p e) = middle-dot p s e (byteAt (code ".") s e)
+middle s at (Not q) = Wrong at
+
+-- a modifier at a place, or none
+unfoldable pub modifierAt : List ℕ → ℕ → Modifier
+modifierAt s at =
+    cond (eqb (getD s at 0) (code "L")) (first (at + 1) (numberAt s (at + 1)))
+    (cond (eqb (getD s at 0) (code "R")) (last (at + 1) (numberAt s (at + 1)))
+    (cond (eqb (getD s at 0) (code "M")) (middle s (at + 1) (numberAt s (at + 1)))
+    (Takes Whole at)))
+
+-- an element that goes wrong at q is at fault from its first byte on, or at the LF where the line ends too soon
+abbrev pub pointed : List ℕ → ℕ → ℕ → ℕ
+pointed s at q = cond (ltb q (length s)) at q
+
+abbrev pub quotedFrom : ℕ → Field → Step
+quotedFrom at (Is n e) = Next (record { what = Text; at = at; length = n + 2 })
+quotedFrom at (Not p) = Stop p
+
+-- the variable or counter of a digit
+abbrev pub heldFrom : Bool → ℕ → Part → What
+heldFrom true digit p = Counter (digitOf digit) p
+heldFrom false digit p = Variable (digitOf digit) p
+
+abbrev pub modified : Bool → ℕ → List ℕ → ℕ → Modifier → Step
+modified counter digit s at (Takes p e) = Next (record { what = heldFrom counter digit p; at = at; length = e - at })
+modified counter digit s at (Wrong q) = Stop (pointed s at q)
+
+-- after `V` or `C`
+unfoldable pub heldAt : Bool → List ℕ → ℕ → Step
+heldAt counter s at =
+    cond (between (code "0") (code "9") (getD s (at + 1) 0))
+    (modified counter (getD s (at + 1) 0) s at (modifierAt s (at + 2)))
+    (Stop (pointed s at (at + 1)))
+
+-- the element at a place, or none
+unfoldable pub elementAt : List ℕ → ℕ → Step
+elementAt s at =
+    cond (eqb (getD s at 0) (code "\"")) (quotedFrom at (textAt s at))
+    (cond (eqb (getD s at 0) (code "V")) (heldAt false s at)
+    (cond (eqb (getD s at 0) (code "C")) (heldAt true s at)
+    (Stop at)))
+
+-- the place after an element
+abbrev pub after : Element → ℕ
+after e = e .at + e .length
+
+abbrev pub follow : Step → (ℕ → List Element) → List Element
+follow (Next e) f = e ∷ f (after e)
+follow (Stop p) f = []
+
+-- at most n elements side by side from a place on
+unfoldable pub elementsFrom : ℕ → List ℕ → ℕ → List Element
+elementsFrom zero s at = []
+elementsFrom (suc n) s at = follow (elementAt s at) (elementsFrom n s)
+
+-- all elements side by side from a place on: each takes a byte at least, so there are no more than bytes
+unfoldable pub elements : List ℕ → ℕ → List Element
+elements s at = elementsFrom (length s - at) s at

@@ -1,0 +1,3 @@
+-- Entries are erased.
+pub mod Erase
+pub mod Samples

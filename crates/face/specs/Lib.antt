@@ -1,3 +1,0 @@
-pub mod Image
-pub mod Face
-pub mod Samples

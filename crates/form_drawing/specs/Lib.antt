@@ -1,0 +1,3 @@
+pub mod Draw
+pub mod Label
+pub mod Cases

@@ -1,0 +1,4 @@
+-- What is stored grows.
+pub mod Grow
+pub mod Keep
+pub mod Samples

@@ -1,0 +1,110 @@
+// The letters of a command.
+//
+// A command starts with its letters; where the letters of several commands match, the longest count: VC is not V. `head_of` answers the row of the
+// grammar that a line's letters name, by a decision over the first letter and then the second.
+ghost use mathlib.Core.Path.{_≡_};
+ghost use Rattle.heads.specs.Heads.{headOf, Decided, Behind};
+use grammar::row;
+use ground::byte;
+
+// The row of the grammar that a line's letters name.
+pub enum Head {
+    Row(usize),
+    Unknown,
+}
+
+// The row that a line's letters name.
+pub fn head_of(line: &[u8]) -> Head
+    ensures { λ r. ⌜ r ≡ headOf (now (line .entry)) ⌝ }
+{
+    by_first(byte(line, 0), byte(line, 1))
+}
+
+fn by_first(a: u8, b: u8) -> Head
+    ensures { λ r. ⌜ Decided a b r ⌝ }
+{
+    match a {
+        b'Q' => Head::Row(row::LENGTH),
+        b'q' => Head::Row(row::WIDTH),
+        b'R' => Head::Row(row::ORIGIN),
+        b'Z' => turns(b),
+        b'L' => lines(b),
+        b'X' => Head::Row(row::FRAME),
+        b'A' => Head::Row(row::TEXT),
+        b'B' => Head::Row(row::BARS),
+        b'G' => pictures(b),
+        b'F' => forms(b),
+        b'V' => variables(b),
+        b'C' => Head::Row(row::COUNTER),
+        b'?' => values(b),
+        b'P' => Head::Row(row::PRINT),
+        b'N' => Head::Row(row::WHITE),
+        _ => Head::Unknown,
+    }
+}
+
+fn turns(b: u8) -> Head
+    ensures { λ r. ⌜ Behind "Z" b r ⌝ }
+{
+    match b {
+        b'T' => Head::Row(row::ZT),
+        b'B' => Head::Row(row::ZB),
+        _ => Head::Unknown,
+    }
+}
+
+fn lines(b: u8) -> Head
+    ensures { λ r. ⌜ Behind "L" b r ⌝ }
+{
+    match b {
+        b'O' => Head::Row(row::LO),
+        b'E' => Head::Row(row::LE),
+        b'W' => Head::Row(row::LW),
+        _ => Head::Unknown,
+    }
+}
+
+fn pictures(b: u8) -> Head
+    ensures { λ r. ⌜ Behind "G" b r ⌝ }
+{
+    match b {
+        b'G' => Head::Row(row::GG),
+        b'K' => Head::Row(row::GK),
+        b'I' => Head::Row(row::GI),
+        b'M' => Head::Row(row::GM),
+        _ => Head::Unknown,
+    }
+}
+
+fn forms(b: u8) -> Head
+    ensures { λ r. ⌜ Behind "F" b r ⌝ }
+{
+    match b {
+        b'S' => Head::Row(row::FS),
+        b'E' => Head::Row(row::FE),
+        b'R' => Head::Row(row::FR),
+        b'K' => Head::Row(row::FK),
+        b'I' => Head::Row(row::FI),
+        b'P' => Head::Row(row::FP),
+        _ => Head::Unknown,
+    }
+}
+
+fn variables(b: u8) -> Head
+    ensures { λ r. ⌜ Behind "V" b r ⌝ }
+{
+    match b {
+        b'C' => Head::Row(row::VC),
+        _ => Head::Row(row::VARIABLE),
+    }
+}
+
+fn values(b: u8) -> Head
+    ensures { λ r. ⌜ Behind "?" b r ⌝ }
+{
+    match b {
+        b'V' => Head::Row(row::SET_VARIABLE),
+        b'C' => Head::Row(row::SET_COUNTER),
+        _ => Head::Unknown,
+    }
+}

@@ -1,0 +1,57 @@
+use Rattle.image.proofs.Numbers.{session-read}
+use borrow.Author.Needs.{needs}
+use Rattle.image.proofs.decode.Statement.{statement}
+use Rattle.image.proofs.decode.Tie as tie
+
+word-at-requires : tie.Need-word-at-requires
+word-at-requires c κs = search needs
+
+word-at-requires-2 : tie.Need-word-at-requires-2
+word-at-requires-2 c κs = search needs
+
+byte-requires : tie.Need-byte-requires
+byte-requires c κs = search needs
+
+word-at-requires-3 : tie.Need-word-at-requires-3
+word-at-requires-3 c κs = search needs
+
+word-at-requires-4 : tie.Need-word-at-requires-4
+word-at-requires-4 c κs = search needs
+
+word-at-requires-5 : tie.Need-word-at-requires-5
+word-at-requires-5 c κs = search needs
+
+word-at-requires-6 : tie.Need-word-at-requires-6
+word-at-requires-6 c κs = search needs
+
+word-at-requires-7 : tie.Need-word-at-requires-7
+word-at-requires-7 c κs = search needs
+
+counters-of-requires : tie.Need-counters-of-requires
+counters-of-requires c κs = search needs
+
+returns : tie.Need-returns
+returns c = session-read _ (c .before .before .before .before .before .before .before .before .word-at .ensures)
+    (c .before .before .before .before .before .before .before .word-at2 .ensures)
+    (c .before .before .before .before .before .before .byte .ensures)
+    (c .before .before .before .before .before .word-at3 .ensures)
+    (c .before .before .before .before .word-at4 .ensures)
+    (c .before .before .before .word-at5 .ensures)
+    (c .before .before .word-at6 .ensures)
+    (c .before .word-at7 .ensures)
+    (c .counters-of .ensures)
+
+pub decode-spec : {M : Type 1} → statement M
+decode-spec =
+    tie.close
+    (tie.spec
+    word-at-requires
+    word-at-requires-2
+    byte-requires
+    word-at-requires-3
+    word-at-requires-4
+    word-at-requires-5
+    word-at-requires-6
+    word-at-requires-7
+    counters-of-requires
+    returns)

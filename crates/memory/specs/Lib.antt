@@ -1,0 +1,2 @@
+-- Store, links and directory together.
+pub mod Memory

@@ -1,4 +1,0 @@
-pub mod Growth
-pub mod Starting
-pub mod Clearing
-pub mod Freeing

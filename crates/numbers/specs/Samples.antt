@@ -1,0 +1,34 @@
+-- Numbers of the paper's lines, and what reading them gives: antt computes each.
+-- Assumes nothing.
+use mathlib.Core.Path.{_≡_, refl}
+use Rattle.kinds.specs.Bytes.{between}
+use Rattle.kinds.specs.Text.{bytes}
+use Rattle.classes.specs.Bytes.{run}
+use Rattle.fields.specs.declared.Field.the-variants.{Is, Not}
+use Rattle.numbers.specs.Number.{valueFrom, numberAt, signedAt}
+
+-- leading zeros are allowed, nine digits at most, and no sign stands before a number
+zeros : numberAt (bytes "LO010,2") 2 ≡ Is 10 5
+unfolding numberAt run between valueFrom
+zeros = refl
+
+nine : numberAt (bytes "P999999999") 1 ≡ Is 999999999 10
+unfolding numberAt run between valueFrom
+nine = refl
+
+ten : numberAt (bytes "P0000000001") 1 ≡ Not 1
+unfolding numberAt run between valueFrom
+ten = refl
+
+unsigned : numberAt (bytes "P+1") 1 ≡ Not 1
+unfolding numberAt run between valueFrom
+unsigned = refl
+
+-- minus zero is plus zero
+minus-zero : signedAt (bytes "-000") 0 ≡ Is 1000000000 4
+unfolding signedAt numberAt run between valueFrom
+minus-zero = refl
+
+minus-one : signedAt (bytes "-1") 0 ≡ Is 999999999 2
+unfolding signedAt numberAt run between valueFrom
+minus-one = refl

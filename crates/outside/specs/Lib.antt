@@ -1,0 +1,2 @@
+pub mod Outside
+pub mod Cases

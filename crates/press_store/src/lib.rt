@@ -1,0 +1,397 @@
+// A run and its store that lasts: found, judged and loaded at the start, saved after each change.
+//
+// What the store's file is, byte by byte, is said in crates `lasting` and `slots`. Here it is opened, read, written and named. A whole new file is on disk
+// before it takes the name of the old one; session and values alone go into the slot that does not hold the last ones.
+pub mod rooms; // room for what is lent
+
+use ground::back;
+use ground::both;
+use ground::front;
+use ground::put;
+use lasting::Verdict;
+use press_settings::Settings;
+use press_settings::saying::failed;
+use press_settings::saying::wrong;
+use session::Session;
+
+// What is known between two turns. A descriptor that is not there is -1; file is the argument that is read, 0 for standard input.
+pub struct Run {
+    pub session: Session,
+    pub from: i32,
+    pub file: usize,
+    pub start: usize,
+    pub end: usize,
+    pub ended: bool,
+    pub skipping: bool,
+    pub line: usize,
+    pub taken: usize,
+    pub refused: usize,
+    pub labels: usize,
+    pub pictures: u32,
+    pub order: u32,
+    pub kept: i32,
+    pub over: bool,
+    pub failed: bool,
+}
+
+// The greatest number of a picture or of a change.
+pub const LAST: u32 = 4294967295;
+
+// The number after another; the greatest stays.
+pub fn next_number(n: u32) -> u32 {
+    if n < LAST { n + 1 } else { n }
+}
+
+// The bytes of the store file, at the front of a buffer; how many they are. 0 where there is no store or no such file.
+pub fn found(s: Settings, path: &[u8], file: &mut [u8]) -> usize {
+    if s.store == 0 {
+        return 0;
+    }
+    let fd = os::open_read(path);
+    if fd < 0 {
+        return 0;
+    }
+    let n = io::read_full(fd, file);
+    libc::close(fd);
+    n
+}
+
+// Whether the file is there, so that one that has no bytes is not taken for a new one.
+fn present(path: &[u8]) -> bool {
+    let fd = os::open_read(path);
+    if fd < 0 {
+        return os::errno() != libc::ENOENT;
+    }
+    libc::close(fd);
+    true
+}
+
+fn refuse(path: &[u8], why: &[u8]) -> usize {
+    wrong(path, why);
+    0
+}
+
+// How many rows the run has; 0 where it cannot be: the file is not a store, and is left as it is.
+pub fn rows(s: Settings, path: &[u8], known: usize, file: &[u8]) -> usize {
+    let asked = if s.rows == 0 { 800 } else { s.rows };
+    if s.store == 0 {
+        return asked;
+    }
+    if known == 0 {
+        if present(path) {
+            return refuse(
+                path,
+                b" cannot be read, or is empty: not a store; it is left as it is\n",
+            );
+        }
+        return asked;
+    }
+    let rows = lasting::rows(file);
+    match lasting::judge(file) {
+        Verdict::Foreign => refuse(
+            path,
+            b" is not a store of this station; it is left as it is\n",
+        ),
+        Verdict::Version => refuse(
+            path,
+            b" is a store of another version; it is left as it is\n",
+        ),
+        Verdict::Sizes => refuse(path, b" is a store of other sizes; it is left as it is\n"),
+        Verdict::Length => refuse(
+            path,
+            b" is cut short or too long for a store; it is left as it is\n",
+        ),
+        Verdict::Damaged => refuse(
+            path,
+            b" is damaged: its sum is wrong; it is left as it is\n",
+        ),
+        Verdict::Slots => refuse(
+            path,
+            b" is damaged: no session in it is whole; it is left as it is\n",
+        ),
+        Verdict::Good(k) => {
+            if s.rows == 0 {
+                return rows;
+            }
+            if s.rows == rows {
+                return rows;
+            }
+            refuse(
+                path,
+                b" is a store of another number of rows than -rows says; it is left as it is\n",
+            )
+        }
+    }
+}
+
+// A run that has not begun.
+fn idle(s: Settings, session: Session) -> Run {
+    Run {
+        session: session,
+        from: -1,
+        file: s.files,
+        start: 0,
+        end: 0,
+        ended: true,
+        skipping: false,
+        line: 0,
+        taken: 0,
+        refused: 0,
+        labels: 0,
+        pictures: 0,
+        order: 0,
+        kept: -1,
+        over: false,
+        failed: false,
+    }
+}
+
+pub fn stopped(run: Run) -> Run {
+    let mut r = run;
+    r.over = true;
+    r.failed = true;
+    r
+}
+
+// The folder of a file, so that a new name in it lasts.
+pub fn sync_folder(path: &[u8]) {
+    let n = file_names::folder_length(path);
+    let fd = if n == 0 {
+        os::open_read(b".")
+    } else {
+        os::open_read(front(path, n))
+    };
+    if fd < 0 {
+        return;
+    }
+    libc::fsync(fd);
+    libc::close(fd);
+}
+
+fn give_up(fd: i32, name: &[u8]) -> i32 {
+    failed(b"cannot write ", name);
+    libc::close(fd);
+    os::unlink(name);
+    -1
+}
+
+// A whole new file, on disk before it takes the name of the old one; its descriptor, or -1.
+fn save_whole(path: &[u8], bytes: &[u8]) -> i32 {
+    let mut text = io::buffer();
+    let n = sentences::joined(path, b".new", &mut text);
+    let name = front(&text, n);
+    let fd = os::open_overwrite(name);
+    if fd < 0 {
+        failed(b"cannot make ", name);
+        return -1;
+    }
+    if !io::write_all(fd, bytes) {
+        return give_up(fd, name);
+    }
+    if libc::fsync(fd) != 0 {
+        return give_up(fd, name);
+    }
+    if os::rename(name, path) != 0 {
+        return give_up(fd, path);
+    }
+    sync_folder(path);
+    fd
+}
+
+// Session and values alone: the slot that does not hold the last ones.
+pub fn save_slot(
+    run: Run,
+    session: Session,
+    pictures: u32,
+    values: &[u8],
+    file: &mut [u8],
+) -> bool {
+    let order = next_number(run.order);
+    slots::put_slot(file, order, pictures, session, values);
+    let at = slots::slot_at(order);
+    let got = libc::pwrite(run.kept, front(back(file, at), slots::SLOT), at as i64);
+    if got != slots::SLOT as isize {
+        return false;
+    }
+    libc::fdatasync(run.kept) == 0
+}
+
+// All of it: head, body and the first slot, in a file of n bytes that has head and body.
+fn save_all(
+    run: Run,
+    path: &[u8],
+    n: usize,
+    values: &[u8],
+    file: &mut [u8],
+    next: &mut [u8],
+) -> Run {
+    let session = run.session;
+    lasting::seal(next);
+    slots::put_slot(next, 1, run.pictures, session, values);
+    let fd = save_whole(path, front(next, n));
+    if fd < 0 {
+        return stopped(run);
+    }
+    libc::close(run.kept);
+    put(file, 0, front(next, n));
+    let mut r = run;
+    r.kept = fd;
+    r.order = 1;
+    r
+}
+
+// Session and values, where nothing else has changed.
+fn save_state(run: Run, path: &[u8], values: &[u8], file: &mut [u8]) -> Run {
+    let session = run.session;
+    if save_slot(run, session, run.pictures, values, file) {
+        let mut r = run;
+        r.order = next_number(run.order);
+        return r;
+    }
+    failed(b"cannot save to ", path);
+    stopped(run)
+}
+
+// What a taken command left, saved.
+pub fn save(
+    run: Run,
+    path: &[u8],
+    background: &[u8],
+    store: &[u8],
+    links: &[u16],
+    directory: &[u8],
+    values: &[u8],
+    file: &mut [u8],
+) -> Run {
+    let mut next = rooms::file();
+    let n = lasting::place(&mut next, background, store, links, directory);
+    let body = lasting::BODY;
+    let same = writing::same(back(front(&next, n), body), back(front(file, n), body));
+    if both(same, run.order < LAST) {
+        return save_state(run, path, values, file);
+    }
+    save_all(run, path, n, values, file, &mut next)
+}
+
+// A store whose lists are loaded: sound, and open for change.
+fn admitted(
+    first: Run,
+    k: usize,
+    path: &[u8],
+    background: &[u8],
+    store: &[u8],
+    links: &[u16],
+    directory: &[u8],
+    values: &[u8],
+    file: &[u8],
+) -> Run {
+    let mut r = first;
+    let session = slots::session_of(file, k);
+    if !sound::is_sound(session, background, store, links, directory, values) {
+        wrong(path, b" is not sound; it is left as it is\n");
+        return stopped(first);
+    }
+    r.session = session;
+    r.pictures = slots::pictures_of(file, k);
+    r.order = slots::order_of(file, k);
+    r.kept = os::open_update(path);
+    if r.kept < 0 {
+        failed(b"cannot change ", path);
+        return stopped(first);
+    }
+    if slots::torn(file, 1 - k % 2) {
+        wrong(
+            path,
+            b": the last change was cut short; the state before it holds\n",
+        );
+    }
+    r
+}
+
+// A store that is loaded: the slot that holds.
+fn loaded(
+    first: Run,
+    k: usize,
+    path: &[u8],
+    background: &mut [u8],
+    store: &mut [u8],
+    links: &mut [u16],
+    directory: &mut [u8],
+    values: &mut [u8],
+    file: &[u8],
+) -> Run {
+    lasting::load_body(file, background, store, links, directory);
+    slots::load_values(file, k, values);
+    admitted(
+        first,
+        k,
+        path,
+        background,
+        store,
+        links,
+        directory,
+        values,
+        file,
+    )
+}
+
+// A store that is made.
+fn made(
+    first: Run,
+    path: &[u8],
+    background: &[u8],
+    store: &[u8],
+    links: &[u16],
+    directory: &[u8],
+    values: &[u8],
+    file: &mut [u8],
+) -> Run {
+    let mut next = rooms::file();
+    let n = lasting::place(&mut next, background, store, links, directory);
+    save_all(first, path, n, values, file, &mut next)
+}
+
+// The run as it begins: with no store, with a new one, or with one that is loaded.
+pub fn begin(
+    s: Settings,
+    opened: Session,
+    known: usize,
+    path: &[u8],
+    background: &mut [u8],
+    store: &mut [u8],
+    links: &mut [u16],
+    directory: &mut [u8],
+    values: &mut [u8],
+    file: &mut [u8],
+) -> Run {
+    let first = idle(s, opened);
+    if s.store == 0 {
+        return first;
+    }
+    if known == 0 {
+        return made(
+            first,
+            path,
+            background,
+            store,
+            links,
+            directory,
+            values,
+            file,
+        );
+    }
+    let Verdict::Good(k) = lasting::judge(front(file, known)) else {
+        return stopped(first);
+    };
+    loaded(
+        first,
+        k,
+        path,
+        background,
+        store,
+        links,
+        directory,
+        values,
+        file,
+    )
+}

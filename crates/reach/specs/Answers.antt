@@ -1,0 +1,50 @@
+-- Answers 13 and 14 for a line's data: "variable or counter not declared", "a modifier reaches past the declared length".
+-- Assumes nothing.
+use Prim.Native.Nat.{ℕ, _+_, _-_}
+use mathlib.Core.Bool.{Bool, false, cond, _||_, not}
+use mathlib.Core.List.{List, [], _∷_}
+use lib.Dec.{ltb}
+use Rattle.elements.specs.declared.Part.{Part}
+use Rattle.elements.specs.declared.Part.the-variants.{Whole, First, Last, Middle}
+use Rattle.elements.specs.declared.What.{What}
+use Rattle.elements.specs.declared.What.the-variants.{Text, Variable, Counter}
+use Rattle.elements.specs.declared.Element.{Element}
+use Rattle.declarations.specs.declared.Declared.{Declared}
+use Rattle.declarations.specs.Declarations.{lengthAt, widthAt, variableDeclared, counterDeclared}
+use Rattle.reach.specs.declared.DataAnswer.{DataAnswer}
+use Rattle.reach.specs.declared.DataAnswer.the-variants.{Good, Undeclared, Past}
+
+-- the last place that a modifier takes
+abbrev pub reach : Part → ℕ
+reach Whole = 0
+reach (First n) = n
+reach (Last n) = n
+reach (Middle p n) = p + n - 1
+
+-- it lies past a length: n > m, or p + n - 1 > m
+unfoldable pub reachesPast : Part → ℕ → Bool
+reachesPast p m = ltb m (reach p)
+
+-- [13] "variable or counter not declared"
+unfoldable pub undeclaredBy : Declared → What → Bool
+undeclaredBy d Text = false
+undeclaredBy d (Variable k p) = not (variableDeclared d k)
+undeclaredBy d (Counter k p) = not (counterDeclared d k)
+
+-- [14] "a modifier reaches past the declared length"; a counter's length is its width
+unfoldable pub pastBy : Declared → What → Bool
+pastBy d Text = false
+pastBy d (Variable k p) = reachesPast p (lengthAt d k)
+pastBy d (Counter k p) = reachesPast p (widthAt d k)
+
+-- the test holds of an element's kind, anywhere in the data
+abbrev pub someOf : (What → Bool) → List Element → Bool
+someOf q [] = false
+someOf q (e ∷ es) = q (e .what) || someOf q es
+
+-- "The lowest number that applies is given"; past tells whether a modifier before reached past
+abbrev pub answered : Declared → Bool → List Element → DataAnswer
+answered d past es = cond (someOf (undeclaredBy d) es) Undeclared (cond (past || someOf (pastBy d) es) Past Good)
+
+unfoldable pub dataAnswer : Declared → List Element → DataAnswer
+dataAnswer d es = answered d false es

@@ -1,0 +1,92 @@
+-- "A recorded line is checked and kept": what recording answers for an item, after the declarations of the lines before it, and what is
+-- declared after it.
+-- Assumes nothing.
+use Prim.Native.Nat.{ℕ}
+use mathlib.Core.Bool.{Bool, true, false, cond}
+use mathlib.Core.List.{List}
+use Rattle.kinds.specs.declared.Kind.{Kind}
+use Rattle.kinds.specs.declared.Kind.the-variants.{Shown}
+use Rattle.declarations.specs.declared.Declared.{Declared}
+use Rattle.reach.specs.declared.DataAnswer.{DataAnswer}
+use Rattle.reach.specs.declared.DataAnswer.the-variants.{Good, Undeclared as NotDeclared, Past as Reaches}
+use Rattle.declarations.specs.Declarations.{variableDeclared, counterDeclared, withVariable, withCounter}
+use Rattle.elements.specs.Elements.{elements}
+use Rattle.reach.specs.Answers.{dataAnswer}
+use Rattle.summary.specs.Summary.{judged as fitAlways}
+use Rattle.finding.specs.declared.Found.{Found}
+use Rattle.finding.specs.declared.Found.the-variants.{At, Nothing as Absent}
+use Rattle.finding.specs.Find.{titledAt}
+use Rattle.parts.specs.Names.{packedOf}
+use Rattle.grammar.specs.declared.Item.{Item}
+use Rattle.grammar.specs.declared.Item.the-variants.{Origin, Variable, Counter, Text, Bars, Box, Frame, Picture}
+use Rattle.recording.specs.declared.Verdict.{Verdict}
+use Rattle.recording.specs.declared.Verdict.the-variants.{Taken, Again, Undeclared, Past, Unfit}
+
+-- [13] "variable or counter not declared", [14] "a modifier reaches past the declared length", [15] "unfit data", in the table's order
+abbrev pub ofData : DataAnswer → Bool → Verdict
+ofData NotDeclared fit = Undeclared
+ofData Reaches fit = Past
+ofData Good fit = cond fit Taken Unfit
+
+-- the data from a place of a line on, for a kind
+abbrev pub judgedData : Declared → List ℕ → ℕ → Kind → Verdict
+judgedData d line at kind = ofData (dataAnswer d (elements line at)) (fitAlways line d (elements line at) kind)
+
+-- [12] "declared before in this form": V and C numbers are separate. An item that neither declares nor shows data is taken
+unfoldable pub judged : Declared → List ℕ → Item → Verdict
+judged d line (Origin o) = Taken
+judged d line (Variable v) = cond (variableDeclared d (v .n)) Again Taken
+judged d line (Counter c) = cond (counterDeclared d (c .n)) Again Taken
+judged d line (Text t) = judgedData d line (t .at) Shown
+judged d line (Bars b) = judgedData d line (b .at) (b .kind)
+judged d line (Box r) = Taken
+judged d line (Frame f) = Taken
+judged d line (Picture p) = Taken
+
+-- what is declared after an item
+unfoldable pub declares : Declared → Item → Declared
+declares d (Origin o) = d
+declares d (Variable v) = withVariable d (v .n) (v .m) (v .j)
+declares d (Counter c) = withCounter d (c .n) (c .w) (c .minus) (c .step)
+declares d (Text t) = d
+declares d (Bars b) = d
+declares d (Box r) = d
+declares d (Frame f) = d
+declares d (Picture p) = d
+
+-- "otherwise all but V, C and FE": an item that has a place in a form alone
+unfoldable pub declaration : Item → Bool
+declaration (Origin o) = false
+declaration (Variable v) = true
+declaration (Counter c) = true
+declaration (Text t) = false
+declaration (Bars b) = false
+declaration (Box r) = false
+declaration (Frame f) = false
+declaration (Picture p) = false
+
+-- recording takes it
+abbrev pub isTaken : Verdict → Bool
+isTaken Taken = true
+isTaken Again = false
+isTaken Undeclared = false
+isTaken Past = false
+isTaken Unfit = false
+
+-- ---- its picture
+
+-- an entry was found
+abbrev pub isAt : Found → Bool
+isAt (At i) = true
+isAt Absent = false
+
+-- [11] "name not found", of GG: the picture that an item draws is stored; what draws none asks for none
+unfoldable pub hasPicture : List ℕ → List ℕ → Item → Bool
+hasPicture directory line (Origin o) = true
+hasPicture directory line (Variable v) = true
+hasPicture directory line (Counter c) = true
+hasPicture directory line (Text t) = true
+hasPicture directory line (Bars b) = true
+hasPicture directory line (Box r) = true
+hasPicture directory line (Frame f) = true
+hasPicture directory line (Picture p) = isAt (titledAt directory true (packedOf line (p .at) (p .length)))

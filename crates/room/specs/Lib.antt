@@ -1,0 +1,3 @@
+-- Room in the store.
+pub mod Room
+pub mod Samples

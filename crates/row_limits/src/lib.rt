@@ -1,0 +1,137 @@
+// The limits of a line's fields.
+//
+// Paper 01 gives numbers, names and prompts their limits; a line that has the written form with one outside of them is answered by 7. `row_limits` answers the place of the first
+// such field of a line, or that all are within.
+ghost use mathlib.Core.Path.{_≡_};
+ghost use mathlib.Core.Bool.{_||_, cond};
+ghost use Rattle.kinds.specs.Bytes.{between};
+ghost use Rattle.grammar.specs.Makers.{starred};
+ghost use Rattle.grammar.specs.Forms.{rowOf, Form, boundsOf, limited, isNumber};
+ghost use Rattle.row_limits.specs.Limits.{named, meets, fieldLimits, limitsFrom};
+use bounds::bound_by;
+use classes::Class;
+use data_field::Limits;
+use grammar::makers::is_star;
+use grammar::table::line_up;
+
+// Whether the n bytes of the text at p are those of a name.
+fn is_name(line: &[u8], p: usize, n: usize) -> bool
+    ensures { λ r. ⌜ r ≡ named (now (line .entry)) p n ⌝ }
+{
+    if line.len() <= p {
+        return n == 0;
+    }
+    let start = p + 1;
+    let end = classes::run_end(line, Class::Named, start);
+    end - start == n
+}
+
+fn is_either(line: &[u8], p: usize, n: usize) -> bool
+    ensures { λ r. ⌜ r ≡ (named (now (line .entry)) p n || starred (now (line .entry)) p n) ⌝ }
+{
+    if is_name(line, p, n) {
+        return true;
+    }
+    is_star(line, p, n)
+}
+
+// Whether a field meets what is asked of it beside its bounds.
+fn is_met(line: &[u8], f: u8, before: usize, v: usize, p: usize) -> bool
+    ensures { λ r. ⌜ r ≡ meets f (now (line .entry)) before v p ⌝ }
+{
+    match f {
+        b'w' => before < v,
+        b'a' => is_name(line, p, v),
+        b'z' => is_either(line, p, v),
+        _ => true,
+    }
+}
+
+fn is_within(low: usize, high: usize, v: usize) -> bool
+    ensures { λ r. ⌜ r ≡ between low high v ⌝ }
+{
+    if v < low {
+        return false;
+    }
+    v <= high
+}
+
+fn is_limited(f: u8) -> bool
+    ensures { λ r. ⌜ r ≡ limited f ⌝ }
+{
+    match f {
+        b'n' => true,
+        b'w' => true,
+        b's' => true,
+        b't' => true,
+        b'a' => true,
+        b'z' => true,
+        _ => false,
+    }
+}
+
+fn field_limits(
+    line: &[u8],
+    f: u8,
+    low: usize,
+    high: usize,
+    before: usize,
+    v: usize,
+    p: usize,
+) -> Limits
+    ensures { λ r. ⌜ r ≡ fieldLimits f (low, high) (now (line .entry)) before v p ⌝ }
+{
+    if f == b'd' {
+        return data_field::data_limits(line, p);
+    }
+    if is_limited(f) {
+        if is_within(low, high, v) {
+            if is_met(line, f, before, v, p) {
+                return Limits::Within;
+            }
+            return Limits::Outside(p);
+        }
+        return Limits::Outside(p);
+    }
+    Limits::Within
+}
+
+fn number_after(f: u8, v: usize, before: usize) -> usize
+    ensures { λ r. ⌜ r ≡ cond (isNumber f) v before ⌝ }
+{
+    match f {
+        b'n' => v,
+        b'w' => v,
+        _ => before,
+    }
+}
+
+// The first field of a row outside its limits.
+pub fn row_limits(
+    line: &[u8],
+    row: usize,
+    rows: usize,
+    vs: &[usize; 18],
+    ps: &[usize; 18],
+) -> Limits
+    ensures { λ r. ⌜ r ≡ limitsFrom (rowOf row .fields) (boundsOf row rows) (now (line .entry)) 0 (now (vs .entry)) (now (ps .entry)) ⌝ }
+{
+    let up = line_up(row);
+    let mut before: usize = 0;
+    let mut i = 0;
+    while i < 18 {
+        let f = up[i];
+        if f == b' ' {
+            return Limits::Within;
+        }
+        let b = bound_by(up[18 + i], rows);
+        let v = vs[i];
+        let p = ps[i];
+        if let Limits::Outside(fault) = field_limits(line, f, b.low, b.high, before, v, p) {
+            return Limits::Outside(fault);
+        }
+        before = number_after(f, v, before);
+        i += 1;
+    }
+    Limits::Within
+}

@@ -1,2 +1,0 @@
--- How soundness is decided.
-pub mod Claim

@@ -1,0 +1,4 @@
+pub mod Tables
+pub mod Elements
+pub mod Laid
+pub mod Cases

@@ -1,0 +1,52 @@
+use Prim.Native.Nat.{_-_}
+use mathlib.Core.Path.{_≡_, sym, _∙_, refl}
+use denote.Ref.{now}
+use native.Mathlib.Omega.{arith}
+use Rattle.values.specs.Sound.{every, setAt, allSet}
+use Rattle.values.proofs.Sound.{every-more, every-stop, every-end}
+use borrow.Author.Needs.{needs}
+use Rattle.values.proofs.all_set.Statement.{statement}
+use Rattle.values.proofs.all_set.Tie as tie
+
+abbrev Inv-loop : tie.InvT-loop
+Inv-loop d values c k₀ k = every (setAt d values c) (10 - k) k ≡ every (setAt d values c) 10 0
+
+abbrev μ-loop : tie.MeasureT-loop
+μ-loop d values c k₀ k = 10 - k
+
+loop-holds : tie.Need-loop-holds Inv-loop μ-loop
+loop-holds c = refl
+
+set-at-requires : tie.Need-set-at-requires Inv-loop μ-loop
+set-at-requires c κs = search needs
+
+add-k : tie.Need-add-k Inv-loop μ-loop
+add-k c = search needs
+
+loop-less : tie.Need-loop-less Inv-loop μ-loop
+loop-less c = omega arith
+
+loop-again : tie.Need-loop-again Inv-loop μ-loop
+loop-again c = let a = c .before .before .before .before .before .args in let l = c .before .before .before .loop in sym (every-more (setAt (a .d) (now (a .values)) (a .c)) (l .k) (omega arith) (sym (c .before .set-at .ensures) ∙ c .if1 .taken)) ∙ l .inv
+
+returns : tie.Need-returns Inv-loop μ-loop
+unfolding allSet
+returns c = let a = c .before .before .before .before .before .args in let l = c .before .before .before .loop in sym (every-stop (setAt (a .d) (now (a .values)) (a .c)) (l .k) (omega arith) (sym (c .before .set-at .ensures) ∙ c .if1 .left)) ∙ l .inv
+
+returns-2 : tie.Need-returns-2 Inv-loop μ-loop
+unfolding allSet
+returns-2 c = let a = c .before .before .before .args in let l = c .before .loop in sym (every-end (setAt (a .d) (now (a .values)) (a .c)) (l .k) (omega arith)) ∙ l .inv
+
+pub all-set-spec : {M : Type 1} → statement M
+all-set-spec =
+    tie.close
+    (tie.spec
+    Inv-loop
+    μ-loop
+    loop-holds
+    set-at-requires
+    add-k
+    loop-less
+    loop-again
+    returns
+    returns-2)
