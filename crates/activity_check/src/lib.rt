@@ -6,18 +6,18 @@ ghost use Prim.Native.Nat.{_+_};
 ghost use lib.Dec.{leb};
 ghost use Rattle.finding.specs.Find.{recorded};
 ghost use Rattle.recording.specs.Judged.{isAt};
-ghost use Rattle.session.specs.Active.{activeBytes};
+ghost use Rattle.active_form.specs.Active.{activeBytes};
 ghost use Rattle.session.specs.Session.{mostLabels};
 ghost use Rattle.activity_check.specs.Activity.{activeOk, owedWith, activitySound};
+use active_form::NO_FORM;
+use active_form::active_declared;
+use active_form::active_pictures;
 use counters::Counters;
 use declarations::Declared;
 use finding::Found;
 use ground::both;
 use session::MOST_LABELS;
-use session::NO_FORM;
 use session::Session;
-use session::active_declared;
-use session::active_pictures;
 
 // A number of the session to reckon with.
 pub fn wide(x: u16) -> usize

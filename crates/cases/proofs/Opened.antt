@@ -40,7 +40,7 @@ use Rattle.values.specs.Sound as Values
 use Rattle.pieces.specs.Data as Data
 use Rattle.forms.specs.Form as Form
 use Rattle.recording.specs.Judged as Judged
-use Rattle.form_lines.specs.Held as Held
+use Rattle.kept_line.specs.Held as Held
 use Rattle.item_drawing.specs.Draw as ItemDraw
 use Rattle.form_drawing.specs.Draw as FormDraw
 use Rattle.item_commands.specs.Items as Items

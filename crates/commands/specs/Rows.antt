@@ -18,10 +18,10 @@ use Rattle.read.specs.declared.Fault.the-variants.{Form as form, Limit}
 use Rattle.read.specs.declared.Read.{Read}
 use Rattle.read.specs.declared.Read.the-variants.{Taken as Reads, Refused}
 use Rattle.normal.specs.Written.{normal}
-use Rattle.form_lines.specs.declared.Stored.{Stored}
-use Rattle.form_lines.specs.declared.Stored.the-variants.{Holds, Nothing as NoItem}
+use Rattle.kept_line.specs.declared.Stored.{Stored}
+use Rattle.kept_line.specs.declared.Stored.the-variants.{Holds, Nothing as NoItem}
 use Rattle.forms.specs.Form.{declaredOf}
-use Rattle.form_lines.specs.Held.{heldCommand}
+use Rattle.kept_line.specs.Held.{heldCommand}
 use Rattle.session.specs.declared.Session.{Session}
 use Rattle.answers.specs.declared.Answer.{Answer}
 use Rattle.answers.specs.declared.Answer.the-variants.{Unwritten, Limits, Owing, Misplaced, Full}

@@ -8,9 +8,9 @@ use Rattle.grammar.specs.declared.Command.{Command}
 use Rattle.read.specs.declared.Read.{Read}
 use Rattle.read.specs.Commands.{readOf}
 use Rattle.normal.specs.Written.{normal}
-use Rattle.form_lines.specs.declared.Stored.{Stored}
-use Rattle.form_lines.specs.declared.Stored.the-variants.{Holds, Nothing as NoItem}
-use Rattle.form_lines.specs.Held.{heldCommand}
+use Rattle.kept_line.specs.declared.Stored.{Stored}
+use Rattle.kept_line.specs.declared.Stored.the-variants.{Holds, Nothing as NoItem}
+use Rattle.kept_line.specs.Held.{heldCommand}
 use Rattle.session.specs.declared.Session.{Session}
 use Rattle.answers.specs.declared.Answer.the-variants.{Lengths, Long}
 use Rattle.answers.specs.Answers.{Row, row, answerOf}

@@ -1,6 +1,7 @@
 -- Parts of a file, and sums of its bytes. Assumes nothing.
 use Prim.Native.Nat.{ℕ, _+_, _*_, _%_}
 use mathlib.Core.List.{List, [], _∷_}
+use mathlib.Core.Path.{_≡_, refl}
 use lib.ListN.{take, drop}
 
 -- n bytes from a place on
@@ -21,3 +22,8 @@ summed s (b ∷ l) = summed (stepped s b) l
 
 abbrev pub sumOn : ℕ → List ℕ → ℕ
 sumOn start l = summed (start % prime) l
+
+-- the same bytes in another order have another sum
+case-order : sumOn 0 (1 ∷ 2 ∷ []) ∷ sumOn 0 (2 ∷ 1 ∷ []) ∷ [] ≡ 517 ∷ 773 ∷ []
+unfolding summed
+case-order = refl

@@ -5,23 +5,23 @@ use mathlib.Core.Bool.{Bool}
 use mathlib.Core.List.{List, [], _∷_}
 use Prim.Native.Nat.{ℕ}
 use lib.ListN.{length}
-use Rattle.declarations.specs.Declarations.{nothing}
 use Rattle.content_lines.specs.Lines.{linesOf}
 use Rattle.dots.specs.declared.Ink.{Ink}
 use Rattle.dots.specs.Dots.{drawn, cut}
 use Rattle.dots.proofs.Pages.{length-drawn}
 use Rattle.outside.proofs.WhiteOutside.{white-outside-drawn}
-use Rattle.form_lines.specs.declared.Stored.{Stored}
-use Rattle.form_lines.specs.declared.Stored.the-variants.{Holds, Nothing}
-use Rattle.form_lines.specs.Held.{itemIn}
+use Rattle.kept_line.specs.declared.Stored.{Stored}
+use Rattle.kept_line.specs.declared.Stored.the-variants.{Holds, Nothing}
+use Rattle.kept_line.specs.Held.{itemIn}
 use Rattle.item_drawing.specs.Draw.{Setting}
 use Rattle.item_drawing.proofs.Keeping.{TextKeeps, BarsKeep, item-keeps, Long, Clear}
-use Rattle.form_drawing.specs.Draw.{Drawing, drawing, place, drawsStored, drawsLine, drawsLines, formDrawn}
+use Rattle.carried.specs.Carried.{starts}
+use Rattle.form_drawing.specs.Draw.{Drawing, drawing, drawsStored, drawsLine, drawsLines, formDrawn}
 
 module _ (p : List ℕ → Type 0) (g : Setting) (text : TextKeeps p g) (bars : BarsKeep p g)
     (dots : (ink : Ink) (s : ℕ → ℕ → Bool) (page : List ℕ) → p page → p (drawn ink (cut (g .width) (g .length) s) page)) where
   stored-keeps : (w : Drawing) (line : List ℕ) (s : Stored) → p (w .page) → p (drawsStored g w line s .page)
-  stored-keeps w line (Holds it) h = item-keeps p g text bars dots (w .declared) (w .origin .x) (w .origin .y) line it (w .page) h
+  stored-keeps w line (Holds it) h = item-keeps p g text bars dots (w .carried .declared) (w .carried .origin .x) (w .carried .origin .y) line it (w .page) h
   stored-keeps w line Nothing h = h
 
   pub lines-keep : (w : Drawing) (ls : List (List ℕ)) → p (w .page) → p (drawsLines g w ls .page)
@@ -31,7 +31,7 @@ module _ (p : List ℕ → Type 0) (g : Setting) (text : TextKeeps p g) (bars : 
 
   pub form-keeps : (x y : ℕ) (bytes page : List ℕ) → p page → p (formDrawn g x y bytes page)
   unfolding formDrawn
-  form-keeps x y bytes page h = lines-keep (drawing nothing (place x y) page) (linesOf bytes .whole) h
+  form-keeps x y bytes page h = lines-keep (drawing (starts x y) page) (linesOf bytes .whole) h
 
 pub length-form : (g : Setting) (n : ℕ) → TextKeeps (Long n) g → BarsKeep (Long n) g → (x y : ℕ) (bytes page : List ℕ) → length page ≡ n → length (formDrawn g x y bytes page) ≡ n
 length-form g n text bars = form-keeps (Long n) g text bars (λ ink s page h. length-drawn ink (cut (g .width) (g .length) s) page ∙ h)

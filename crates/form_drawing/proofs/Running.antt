@@ -4,18 +4,20 @@ use mathlib.Core.Path.{_≡_, refl, ap, _∙_}
 use mathlib.Core.List.{List, [], _∷_, _++_}
 use Prim.Native.Nat.{ℕ, zero, suc, _≤_}
 use native.Mathlib.Omega.{arith}
-use Rattle.declarations.specs.declared.Declared.{Declared}
-use Rattle.declarations.specs.Declarations.{nothing}
-use Rattle.grammar.specs.declared.Origin.{Origin as Place}
-use Rattle.contents.specs.declared.Cursor.{Cursor}
-use Rattle.contents.specs.Content.{bytesFrom, contentOf, content, cursorAt}
+use Rattle.grammar.specs.declared.Item.{Item}
+use Rattle.contents.specs.Content.{bytesFrom}
 use Rattle.content_lines.specs.Lines.{linesOf}
-use Rattle.form_lines.specs.declared.Stored.the-variants.{Nothing}
-use Rattle.form_lines.specs.Held.{itemIn}
+use Rattle.kept_line.specs.declared.Stored.{Stored}
+use Rattle.kept_line.specs.declared.Stored.the-variants.{Holds, Nothing}
+use Rattle.kept_line.specs.Held.{itemIn}
 use Rattle.form_lines.specs.Walk.{lineIn, behind}
 use Rattle.form_lines.proofs.Folding.{fold-step}
-use Rattle.item_drawing.specs.Draw.{Setting}
-use Rattle.form_drawing.specs.Draw.{Drawing, drawing, drawsLine, drawsLines, formDrawn}
+use Rattle.recording.specs.Judged.{declares}
+use Rattle.carried.specs.declared.Carried.{Carried}
+use Rattle.carried.specs.Carried.{carries}
+use Rattle.item_drawing.specs.Draw.{Setting, drawsItem}
+use Rattle.form_drawing.specs.Draw.{Drawing, drawing, drawsStored, drawsLine, drawsLines, formDrawn}
+use Rattle.form_drawing.specs.Label.{itemOr}
 
 -- ---- the lines of a form
 
@@ -38,27 +40,32 @@ draws-step g w a = fold-step (drawsLines g) (drawsLine g) (λ s l ls. refl) (λ 
 
 -- ---- a line more, and from start to end
 
-module _ (g : Setting) (p at left p′ at′ left′ : ℕ) (line page page′ : List ℕ) (d d′ : Declared) (o o′ : Place) where
+as-stored : (g : Setting) (w : Drawing) (l : List ℕ) (s : Stored) → drawsStored g w l (Holds (itemOr (w .carried .origin) s)) ≡ drawsStored g w l s
+unfolding drawsItem declares
+as-stored g w l (Holds it) = refl
+as-stored g w l Nothing = refl
+
+module _ (g : Setting) (p at left p′ at′ left′ : ℕ) (line page page′ : List ℕ) (c c′ : Carried) (it : Item) where
   abbrev b : List ℕ
   b = bytesFrom (g .store) (g .links) p at left
 
+  line-drawn : it ≡ itemOr (c .origin) (itemIn line) → page′ ≡ drawsItem g (c .declared) (c .origin .x) (c .origin .y) line it page → c′ ≡ carries c it
+      → drawing c′ page′ ≡ drawsLine g (drawing c page) line
+  unfolding drawsLine
+  line-drawn ei ep ec =
+      (λ i. drawing (ec i) (ep i)) ∙ ap (λ (k : Item). drawsStored g (drawing c page) line (Holds k)) ei ∙ as-stored g (drawing c page) line (itemIn line)
+
   pub run-next : line ≡ lineIn b → bytesFrom (g .store) (g .links) p′ at′ left′ ≡ behind b
-      → drawing d′ o′ page′ ≡ drawsLine g (drawing d o page) line
-      → drawsLines g (drawing d′ o′ page′) (linesOf (bytesFrom (g .store) (g .links) p′ at′ left′) .whole)
-      ≡ drawsLines g (drawing d o page) (linesOf b .whole)
-  run-next here there e =
-      ap (λ (w : Drawing). drawsLines g w (linesOf (bytesFrom (g .store) (g .links) p′ at′ left′) .whole)) e
-      ∙ rw (there, here) (draws-step g (drawing d o page) b)
+      → it ≡ itemOr (c .origin) (itemIn line) → page′ ≡ drawsItem g (c .declared) (c .origin .x) (c .origin .y) line it page → c′ ≡ carries c it
+      → drawsLines g (drawing c′ page′) (linesOf (bytesFrom (g .store) (g .links) p′ at′ left′) .whole)
+      ≡ drawsLines g (drawing c page) (linesOf b .whole)
+  run-next here there ei ep ec =
+      ap (λ (w : Drawing). drawsLines g w (linesOf (bytesFrom (g .store) (g .links) p′ at′ left′) .whole)) (line-drawn ei ep ec)
+      ∙ rw (there, here) (draws-step g (drawing c page) b)
 
 module _ (g : Setting) (p at : ℕ) where
-  pub run-end : (left : ℕ) (d : Declared) (o : Place) (page : List ℕ) → left ≤ 0
-      → drawing d o page ≡ drawsLines g (drawing d o page) (linesOf (bytesFrom (g .store) (g .links) p at left) .whole)
+  pub run-end : (left : ℕ) (c : Carried) (page : List ℕ) → left ≤ 0
+      → drawing c page ≡ drawsLines g (drawing c page) (linesOf (bytesFrom (g .store) (g .links) p at left) .whole)
   unfolding bytesFrom linesOf drawsLines
-  run-end zero d o page h = refl
-  run-end (suc left) d o page h = absurd (omega arith)
-
-pub run-start : (g : Setting) (i : ℕ) (c : Cursor) (d : Declared) (o : Place) (page : List ℕ) → c ≡ cursorAt (g .links) (g .directory) i → d ≡ nothing
-    → drawsLines g (drawing d o page) (linesOf (bytesFrom (g .store) (g .links) (c .portion) (c .at) (c .left)) .whole)
-    ≡ drawsLines g (drawing nothing o page) (linesOf (content (g .store) (g .links) (g .directory) i) .whole)
-unfolding contentOf
-run-start g i c d o page ec ed = rw (ec, ed)
+  run-end zero c page h = refl
+  run-end (suc left) c page h = absurd (omega arith)

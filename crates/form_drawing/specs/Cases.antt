@@ -17,19 +17,14 @@ use Rattle.row_limits.specs.Limits.{meets, fieldLimits, limitsFrom}
 use Rattle.read.specs.Commands.{judged, headed, readOf}
 use Rattle.writing.specs.Writing.{digits, cased, equal}
 use Rattle.normal.specs.Written.{writtenField, writtenFrom, writtenOf, headWritten, isNormal}
-use Rattle.grammar.specs.declared.Item.the-variants.{Origin}
 use Rattle.declarations.specs.Declarations.{nothing, withVariable}
 use Rattle.recording.specs.Judged.{declares}
-use Rattle.form_lines.specs.Held.{itemIn}
-use Rattle.forms.specs.Form.{declaring}
+use Rattle.kept_line.specs.Held.{itemIn}
+use Rattle.carried.specs.Carried.{starts}
 use Rattle.item_drawing.specs.Draw.{Setting}
-use Rattle.form_drawing.specs.Draw.{drawing, place, originAfter, drawsLine}
-
--- "It replaces the earlier one": R after R
-case-origin : originAfter (place 10 20) (Origin (place 1 2)) ≡ place 1 2
-case-origin = refl
+use Rattle.form_drawing.specs.Draw.{drawing, drawsLine}
 
 -- what a V declares holds for the lines after it
-case-declared : (g : Setting) (page : List ℕ) → drawsLine g (drawing nothing (place 0 0) page) (bytes "V0,5,L,\"\"") .declared ≡ withVariable nothing 0 5 (code "L")
-unfolding drawsLine declaring declares withVariable itemIn letterAt between run valueFrom numberAt textAt byteAt find headBy headOf fieldAt fieldsFrom spread meets fieldLimits limitsFrom inOrder judged headed readOf digits cased writtenField writtenFrom writtenOf headWritten equal isNormal
+case-declared : (g : Setting) (page : List ℕ) → drawsLine g (drawing (starts 0 0) page) (bytes "V0,5,L,\"\"") .carried .declared ≡ withVariable nothing 0 5 (code "L")
+unfolding drawsLine declares withVariable itemIn letterAt between run valueFrom numberAt textAt byteAt find headBy headOf fieldAt fieldsFrom spread meets fieldLimits limitsFrom inOrder judged headed readOf digits cased writtenField writtenFrom writtenOf headWritten equal isNormal
 case-declared g page = refl

@@ -12,13 +12,10 @@ use lib.Dec.{ltb}
 use borrow.Author.Tests.{eq-eqb, ne-eqb, lt-ltb, le-ltb, le-leb, lt-leb}
 use Rattle.cells.proofs.Counts.{drop-none}
 use Rattle.content_lines.specs.Lines.{lines, onto, linesOf, lineOf}
-use Rattle.heads.specs.Heads.{headOf, headBy, find}
-use Rattle.read.specs.Commands.{readOf, headed}
-use Rattle.normal.specs.Written.{isNormal}
 use Rattle.ground.proofs.Tests.{same?}
-use Rattle.form_lines.specs.declared.Stored.{Stored}
-use Rattle.form_lines.specs.declared.Stored.the-variants.{Nothing}
-use Rattle.form_lines.specs.Held.{heldRead, itemIn}
+use Rattle.kept_line.specs.declared.Stored.the-variants.{Nothing}
+use Rattle.kept_line.specs.Held.{itemIn}
+use Rattle.kept_line.proofs.Standing.{item-empty, item-long}
 use Rattle.form_lines.specs.Walk.{lineIn, behind}
 
 -- ---- lines
@@ -72,24 +69,6 @@ module _ (a : List ℕ) where
   pub line-cut : length a ≤ length (lineOf a) → lineIn a ≡ []
   unfolding lineIn
   line-cut h = rw (le-ltb (length (lineOf a)) (length a) h)
-
--- ---- a line that holds nothing
-
-pick-same : (b : Bool) (s : Stored) → cond b s s ≡ s
-pick-same true s = refl
-pick-same false s = refl
-
-read-empty : heldRead (readOf 1 []) ≡ Nothing
-unfolding readOf headed headOf headBy find
-read-empty = refl
-
-pub item-empty : itemIn [] ≡ Nothing
-unfolding itemIn
-item-empty = rw read-empty (pick-same (isNormal []) Nothing)
-
-pub item-long : (l : List ℕ) → 255 < length l → itemIn l ≡ Nothing
-unfolding itemIn isNormal
-item-long l h = rw (lt-leb (length l) 255 h)
 
 -- ---- a step of a fold
 

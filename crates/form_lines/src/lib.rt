@@ -1,54 +1,18 @@
-// The lines of a stored form: what each holds, and how they are read one after another.
+// The lines of a stored form, read one after another.
 //
-// A form is kept as "a row of normalised lines": each an item in normal form of at most 255 bytes, then LF. `stored_item` says what a line holds, an item or
-// nothing that a form may have; `next_line` reads the line ahead in the store's chain and goes behind it. Both answer on any memory: what no form may
-// have, a line that is too long or has no end, holds nothing. Which items recording takes stands in crate `recording`, what a whole form says in crate
-// `forms`.
+// A form is kept as "a row of normalised lines": each an item in normal form of at most 255 bytes, then LF. `next_line` reads the line ahead in the store's
+// chain and goes behind it, on any memory: what no form may have, a line that is too long or has no end, is an empty line. What a line holds is said in crate
+// `kept_line`, which items recording takes in crate `recording`, what a whole form says in crate `forms`.
 ghost use mathlib.Core.Path.{_≡_};
 ghost use mathlib.Core.Bool.{cond};
 ghost use Prim.Native.Nat.{suc, _≤_};
 ghost use lib.ListN.{length};
 ghost use Rattle.contents.specs.Content.{ahead, onward as onwardOf};
 ghost use Rattle.content_lines.specs.Lines.{lined};
-ghost use Rattle.form_lines.specs.Held.{heldCommand, itemIn};
 ghost use Rattle.form_lines.specs.Walk.{lineIn, behind};
 use content_lines::Next;
 use contents::Cursor;
-use grammar::Command;
-use grammar::Item;
 use ground::less;
-use read::Read;
-
-// What a stored line holds: an item in normal form, or nothing that a form may have.
-pub enum Stored {
-    Holds(Item),
-    Nothing,
-}
-
-fn held_command(c: Command) -> Stored
-    ensures { λ r. ⌜ r ≡ heldCommand c ⌝ }
-{
-    match c {
-        Command::Item(item) => Stored::Holds(item),
-        Command::End => Stored::Nothing,
-        Command::Page(_) => Stored::Nothing,
-        Command::Forms(_) => Stored::Nothing,
-        Command::Pictures(_) => Stored::Nothing,
-        Command::Values(_) => Stored::Nothing,
-        Command::Listing(_) => Stored::Nothing,
-    }
-}
-
-// What a stored line holds. A line that may not stand in a form is read as nothing, so that reading it once tells both.
-pub fn stored_item(line: &[u8]) -> Stored
-    ensures { λ r. ⌜ r ≡ itemIn (now (line .entry)) ⌝ }
-{
-    let what = kept_line::own_line(line);
-    match what {
-        Read::Taken(c) => held_command(c),
-        Read::Refused(_) => Stored::Nothing,
-    }
-}
 
 // A reader one byte on.
 fn onward(links: &[u16], place: Cursor) -> Cursor

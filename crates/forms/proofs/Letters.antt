@@ -22,10 +22,10 @@ use Rattle.row_fields.specs.Reading.{Got, good, bad, fieldsFrom}
 use Rattle.row_limits.specs.Limits.{limitsFrom}
 use Rattle.read.specs.Commands.{decided, judged, headed, readOf}
 use Rattle.normal.specs.Written.{isNormal}
-use Rattle.form_lines.specs.declared.Stored.{Stored}
-use Rattle.form_lines.specs.declared.Stored.the-variants.{Holds, Nothing}
+use Rattle.kept_line.specs.declared.Stored.{Stored}
+use Rattle.kept_line.specs.declared.Stored.the-variants.{Holds, Nothing}
 use Rattle.recording.specs.Judged.{declares, hasPicture}
-use Rattle.form_lines.specs.Held.{heldCommand, heldRead, itemIn}
+use Rattle.kept_line.specs.Held.{heldCommand, heldRead, itemIn}
 use Rattle.forms.specs.Form.{declaring, declaresStored, hasStored}
 
 -- ---- the rows that a letter can name

@@ -14,10 +14,11 @@ use Rattle.content_lines.specs.Lines.{linesOf, lineOf}
 use Rattle.contents.proofs.Reading.{length-bytes}
 use Rattle.declarations.specs.declared.Declared.{Declared}
 use Rattle.grammar.specs.declared.Item.{Item}
-use Rattle.form_lines.specs.declared.Stored.the-variants.{Holds, Nothing}
-use Rattle.form_lines.specs.Held.{itemIn}
+use Rattle.kept_line.specs.declared.Stored.the-variants.{Holds, Nothing}
+use Rattle.kept_line.specs.Held.{itemIn}
 use Rattle.form_lines.specs.Walk.{lineIn, behind}
-use Rattle.form_lines.proofs.Folding.{lines-next, lines-last, line-good, line-long, line-cut, item-empty, item-long, fold-step}
+use Rattle.form_lines.proofs.Folding.{lines-next, lines-last, line-good, line-long, line-cut, fold-step}
+use Rattle.kept_line.proofs.Standing.{item-empty, item-long}
 use Rattle.recording.specs.Judged.{declares}
 use Rattle.forms.specs.declared.Walk.{Walk}
 use Rattle.forms.specs.Form.{takes, declaring, takesAll, declaredBy, hasStored, hasAll, formOk, declaredOf, picturesStored}

@@ -8,9 +8,9 @@ use lib.Dec.{eqb}
 use Rattle.declarations.specs.declared.Declared.{Declared}
 use Rattle.declarations.specs.Declarations.{nothing}
 use Rattle.content_lines.specs.Lines.{linesOf}
-use Rattle.form_lines.specs.declared.Stored.{Stored}
-use Rattle.form_lines.specs.declared.Stored.the-variants.{Holds, Nothing}
-use Rattle.form_lines.specs.Held.{itemIn}
+use Rattle.kept_line.specs.declared.Stored.{Stored}
+use Rattle.kept_line.specs.declared.Stored.the-variants.{Holds, Nothing}
+use Rattle.kept_line.specs.Held.{itemIn}
 use Rattle.recording.specs.Judged.{judged, declares, isTaken, hasPicture}
 
 -- ---- a line of a form

@@ -3,8 +3,8 @@ ghost use mathlib.Core.Path.{_≡_};
 ghost use Prim.Native.Nat.{_<_};
 ghost use lib.ListN.{getD, set, take, drop, replicate};
 ghost use lib.Seq.{sets};
-use crate::numbers::least;
-use crate::numbers::less;
+use crate::reckoning::least;
+use crate::reckoning::less;
 
 pub fn wide(x: u8) -> usize
     ensures { λ r. ⌜ r ≡ x ⌝ }

@@ -4,7 +4,7 @@
 // bytes of a list at any place: past its end 0 is read and nothing is stored. Each function takes any numbers and any bytes, and its contract is one
 // equation with a definition of the language's own library. The laws on tests and on runs of stores that proofs cite stand in proofs/.
 mod bytes; // bytes read and stored at any place, parts of a list
-mod numbers; // sums and differences that stay in range
+mod reckoning; // sums and differences that stay in range
 
 ghost use mathlib.Core.Path.{_≡_};
 ghost use mathlib.Core.Bool.{_&&_, _||_};
@@ -16,10 +16,10 @@ pub use bytes::front;
 pub use bytes::put;
 pub use bytes::put_byte;
 pub use bytes::wide;
-pub use numbers::capped_sum;
-pub use numbers::greatest;
-pub use numbers::least;
-pub use numbers::less;
+pub use reckoning::capped_sum;
+pub use reckoning::greatest;
+pub use reckoning::least;
+pub use reckoning::less;
 
 // Two tests as one: both are worked out, and the caller has no branch.
 pub fn both(a: bool, b: bool) -> bool

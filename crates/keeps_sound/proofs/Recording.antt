@@ -33,10 +33,10 @@ use Rattle.writing.specs.Writing.{equal}
 use Rattle.normal.proofs.Round.{normal-line, item-rows}
 use Rattle.normal.proofs.Short.{normal-short}
 use Rattle.recording.specs.declared.Verdict.the-variants.{Taken as Fine}
-use Rattle.form_lines.specs.declared.Stored.the-variants.{Holds, Nothing as NoItem}
+use Rattle.kept_line.specs.declared.Stored.the-variants.{Holds, Nothing as NoItem}
 use Rattle.recording.specs.Judged.{judged, isTaken as isFine}
 use Rattle.forms.specs.Form.{formOk, declaredOf, takesStored, takes, picturesStored}
-use Rattle.form_lines.specs.Held.{itemIn, heldRead}
+use Rattle.kept_line.specs.Held.{itemIn, heldRead}
 use Rattle.forms.proofs.Growing.{formOk-grows}
 use Rattle.activity_check.specs.Activity.{owedOk}
 use Rattle.session.specs.declared.Session.{Session}

@@ -60,19 +60,28 @@ fn say_label(session: Session, page: &[u8]) {
 // Label calls "until none is owed".
 fn labels(
     session: Session,
-    page: &mut [u8],
     background: &[u8],
     store: &[u8],
     links: &[u16],
     directory: &[u8],
     values: &[u8],
 ) -> Session {
+    let mut page = [0u8; PAGE];
     let mut s = session;
     let mut owed = s.owed;
     while 0 < owed {
-        let labelled = station::label(s, &FONT, page, background, store, links, directory, values);
+        let labelled = station::label(
+            s,
+            &FONT,
+            &mut page,
+            background,
+            store,
+            links,
+            directory,
+            values,
+        );
         s = labelled.session;
-        say_label(s, page);
+        say_label(s, &page);
         owed -= 1;
     }
     s
@@ -82,15 +91,14 @@ fn labels(
 fn call(
     k: usize,
     session: Session,
-    page: &mut [u8],
     background: &mut [u8],
     store: &mut [u8],
     links: &mut [u16],
     directory: &mut [u8],
     values: &mut [u8],
-    output: &mut [u8],
     unread: &[u8],
 ) -> Outcome {
+    let mut output = [0u8; STORE];
     let o = station::command(
         session,
         &FONT,
@@ -99,14 +107,14 @@ fn call(
         links,
         directory,
         values,
-        output,
+        &mut output,
         unread,
     );
     let answer = o.answer;
     let written = o.written;
     let after = o.session;
-    say_answer(k, unread.len(), answer, output, written);
-    let drawn = labels(after, page, background, store, links, directory, values);
+    say_answer(k, unread.len(), answer, &output, written);
+    let drawn = labels(after, background, store, links, directory, values);
     Outcome {
         answer: answer,
         session: drawn,
@@ -128,13 +136,11 @@ fn calls_in(most: usize, read: usize) -> usize
 // Calls up to the one that reads nothing. Every other reads a byte or more, so that there are no more of them than bytes.
 fn calls(
     opened: Session,
-    page: &mut [u8],
     background: &mut [u8],
     store: &mut [u8],
     links: &mut [u16],
     directory: &mut [u8],
     values: &mut [u8],
-    output: &mut [u8],
     input: &[u8],
 ) {
     let mut s = opened;
@@ -143,18 +149,7 @@ fn calls(
     let mut k: usize = 0;
     while k < most {
         k += 1;
-        let o = call(
-            k,
-            s,
-            page,
-            background,
-            store,
-            links,
-            directory,
-            values,
-            output,
-            unread,
-        );
+        let o = call(k, s, background, store, links, directory, values, unread);
         s = o.session;
         most = calls_in(most, o.read);
         let answer = o.answer;
@@ -170,7 +165,6 @@ fn main() {
     let mut links = [0u16; PORTIONS];
     let mut directory = [0u8; DIRECTORY];
     let mut values = [0u8; BYTES_OF_VALUES];
-    let mut output = [0u8; STORE];
     let mut input = [0u8; INPUT];
     let n = io::read_full(STDIN_FILENO, &mut input);
     let opened = station::open(
@@ -184,13 +178,11 @@ fn main() {
     let session = opened.session;
     calls(
         session,
-        &mut page,
         &mut background,
         &mut store,
         &mut links,
         &mut directory,
         &mut values,
-        &mut output,
         &input[..n],
     );
 }

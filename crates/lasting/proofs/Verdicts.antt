@@ -5,16 +5,15 @@ use mathlib.Core.List.{List}
 use Prim.Native.Nat.{ℕ}
 use lib.ListN.{length}
 use lib.Dec.{eqb, ltb}
-use Rattle.kinds.specs.Text.{bytes}
 use Rattle.writing.specs.Writing.{equal}
 use Rattle.low_first.specs.Low.{numberAt}
 use Rattle.lasting.specs.declared.judged.Verdict.{Verdict}
 use Rattle.lasting.specs.declared.judged.Verdict.the-variants.{Foreign, Version, Sizes, Length, Damaged, Slots, Good}
-use Rattle.lasting.specs.File.{rowsOf, fileSize, fileSum, sizesWrong, chosen, judged}
+use Rattle.lasting.specs.File.{name, versionAt, rowsOf, fileSize, fileSum, sizesWrong, chosen, judged}
 use Rattle.file_parts.specs.Sums.{partOf}
-use Rattle.slots.specs.Slots.{whole}
+use Rattle.slots.specs.Slots.{slotOf, bodySumAt, whole}
 
-module _ (f : List ℕ) (a b t e : Bool) (x y : ℕ) (ha : a ≡ whole f 4096) (hb : b ≡ whole f 8192) (hx : x ≡ numberAt 4 f 4096) (hy : y ≡ numberAt 4 f 8192)
+module _ (f : List ℕ) (a b t e : Bool) (x y : ℕ) (ha : a ≡ whole f (slotOf 0)) (hb : b ≡ whole f (slotOf 1)) (hx : x ≡ numberAt 4 f (slotOf 0)) (hy : y ≡ numberAt 4 f (slotOf 1))
     (he : e ≡ (not a || ltb x y)) (ht : t ≡ (b && e)) where
   chosen-by : chosen f ≡ cond t (Good 1) (cond a (Good 0) Slots)
   unfolding chosen
@@ -30,8 +29,8 @@ module _ (f : List ℕ) (a b t e : Bool) (x y : ℕ) (ha : a ≡ whole f 4096) (
   chosen-none h k = rw chosen-by (rw (h, k))
 
 module _ (f : List ℕ) (a b c d e : Bool) (v : Verdict) where
-  pub judged-by : a ≡ not (equal (partOf f 0 16) (bytes "Skeinferry store")) → b ≡ not (eqb (numberAt 2 f 16) 1) → c ≡ sizesWrong f
-      → d ≡ not (eqb (length f) (fileSize (rowsOf f))) → e ≡ not (eqb (fileSum f) (numberAt 4 f 24)) → v ≡ chosen f
+  pub judged-by : a ≡ not (equal (partOf f 0 versionAt) name) → b ≡ not (eqb (numberAt 2 f versionAt) 1) → c ≡ sizesWrong f
+      → d ≡ not (eqb (length f) (fileSize (rowsOf f))) → e ≡ not (eqb (fileSum f) (numberAt 4 f bodySumAt)) → v ≡ chosen f
       → cond a Foreign (cond b Version (cond c Sizes (cond d Length (cond e Damaged v)))) ≡ judged f
   unfolding judged
   judged-by ha hb hc hd he hv = rw (ha, hb, hc, hd, he, hv)

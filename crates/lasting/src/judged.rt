@@ -2,14 +2,25 @@
 ghost use mathlib.Core.Path.{_≡_};
 ghost use Prim.Native.Nat.{_<_};
 ghost use Rattle.lasting.specs.File.{rowsOf, fileSum, sizesWrong, chosen, judged};
+use crate::BACKGROUND_AT;
+use crate::BODY_AT;
+use crate::ENTRIES_AT;
+use crate::MOST_ROWS;
+use crate::PORTIONS_AT;
+use crate::ROWS_AT;
+use crate::VERSION_AT;
+use dots::BYTES_A_ROW;
 use file_parts::four_at;
 use file_parts::part;
 use file_parts::sum;
 use file_parts::two_at;
 use ground::both;
 use ground::either;
+use slots::BODY_SUM_AT;
 use slots::is_whole;
 use slots::order_of;
+use store::MOST_ENTRIES;
+use store::MOST_PORTIONS;
 
 // What a file is: not a store; of another version; of other sizes; longer or shorter than its sizes say; of another sum; with no whole slot; or a
 // store, and which slot holds.
@@ -27,18 +38,24 @@ pub enum Verdict {
 pub fn rows(file: &[u8]) -> usize
     ensures { λ r. ⌜ (r ≡ rowsOf (now (file .entry))) × (r < 65536) ⌝ }
 {
-    two_at(file, 18) as usize
+    two_at(file, ROWS_AT) as usize
 }
 
 fn sizes_wrong(file: &[u8]) -> bool
     ensures { λ r. ⌜ r ≡ sizesWrong (now (file .entry)) ⌝ }
 {
-    let rows = two_at(file, 18);
-    let portions = two_at(file, 20);
-    let entries = two_at(file, 22);
+    let rows = two_at(file, ROWS_AT);
+    let portions = two_at(file, PORTIONS_AT);
+    let entries = two_at(file, ENTRIES_AT);
     either(
         rows == 0,
-        either(4000 < rows, either(portions != 2024, entries != 512)),
+        either(
+            MOST_ROWS < rows as usize,
+            either(
+                portions as usize != MOST_PORTIONS,
+                entries as usize != MOST_ENTRIES,
+            ),
+        ),
     )
 }
 
@@ -46,9 +63,9 @@ fn sizes_wrong(file: &[u8]) -> bool
 pub(crate) fn file_sum(file: &[u8]) -> u32
     ensures { λ r. ⌜ r ≡ fileSum (now (file .entry)) ⌝ }
 {
-    let head = sum(1, part(file, 0, 24));
-    let n = 530384 + 76 * rows(file);
-    sum(head, part(file, 12288, n))
+    let head = sum(1, part(file, 0, BODY_SUM_AT));
+    let n = BACKGROUND_AT - BODY_AT + BYTES_A_ROW * rows(file);
+    sum(head, part(file, BODY_AT, n))
 }
 
 // The whole slot of the greater order.
@@ -71,19 +88,19 @@ fn choose(file: &[u8]) -> Verdict
 pub fn judge(file: &[u8]) -> Verdict
     ensures { λ r. ⌜ r ≡ judged (now (file .entry)) ⌝ }
 {
-    if !writing::same(part(file, 0, 16), b"Skeinferry store") {
+    if !writing::same(part(file, 0, VERSION_AT), b"Skeinferry store") {
         return Verdict::Foreign;
     }
-    if two_at(file, 16) != 1 {
+    if two_at(file, VERSION_AT) != 1 {
         return Verdict::Version;
     }
     if sizes_wrong(file) {
         return Verdict::Sizes;
     }
-    if file.len() != 542672 + 76 * rows(file) {
+    if file.len() != BACKGROUND_AT + BYTES_A_ROW * rows(file) {
         return Verdict::Length;
     }
-    if file_sum(file) != four_at(file, 24) {
+    if file_sum(file) != four_at(file, BODY_SUM_AT) {
         return Verdict::Damaged;
     }
     choose(file)

@@ -8,12 +8,42 @@ mod judged; // any bytes judged
 mod links; // the links as bytes
 mod saved; // head and body, saved and loaded again
 
+use dots::BYTES_A_ROW;
 pub use judged::Verdict;
 pub use judged::judge;
 pub use judged::rows;
 pub use saved::load_body;
 pub use saved::place;
 pub use saved::seal;
+use slots::PAGE;
+use store::BYTES_A_PORTION;
+use store::BYTES_AN_ENTRY;
+use store::MOST_ENTRIES;
+use store::MOST_PORTIONS;
 
-// Where the body starts.
-pub const BODY: usize = 12288;
+// The most rows that a page may have.
+pub const MOST_ROWS: usize = 4000;
+
+// The head, behind the bytes that name the file.
+const VERSION_AT: usize = 16;
+
+const ROWS_AT: usize = 18;
+
+const PORTIONS_AT: usize = 20;
+
+const ENTRIES_AT: usize = 22;
+
+// The body, behind the pages of head and slots: directory, links, store, background.
+pub const BODY_AT: usize = 3 * PAGE;
+
+pub const DIRECTORY_BYTES: usize = MOST_ENTRIES * BYTES_AN_ENTRY;
+
+const LINKS_AT: usize = BODY_AT + DIRECTORY_BYTES;
+
+const STORE_AT: usize = LINKS_AT + 2 * MOST_PORTIONS;
+
+const STORE_BYTES: usize = MOST_PORTIONS * BYTES_A_PORTION;
+
+const BACKGROUND_AT: usize = STORE_AT + STORE_BYTES;
+
+const MOST_BACKGROUND: usize = MOST_ROWS * BYTES_A_ROW;

@@ -2,23 +2,42 @@
 ghost use mathlib.Core.Path.{_≡_};
 ghost use lib.Seq.{sets};
 ghost use Rattle.file_parts.specs.Sums.{partOf};
-ghost use Rattle.lasting.specs.File.{linksFrom, fileSize, headed, rowsIn, placed, sealed};
+ghost use Prim.Native.Nat.{_*_};
+ghost use Rattle.dots.specs.Dots.{bytesARow};
+ghost use Rattle.store.specs.Chain.{mostPortions};
+ghost use Rattle.lent.specs.Lent.{mostRows};
+ghost use Rattle.lasting.specs.File.{bodyAt, directoryBytes, linksAt, storeAt, storeBytes, backgroundAt, linksFrom, fileSize, headed, rowsIn, placed, sealed};
+use crate::BACKGROUND_AT;
+use crate::BODY_AT;
+use crate::DIRECTORY_BYTES;
+use crate::ENTRIES_AT;
+use crate::LINKS_AT;
+use crate::MOST_BACKGROUND;
+use crate::PORTIONS_AT;
+use crate::ROWS_AT;
+use crate::STORE_AT;
+use crate::STORE_BYTES;
+use crate::VERSION_AT;
 use crate::judged::file_sum;
 use crate::links::put_links;
 use crate::links::take_links;
+use dots::BYTES_A_ROW;
 use file_parts::part;
 use file_parts::put_four;
 use file_parts::put_two;
 use ground::put;
+use slots::BODY_SUM_AT;
+use store::MOST_ENTRIES;
+use store::MOST_PORTIONS;
 
 fn put_head(file: &mut [u8], rows: u16)
     ensures { λ _. ⌜ now (file .exit) ≡ headed (now (file .entry)) rows ⌝ }
 {
     put(file, 0, b"Skeinferry store");
-    put_two(file, 16, 1);
-    put_two(file, 18, rows);
-    put_two(file, 20, 2024);
-    put_two(file, 22, 512);
+    put_two(file, VERSION_AT, 1);
+    put_two(file, ROWS_AT, rows);
+    put_two(file, PORTIONS_AT, MOST_PORTIONS as u16);
+    put_two(file, ENTRIES_AT, MOST_ENTRIES as u16);
 }
 
 // Head and body, not sealed yet; how long the file is.
@@ -31,13 +50,13 @@ pub fn place(
 ) -> usize
     ensures { λ r. ⌜ (r ≡ fileSize (rowsIn (now (background .entry)))) × (now (file .exit) ≡ placed (now (file .entry)) (now (background .entry)) (now (store .entry)) (now (links .entry)) (now (directory .entry))) ⌝ }
 {
-    let rows = (background.len() / 76 % 65536) as u16;
+    let rows = (background.len() / BYTES_A_ROW % 65536) as u16;
     put_head(file, rows);
-    put(file, 12288, directory);
-    put_links(file, 20480, links);
-    put(file, 24528, store);
-    put(file, 542672, background);
-    542672 + 76 * (rows as usize)
+    put(file, BODY_AT, directory);
+    put_links(file, LINKS_AT, links);
+    put(file, STORE_AT, store);
+    put(file, BACKGROUND_AT, background);
+    BACKGROUND_AT + BYTES_A_ROW * (rows as usize)
 }
 
 // The sum of head and body, in the head.
@@ -45,7 +64,7 @@ pub fn seal(file: &mut [u8])
     ensures { λ _. ⌜ now (file .exit) ≡ sealed (now (file .entry)) ⌝ }
 {
     let s = file_sum(file);
-    put_four(file, 24, s);
+    put_four(file, BODY_SUM_AT, s);
 }
 
 // Directory, links, store and background out of a file.
@@ -56,10 +75,10 @@ pub fn load_body(
     links: &mut [u16],
     directory: &mut [u8],
 )
-    ensures { λ _. ⌜ (now (directory .exit) ≡ sets (now (directory .entry)) 0 (partOf (now (file .entry)) 12288 8192)) × (now (links .exit) ≡ sets (now (links .entry)) 0 (linksFrom 2024 (now (file .entry)) 20480)) × (now (store .exit) ≡ sets (now (store .entry)) 0 (partOf (now (file .entry)) 24528 518144)) × (now (background .exit) ≡ sets (now (background .entry)) 0 (partOf (now (file .entry)) 542672 304000)) ⌝ }
+    ensures { λ _. ⌜ (now (directory .exit) ≡ sets (now (directory .entry)) 0 (partOf (now (file .entry)) bodyAt directoryBytes)) × (now (links .exit) ≡ sets (now (links .entry)) 0 (linksFrom mostPortions (now (file .entry)) linksAt)) × (now (store .exit) ≡ sets (now (store .entry)) 0 (partOf (now (file .entry)) storeAt storeBytes)) × (now (background .exit) ≡ sets (now (background .entry)) 0 (partOf (now (file .entry)) backgroundAt (mostRows * bytesARow))) ⌝ }
 {
-    put(directory, 0, part(file, 12288, 8192));
-    take_links(file, 20480, links);
-    put(store, 0, part(file, 24528, 518144));
-    put(background, 0, part(file, 542672, 304000));
+    put(directory, 0, part(file, BODY_AT, DIRECTORY_BYTES));
+    take_links(file, LINKS_AT, links);
+    put(store, 0, part(file, STORE_AT, STORE_BYTES));
+    put(background, 0, part(file, BACKGROUND_AT, MOST_BACKGROUND));
 }

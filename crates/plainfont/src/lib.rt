@@ -5,10 +5,10 @@
 ghost use mathlib.Core.Path.{_≡_};
 ghost use Rattle.plainfont.specs.Plain.{plain};
 
-mod fields; // the bytes, field by field, written from the drawing by a script
+mod glyphs; // the bytes, field by field, written from the drawing by a script
 
 pub fn bytes() -> [u8; 1908]
     ensures { λ r. ⌜ r ≡ plain ⌝ }
 {
-    fields::FIELDS
+    glyphs::FIELDS
 }

@@ -4,19 +4,22 @@
 //
 // It is thin: what a command does is crate `station`, what is said and what the command line is crate `press_settings`, how the store lasts crate
 // `press_store`, how commands are read crate `press_input`, how labels become files crate `press_labels`. Here is the room that they are lent, and whose turn it is.
+use dots::BYTES_A_ROW;
 use ground::front;
 use ground::least;
+use lasting::DIRECTORY_BYTES;
+use lasting::MOST_ROWS;
+use lent::BYTES_OF_VALUES;
 use press_settings::Settings;
 use press_settings::saying;
 use press_store::Run;
 use press_store::rooms;
+use store::MOST_PORTIONS;
 
-// One turn: a label where one is owed, else a command or a step towards the next one.
+// One turn: a label where one is owed, else a step towards the next command, and the command once it is at hand.
 fn turn(
     s: Settings,
     run: Run,
-    prefix: &[u8],
-    path: &[u8],
     font: &[u8],
     background: &mut [u8],
     store: &mut [u8],
@@ -31,7 +34,6 @@ fn turn(
         return press_labels::one(
             s,
             run,
-            prefix,
             font,
             background,
             store,
@@ -41,10 +43,13 @@ fn turn(
             file,
         );
     }
-    press_input::one(
+    let next = press_input::ahead(s, run, window);
+    if !next.ready {
+        return next;
+    }
+    press_input::command(
         s,
-        run,
-        path,
+        next,
         font,
         background,
         store,
@@ -60,17 +65,15 @@ fn turn(
 fn turns(
     s: Settings,
     first: Run,
-    prefix: &[u8],
-    path: &[u8],
     font: &[u8],
     background: &mut [u8],
     store: &mut [u8],
     links: &mut [u16],
     directory: &mut [u8],
     values: &mut [u8],
-    window: &mut [u8],
     file: &mut [u8],
 ) -> Run {
+    let mut window = io::large_buffer();
     let mut run = first;
     let mut left: u64 = 18446744073709551615;
     while 0 < left {
@@ -80,15 +83,13 @@ fn turns(
         run = turn(
             s,
             run,
-            prefix,
-            path,
             font,
             background,
             store,
             links,
             directory,
             values,
-            window,
+            &mut window,
             file,
         );
         left -= 1;
@@ -103,124 +104,54 @@ fn finished(s: Settings, last: Run) {
     }
 }
 
-// A station opened or loaded, run to its end, with pages of the rows that it has.
-fn work(
-    s: Settings,
-    known: usize,
-    prefix: &[u8],
-    path: &[u8],
-    font: &[u8],
-    page: &mut [u8],
-    background: &mut [u8],
-    store: &mut [u8],
-    links: &mut [u16],
-    directory: &mut [u8],
-    values: &mut [u8],
-    window: &mut [u8],
-    file: &mut [u8],
-) {
-    let opened = station::open(page, background, store, links, directory, values);
-    let session = opened.session;
+// A station opened or loaded, and run to its end, with pages of n bytes.
+fn work(s: Settings, n: usize, known: usize, font: &[u8], file: &mut [u8]) {
+    let mut background = rooms::rows();
+    let mut store = rooms::portions();
+    let mut links = [0u16; MOST_PORTIONS];
+    let mut directory = [0u8; DIRECTORY_BYTES];
+    let mut values = [0u8; BYTES_OF_VALUES];
     let first = press_store::begin(
         s,
-        session,
         known,
-        path,
-        background,
-        store,
-        links,
-        directory,
-        values,
+        rooms::cut(&mut background, n),
+        &mut store,
+        &mut links,
+        &mut directory,
+        &mut values,
         file,
     );
     let last = turns(
         s,
         first,
-        prefix,
-        path,
         font,
-        background,
-        store,
-        links,
-        directory,
-        values,
-        window,
+        rooms::cut(&mut background, n),
+        &mut store,
+        &mut links,
+        &mut directory,
+        &mut values,
         file,
     );
     finished(s, last);
 }
 
-// Pages cut to n bytes.
-fn cut(
-    s: Settings,
-    n: usize,
-    known: usize,
-    prefix: &[u8],
-    path: &[u8],
-    font: &[u8],
-    page: &mut [u8],
-    background: &mut [u8],
-    file: &mut [u8],
-) {
-    if page.len() < n {
-        return;
-    }
-    if background.len() < n {
-        return;
-    }
-    let mut store = rooms::portions();
-    let mut links = [0u16; 2024];
-    let mut directory = [0u8; 8192];
-    let mut values = [0u8; 340];
-    let mut window = io::large_buffer();
-    work(
-        s,
-        known,
-        prefix,
-        path,
-        font,
-        &mut page[..n],
-        &mut background[..n],
-        &mut store,
-        &mut links,
-        &mut directory,
-        &mut values,
-        &mut window,
-        file,
-    );
-}
-
-// The run of a store, or of none.
-fn begin(s: Settings, prefix: &[u8], font: &[u8], path: &[u8], file: &mut [u8]) {
-    let known = press_store::found(s, path, file);
-    let rows = press_store::rows(s, path, known, front(file, known));
-    if rows == 0 {
-        return;
-    }
-    let mut page = rooms::rows();
-    let mut background = rooms::rows();
-    let n = 76 * least(rows, 4000);
-    cut(
-        s,
-        n,
-        known,
-        prefix,
-        path,
-        font,
-        &mut page,
-        &mut background,
-        file,
-    );
-}
-
-// With the font at hand: the names, and room for the store file.
-fn named(s: Settings, font: &[u8]) {
-    let mut prefix = io::buffer();
-    let p = press_settings::prefix(s, &mut prefix);
-    let mut path = io::buffer();
-    let k = os::arg(s.store, &mut path);
+// With the font at hand: the run of a store, or of none, with pages of the rows that it has.
+fn begin(s: Settings, font: &[u8]) {
+    let mut text = io::buffer();
+    let k = os::arg(s.store, &mut text);
+    let path = front(&text, k);
     let mut file = rooms::file();
-    begin(s, front(&prefix, p), font, front(&path, k), &mut file);
+    let known = press_store::found(s, path, &mut file);
+    let rows = press_store::rows(s, path, known, front(&file, known));
+    if rows != 0 {
+        work(
+            s,
+            BYTES_A_ROW * least(rows, MOST_ROWS),
+            known,
+            font,
+            &mut file,
+        );
+    }
 }
 
 fn main() {
@@ -234,6 +165,6 @@ fn main() {
         return;
     }
     if press_settings::readable(s) {
-        named(s, front(&font, n));
+        begin(s, front(&font, n));
     }
 }

@@ -18,6 +18,7 @@ use press_settings::saying::say;
 use press_store::Run;
 use press_store::rooms;
 use press_store::stopped;
+use station::Outcome;
 
 // The next input: the next file, or standard input where no file is named; the run is over where there is none left.
 fn next_input(s: Settings, run: Run) -> Run {
@@ -85,88 +86,6 @@ fn done(s: Settings, run: Run, answer: Answer, line: &[u8]) -> Run {
     r
 }
 
-// What a line did: saved, said, counted.
-fn told(
-    s: Settings,
-    run: Run,
-    path: &[u8],
-    line: &[u8],
-    answer: Answer,
-    background: &[u8],
-    store: &[u8],
-    links: &[u16],
-    directory: &[u8],
-    values: &[u8],
-    file: &mut [u8],
-) -> Run {
-    if !is_taken(answer) {
-        return refused(s, run, answer, line);
-    }
-    if either(line.len() == 0, ground::byte(line, 0) == b';') {
-        return run;
-    }
-    if s.store == 0 {
-        return done(s, run, answer, line);
-    }
-    let r = press_store::save(run, path, background, store, links, directory, values, file);
-    done(s, r, answer, line)
-}
-
-// One command at the front of the window.
-fn command(
-    s: Settings,
-    run: Run,
-    path: &[u8],
-    font: &[u8],
-    background: &mut [u8],
-    store: &mut [u8],
-    links: &mut [u16],
-    directory: &mut [u8],
-    values: &mut [u8],
-    unread: &[u8],
-    file: &mut [u8],
-) -> Run {
-    let session = run.session;
-    let mut output = rooms::portions();
-    let o = station::command(
-        session,
-        font,
-        background,
-        store,
-        links,
-        directory,
-        values,
-        &mut output,
-        unread,
-    );
-    let answer = o.answer;
-    let line = front(unread, intake::line_length(unread));
-    let mut r = run;
-    let session_after = o.session;
-    r.session = session_after;
-    r.line = capped_sum(run.line, 1);
-    r.start = capped_sum(run.start, o.read);
-    if o.read == 0 {
-        r.start = run.end;
-    }
-    r.skipping = both(255 < line.len(), line.len() == unread.len());
-    let after = told(
-        s,
-        r,
-        path,
-        line,
-        answer,
-        background,
-        store,
-        links,
-        directory,
-        values,
-        file,
-    );
-    say(s, front(&output, o.written));
-    after
-}
-
 // What is left of a line that was too long.
 fn skip(run: Run, unread: &[u8]) -> Run {
     let mut r = run;
@@ -197,20 +116,8 @@ fn wanting(run: Run, unread: &[u8]) -> bool {
     true
 }
 
-// One step: the next input, more bytes, or a command.
-pub fn one(
-    s: Settings,
-    run: Run,
-    path: &[u8],
-    font: &[u8],
-    background: &mut [u8],
-    store: &mut [u8],
-    links: &mut [u16],
-    directory: &mut [u8],
-    values: &mut [u8],
-    window: &mut [u8],
-    file: &mut [u8],
-) -> Run {
+// One step towards the next command: the next input, more bytes, or the rest of a line that was too long; ready where the command is at hand.
+pub fn ahead(s: Settings, run: Run, window: &mut [u8]) -> Run {
     if wanting(run, intake::unread(window, run.start, run.end)) {
         return refill(run, window);
     }
@@ -221,17 +128,84 @@ pub fn one(
     if run.skipping {
         return skip(run, unread);
     }
-    command(
-        s,
-        run,
-        path,
+    let mut r = run;
+    r.ready = true;
+    r
+}
+
+// Whether a line is empty or a comment: nothing is said of it.
+fn blank(line: &[u8]) -> bool {
+    either(line.len() == 0, ground::byte(line, 0) == b';')
+}
+
+// What a line did: said and counted.
+fn told(s: Settings, run: Run, line: &[u8], answer: Answer) -> Run {
+    if !is_taken(answer) {
+        return refused(s, run, answer, line);
+    }
+    if blank(line) {
+        return run;
+    }
+    done(s, run, answer, line)
+}
+
+// The run after a call on what is unread of the window.
+fn moved(run: Run, o: Outcome, line: &[u8], unread: &[u8]) -> Run {
+    let mut r = run;
+    let session = o.session;
+    r.session = session;
+    r.line = capped_sum(run.line, 1);
+    r.start = capped_sum(run.start, o.read);
+    if o.read == 0 {
+        r.start = run.end;
+    }
+    r.ready = false;
+    r.skipping = both(255 < line.len(), line.len() == unread.len());
+    r
+}
+
+// One command at the front of the window: done, saved, said and counted.
+pub fn command(
+    s: Settings,
+    run: Run,
+    font: &[u8],
+    background: &mut [u8],
+    store: &mut [u8],
+    links: &mut [u16],
+    directory: &mut [u8],
+    values: &mut [u8],
+    window: &[u8],
+    file: &mut [u8],
+) -> Run {
+    let unread = intake::unread(window, run.start, run.end);
+    let line = front(unread, intake::line_length(unread));
+    let session = run.session;
+    let mut output = rooms::portions();
+    let o = station::command(
+        session,
         font,
         background,
         store,
         links,
         directory,
         values,
+        &mut output,
         unread,
+    );
+    let answer = o.answer;
+    let r = moved(run, o, line, unread);
+    let changed = both(is_taken(answer), !blank(line));
+    let saved = press_store::save(
+        r,
+        changed,
+        background,
+        store,
+        links,
+        directory,
+        values,
         file,
-    )
+    );
+    let after = told(s, saved, line, answer);
+    say(s, front(&output, o.written));
+    after
 }

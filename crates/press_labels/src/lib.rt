@@ -19,6 +19,7 @@ use press_store::save_slot;
 use press_store::stopped;
 use press_store::sync_folder;
 use session::Session;
+use station::Labelled;
 
 // Room for a picture of n bytes, so that a full disk is met before the label is counted; the descriptor, or -1.
 fn reserve(name: &[u8], n: usize) -> i32 {
@@ -108,22 +109,26 @@ fn write(
     s: Settings,
     run: Run,
     after: Session,
-    prefix: &[u8],
     page: &[u8],
     picture: &[u8],
     values: &[u8],
     file: &mut [u8],
 ) -> Run {
-    let mut part = io::buffer();
-    let p = sentences::joined(prefix, b".part", &mut part);
-    let mut name = io::buffer();
-    let n = file_names::name(prefix, next_number(run.pictures) as usize, &mut name);
-    let fd = reserve(front(&part, p), picture.len());
+    let mut start = io::buffer();
+    let k = press_settings::prefix(s, &mut start);
+    let prefix = front(&start, k);
+    let mut first = io::buffer();
+    let p = sentences::joined(prefix, b".part", &mut first);
+    let part = front(&first, p);
+    let mut last = io::buffer();
+    let n = file_names::name(prefix, next_number(run.pictures) as usize, &mut last);
+    let name = front(&last, n);
+    let fd = reserve(part, picture.len());
     if fd < 0 {
         return stopped(run);
     }
     let r = counted(s, run, after, values, file);
-    finish(s, r, fd, front(&part, p), front(&name, n), page, picture)
+    finish(s, r, fd, part, name, page, picture)
 }
 
 // A label that is drawn, as a picture.
@@ -131,7 +136,6 @@ fn pictured(
     s: Settings,
     run: Run,
     after: Session,
-    prefix: &[u8],
     page: &[u8],
     values: &[u8],
     file: &mut [u8],
@@ -140,61 +144,31 @@ fn pictured(
     let length = run.session.length;
     let mut picture = rooms::portions();
     let n = pbm::picture(page, width, length, &mut picture);
-    write(
-        s,
-        run,
-        after,
-        prefix,
-        page,
-        front(&picture, n),
-        values,
-        file,
-    )
+    write(s, run, after, page, front(&picture, n), values, file)
 }
 
-// One label, drawn on as much of a page as the background has.
-fn drawn(
+// A label call that is answered.
+fn answered(
     s: Settings,
     run: Run,
-    prefix: &[u8],
-    font: &[u8],
-    page: &mut [u8],
-    background: &[u8],
-    store: &[u8],
-    links: &[u16],
-    directory: &[u8],
+    l: Labelled,
+    page: &[u8],
     values: &[u8],
     file: &mut [u8],
 ) -> Run {
-    let n = background.len();
-    if page.len() < n {
-        return stopped(run);
-    }
-    let session = run.session;
-    let l = station::label(
-        session,
-        font,
-        &mut page[..n],
-        background,
-        store,
-        links,
-        directory,
-        values,
-    );
     let answer = l.answer;
     if !is_taken(answer) {
         saying::answer(s, run.file, run.line, answer, b"a label");
         return stopped(run);
     }
     let after = l.session;
-    pictured(s, run, after, prefix, front(page, n), values, file)
+    pictured(s, run, after, page, values, file)
 }
 
-// One label that is owed.
+// One label that is owed, drawn on as much of a page as the background has.
 pub fn one(
     s: Settings,
     run: Run,
-    prefix: &[u8],
     font: &[u8],
     background: &[u8],
     store: &[u8],
@@ -208,17 +182,17 @@ pub fn one(
         return stopped(run);
     }
     let mut page = rooms::rows();
-    drawn(
-        s,
-        run,
-        prefix,
+    let n = background.len();
+    let session = run.session;
+    let l = station::label(
+        session,
         font,
-        &mut page,
+        rooms::cut(&mut page, n),
         background,
         store,
         links,
         directory,
         values,
-        file,
-    )
+    );
+    answered(s, run, l, front(&page, n), values, file)
 }

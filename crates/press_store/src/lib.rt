@@ -6,6 +6,7 @@ pub mod rooms; // room for what is lent
 
 use ground::back;
 use ground::both;
+use ground::either;
 use ground::front;
 use ground::put;
 use lasting::Verdict;
@@ -14,15 +15,18 @@ use press_settings::saying::failed;
 use press_settings::saying::wrong;
 use session::Session;
 
-// What is known between two turns. A descriptor that is not there is -1; file is the argument that is read, 0 for standard input.
+// What is known between two turns. A descriptor that is not there is -1; store is the argument that names the store, 0 for none, and file the one that is read,
+// 0 for standard input; ready says that a command stands at the front of what is read.
 pub struct Run {
     pub session: Session,
+    pub store: usize,
     pub from: i32,
     pub file: usize,
     pub start: usize,
     pub end: usize,
     pub ended: bool,
     pub skipping: bool,
+    pub ready: bool,
     pub line: usize,
     pub taken: usize,
     pub refused: usize,
@@ -128,12 +132,14 @@ pub fn rows(s: Settings, path: &[u8], known: usize, file: &[u8]) -> usize {
 fn idle(s: Settings, session: Session) -> Run {
     Run {
         session: session,
+        store: s.store,
         from: -1,
         file: s.files,
         start: 0,
         end: 0,
         ended: true,
         skipping: false,
+        ready: false,
         line: 0,
         taken: 0,
         refused: 0,
@@ -217,18 +223,13 @@ pub fn save_slot(
 }
 
 // All of it: head, body and the first slot, in a file of n bytes that has head and body.
-fn save_all(
-    run: Run,
-    path: &[u8],
-    n: usize,
-    values: &[u8],
-    file: &mut [u8],
-    next: &mut [u8],
-) -> Run {
+fn save_all(run: Run, n: usize, values: &[u8], file: &mut [u8], next: &mut [u8]) -> Run {
+    let mut text = io::buffer();
+    let k = os::arg(run.store, &mut text);
     let session = run.session;
     lasting::seal(next);
     slots::put_slot(next, 1, run.pictures, session, values);
-    let fd = save_whole(path, front(next, n));
+    let fd = save_whole(front(&text, k), front(next, n));
     if fd < 0 {
         return stopped(run);
     }
@@ -240,22 +241,24 @@ fn save_all(
     r
 }
 
-// Session and values, where nothing else has changed.
-fn save_state(run: Run, path: &[u8], values: &[u8], file: &mut [u8]) -> Run {
+// Session and values, where nothing else has changed. The name is at hand before anything can fail: asking for an argument would hide why it did.
+fn save_state(run: Run, values: &[u8], file: &mut [u8]) -> Run {
+    let mut text = io::buffer();
+    let n = os::arg(run.store, &mut text);
     let session = run.session;
     if save_slot(run, session, run.pictures, values, file) {
         let mut r = run;
         r.order = next_number(run.order);
         return r;
     }
-    failed(b"cannot save to ", path);
+    failed(b"cannot save to ", front(&text, n));
     stopped(run)
 }
 
-// What a taken command left, saved.
+// What is changed, saved where there is a store: all of it into a new file, session and values alone into the file that is kept open.
 pub fn save(
     run: Run,
-    path: &[u8],
+    changed: bool,
     background: &[u8],
     store: &[u8],
     links: &[u16],
@@ -263,34 +266,29 @@ pub fn save(
     values: &[u8],
     file: &mut [u8],
 ) -> Run {
+    if either(!changed, run.store == 0) {
+        return run;
+    }
     let mut next = rooms::file();
     let n = lasting::place(&mut next, background, store, links, directory);
-    let body = lasting::BODY;
+    let body = lasting::BODY_AT;
     let same = writing::same(back(front(&next, n), body), back(front(file, n), body));
-    if both(same, run.order < LAST) {
-        return save_state(run, path, values, file);
+    if both(same, both(0 <= run.kept, run.order < LAST)) {
+        return save_state(run, values, file);
     }
-    save_all(run, path, n, values, file, &mut next)
+    save_all(run, n, values, file, &mut next)
 }
 
-// A store whose lists are loaded: sound, and open for change.
-fn admitted(
-    first: Run,
-    k: usize,
-    path: &[u8],
-    background: &[u8],
-    store: &[u8],
-    links: &[u16],
-    directory: &[u8],
-    values: &[u8],
-    file: &[u8],
-) -> Run {
-    let mut r = first;
-    let session = slots::session_of(file, k);
-    if !sound::is_sound(session, background, store, links, directory, values) {
+// A store that is loaded from slot k: sound, and open for change.
+fn admitted(first: Run, k: usize, session: Session, sound: bool, file: &[u8]) -> Run {
+    let mut text = io::buffer();
+    let n = os::arg(first.store, &mut text);
+    let path = front(&text, n);
+    if !sound {
         wrong(path, b" is not sound; it is left as it is\n");
         return stopped(first);
     }
+    let mut r = first;
     r.session = session;
     r.pictures = slots::pictures_of(file, k);
     r.order = slots::order_of(file, k);
@@ -308,55 +306,33 @@ fn admitted(
     r
 }
 
-// A store that is loaded: the slot that holds.
-fn loaded(
-    first: Run,
-    k: usize,
-    path: &[u8],
+// A run of a station that is just opened.
+fn opened(
+    s: Settings,
     background: &mut [u8],
     store: &mut [u8],
     links: &mut [u16],
     directory: &mut [u8],
     values: &mut [u8],
-    file: &[u8],
 ) -> Run {
-    lasting::load_body(file, background, store, links, directory);
-    slots::load_values(file, k, values);
-    admitted(
-        first,
-        k,
-        path,
+    let mut page = rooms::rows();
+    let n = background.len();
+    let o = opening::open(
+        rooms::cut(&mut page, n),
         background,
         store,
         links,
         directory,
         values,
-        file,
-    )
+    );
+    let session = o.session;
+    idle(s, session)
 }
 
-// A store that is made.
-fn made(
-    first: Run,
-    path: &[u8],
-    background: &[u8],
-    store: &[u8],
-    links: &[u16],
-    directory: &[u8],
-    values: &[u8],
-    file: &mut [u8],
-) -> Run {
-    let mut next = rooms::file();
-    let n = lasting::place(&mut next, background, store, links, directory);
-    save_all(first, path, n, values, file, &mut next)
-}
-
-// The run as it begins: with no store, with a new one, or with one that is loaded.
+// The run as it begins: with no store, with a new one, or with one that is loaded from the slot that holds.
 pub fn begin(
     s: Settings,
-    opened: Session,
     known: usize,
-    path: &[u8],
     background: &mut [u8],
     store: &mut [u8],
     links: &mut [u16],
@@ -364,14 +340,11 @@ pub fn begin(
     values: &mut [u8],
     file: &mut [u8],
 ) -> Run {
-    let first = idle(s, opened);
-    if s.store == 0 {
-        return first;
-    }
+    let first = opened(s, background, store, links, directory, values);
     if known == 0 {
-        return made(
+        return save(
             first,
-            path,
+            true,
             background,
             store,
             links,
@@ -383,15 +356,9 @@ pub fn begin(
     let Verdict::Good(k) = lasting::judge(front(file, known)) else {
         return stopped(first);
     };
-    loaded(
-        first,
-        k,
-        path,
-        background,
-        store,
-        links,
-        directory,
-        values,
-        file,
-    )
+    lasting::load_body(file, background, store, links, directory);
+    slots::load_values(file, k, values);
+    let session = slots::session_of(file, k);
+    let sound = sound::is_sound(session, background, store, links, directory, values);
+    admitted(first, k, session, sound, file)
 }

@@ -17,6 +17,14 @@ pub fn portions() -> [u8; 518144]
 }
 
 // The longest store file, and one byte more.
-pub fn file() -> [u8; 846673] {
+pub fn file() -> [u8; 846673]
+    ensures { λ r. ⌜ 846673 ≡ length r ⌝ }
+{
     [0; 846673]
+}
+
+// As much of a room as is asked for, and never more than there is.
+pub fn cut<'a>(room: &'a mut [u8], n: usize) -> &'a mut [u8] {
+    let k = ground::least(n, room.len());
+    &mut room[..k]
 }

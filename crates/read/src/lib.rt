@@ -3,7 +3,7 @@
 // Paper 01 says under "Reading a command" what a line is. `read_line` holds a line to the row of the grammar that its letters name and answers a
 // command by value, or 6 where the line has not the written form, or 7 where a number, name or prompt is outside its limits.
 // What a command does, and whether it has a place here, is said in the crates above.
-pub mod lines;
+mod lines; // the line of a row
 
 ghost use mathlib.Core.Path.{_≡_};
 ghost use Rattle.read.specs.Commands.{readOf};

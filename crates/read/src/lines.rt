@@ -12,7 +12,7 @@ use row_fields::read_fields;
 use row_limits::row_limits;
 
 // The line of a row whose fields are read: a command, or 7.
-pub fn within(line: &[u8], row: usize, rows: usize, vs: &[usize; 18], ps: &[usize; 18]) -> Read
+fn within(line: &[u8], row: usize, rows: usize, vs: &[usize; 18], ps: &[usize; 18]) -> Read
     ensures { λ r. ⌜ r ≡ withinLimits row rows (now (line .entry)) (now (vs .entry)) (now (ps .entry)) ⌝ }
 {
     if let Limits::Outside(fault) = row_limits(line, row, rows, vs, ps) {

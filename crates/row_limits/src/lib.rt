@@ -4,6 +4,8 @@
 // such field of a line, or that all are within.
 ghost use mathlib.Core.Path.{_≡_};
 ghost use mathlib.Core.Bool.{_||_, cond};
+ghost use Rattle.bounds.specs.Letters.{boundBy};
+ghost use Rattle.bounds.specs.declared.Bounds.{Bounds};
 ghost use Rattle.kinds.specs.Bytes.{between};
 ghost use Rattle.grammar.specs.Makers.{starred};
 ghost use Rattle.grammar.specs.Forms.{rowOf, Form, boundsOf, limited, isNumber};
@@ -70,22 +72,24 @@ fn is_limited(f: u8) -> bool
     }
 }
 
+// The limits of one field. Only a field that has bounds asks for those of its letter.
 fn field_limits(
     line: &[u8],
     f: u8,
-    low: usize,
-    high: usize,
+    letter: u8,
+    rows: usize,
     before: usize,
     v: usize,
     p: usize,
 ) -> Limits
-    ensures { λ r. ⌜ r ≡ fieldLimits f (low, high) (now (line .entry)) before v p ⌝ }
+    ensures { λ r. ⌜ r ≡ fieldLimits f (boundBy letter rows .low, boundBy letter rows .high) (now (line .entry)) before v p ⌝ }
 {
     if f == b'd' {
         return data_field::data_limits(line, p);
     }
     if is_limited(f) {
-        if is_within(low, high, v) {
+        let b = bound_by(letter, rows);
+        if is_within(b.low, b.high, v) {
             if is_met(line, f, before, v, p) {
                 return Limits::Within;
             }
@@ -124,10 +128,10 @@ pub fn row_limits(
         if f == b' ' {
             return Limits::Within;
         }
-        let b = bound_by(up[18 + i], rows);
+        let letter = up[18 + i];
         let v = vs[i];
         let p = ps[i];
-        if let Limits::Outside(fault) = field_limits(line, f, b.low, b.high, before, v, p) {
+        if let Limits::Outside(fault) = field_limits(line, f, letter, rows, before, v, p) {
             return Limits::Outside(fault);
         }
         before = number_after(f, v, before);

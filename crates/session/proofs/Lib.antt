@@ -1,2 +1,1 @@
-pub mod ActiveForm
 pub mod LabelMade

@@ -8,6 +8,7 @@ use Rattle.declarations.specs.declared.Declared.{Declared}
 use Rattle.counters.specs.declared.Counters.{Counters}
 use Rattle.counters.specs.Counters.{movedAll}
 use Rattle.session.specs.declared.Session.{Session}
+pub use Rattle.active_form.specs.Active.{noForm}
 
 -- "width 80 to 608"
 abbrev pub leastWidth : ℕ
@@ -22,10 +23,6 @@ mostX = 2048
 
 abbrev pub mostY : ℕ
 mostY = 4096
-
--- the active form is an entry of the directory; this number says that there is none
-abbrev pub noForm : ℕ
-noForm = 65535
 
 -- "owed plus drawn at most 65,535"
 abbrev pub mostLabels : ℕ

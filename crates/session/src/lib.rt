@@ -6,15 +6,12 @@
 // Whether a session is sound with the memory beside it is left to crate `sound`, and when a method is called to crate `station`.
 ghost use mathlib.Core.Path.{_≡_};
 ghost use Rattle.session.specs.Session.{fresh, none, blank, sized, turning, based, activated, counting, owing, moved, counted};
+pub use active_form::NO_FORM;
 use answers::Answer;
 use counters::Counters;
 use declarations::Declared;
 
-mod active; // the active form
 mod labels; // one label drawn
-
-pub use active::active_declared;
-pub use active::active_pictures;
 
 // "width 80 to 608", "origin 0..2048, 0..4096".
 pub const LEAST_WIDTH: u16 = 80;
@@ -24,9 +21,6 @@ pub const MOST_WIDTH: u16 = 608;
 pub const MOST_X: u16 = 2048;
 
 pub const MOST_Y: u16 = 4096;
-
-// The active form is an entry of the directory; this number says that there is none.
-pub const NO_FORM: u16 = 65535;
 
 // "owed plus drawn at most 65,535."
 pub const MOST_LABELS: u16 = 65535;

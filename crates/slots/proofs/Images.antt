@@ -6,13 +6,13 @@ use lib.ListN.{length}
 use lib.Seq.{sets}
 use Rattle.session.specs.declared.Session.{Session}
 use Rattle.low_first.specs.Low.{bytesOf}
-use Rattle.image.specs.Image.{counterBytes, imageOf}
+use Rattle.image.specs.Image.{counterBytes, imageOf, imageSize}
 use Rattle.ground.proofs.Stores.{sets-all}
 
-sixty-five : (s : Session) → length (imageOf s) ≡ 65
+image-long : (s : Session) → length (imageOf s) ≡ imageSize
 unfolding imageOf bytesOf counterBytes
-sixty-five s = refl
+image-long s = refl
 
--- an image stored over 65 bytes is all there is
-pub image-whole : (z : List ℕ) (s : Session) → length z ≡ 65 → sets z 0 (imageOf s) ≡ imageOf s
-image-whole z s h = sets-all z (imageOf s) (sixty-five s ∙ sym h)
+-- an image stored over as many bytes is all there is
+pub image-whole : (z : List ℕ) (s : Session) → length z ≡ imageSize → sets z 0 (imageOf s) ≡ imageOf s
+image-whole z s h = sets-all z (imageOf s) (image-long s ∙ sym h)

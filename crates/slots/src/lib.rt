@@ -3,12 +3,13 @@
 // What changes session and values alone, as each label does, goes into the slot that does not hold the last state, so that a cut leaves that one whole
 // (specs/Slots.antt). A slot's sum starts from the sum of head and body, so that it is not taken for one of another body.
 ghost use mathlib.Core.Path.{_≡_};
-ghost use Prim.Native.Nat.{_+_, _*_, _%_};
+ghost use Prim.Native.Nat.{_+_};
 ghost use lib.Seq.{sets};
 ghost use Rattle.low_first.specs.Low.{numberAt};
-ghost use Rattle.image.specs.Image.{sessionOf, imageOf};
+ghost use Rattle.image.specs.Image.{sessionOf, imageOf, imageSize};
+ghost use Rattle.lent.specs.Lent.{bytesOfValues};
 ghost use Rattle.file_parts.specs.Sums.{partOf};
-ghost use Rattle.slots.specs.Slots.{slotOf, filled, slotted, whole, tornAt};
+ghost use Rattle.slots.specs.Slots.{slotOf, picturesAt, imageAt, valuesAt, filled, slotted, whole, tornAt};
 use file_parts::four_at;
 use file_parts::part;
 use file_parts::put_four;
@@ -16,22 +17,46 @@ use file_parts::sum;
 use ground::both;
 use ground::front;
 use ground::put;
+use image::IMAGE;
+use lent::BYTES_OF_VALUES;
 use session::Session;
 
+// The head and each slot have a page of their own, so that a cut while one is written leaves the others whole.
+pub const PAGE: usize = 4096;
+
+// Where the head has the sum of head and body.
+pub const BODY_SUM_AT: usize = 24;
+
+// The parts of a slot behind its order: pictures so far, session, values, and the sum of all these.
+const PICTURES_AT: usize = 4;
+
+const IMAGE_AT: usize = 8;
+
+const VALUES_AT: usize = IMAGE_AT + IMAGE;
+
+const SUM_AT: usize = VALUES_AT + BYTES_OF_VALUES;
+
 // The bytes of a slot.
-pub const SLOT: usize = 417;
+pub const SLOT: usize = SUM_AT + 4;
+
+// Where slot k stands.
+fn page_of(k: usize) -> usize
+    ensures { λ r. ⌜ r ≡ slotOf k ⌝ }
+{
+    PAGE + PAGE * (k % 2)
+}
 
 // Where the slot of an order stands.
 pub fn slot_at(order: u32) -> usize
     ensures { λ r. ⌜ r ≡ slotOf order ⌝ }
 {
-    4096 + 4096 * (order as usize % 2)
+    page_of(order as usize)
 }
 
 fn put_session(file: &mut [u8], at: usize, session: Session)
     ensures { λ _. ⌜ now (file .exit) ≡ sets (now (file .entry)) at (imageOf session) ⌝ }
 {
-    let mut image = [0u8; 65];
+    let mut image = [0u8; IMAGE];
     image::encode(session, &mut image);
     put(file, at, &image);
 }
@@ -41,9 +66,9 @@ fn fill_slot(file: &mut [u8], order: u32, pictures: u32, session: Session, value
 {
     let at = slot_at(order);
     put_four(file, at, order);
-    put_four(file, at + 4, pictures);
-    put_session(file, at + 8, session);
-    put(file, at + 73, front(values, 340));
+    put_four(file, at + PICTURES_AT, pictures);
+    put_session(file, at + IMAGE_AT, session);
+    put(file, at + VALUES_AT, front(values, BYTES_OF_VALUES));
 }
 
 // Session and values in the slot of their order.
@@ -52,47 +77,51 @@ pub fn put_slot(file: &mut [u8], order: u32, pictures: u32, session: Session, va
 {
     fill_slot(file, order, pictures, session, values);
     let at = slot_at(order);
-    let mark = four_at(file, 24);
-    let s = sum(mark, part(file, at, 413));
-    put_four(file, at + 413, s);
+    let mark = four_at(file, BODY_SUM_AT);
+    let s = sum(mark, part(file, at, SUM_AT));
+    put_four(file, at + SUM_AT, s);
 }
 
 // The order of slot k, which 0 never is.
 pub fn order_of(file: &[u8], k: usize) -> u32
-    ensures { λ r. ⌜ r ≡ numberAt 4 (now (file .entry)) (4096 + 4096 * (k % 2)) ⌝ }
+    ensures { λ r. ⌜ r ≡ numberAt 4 (now (file .entry)) (slotOf k) ⌝ }
 {
-    four_at(file, 4096 + 4096 * (k % 2))
+    four_at(file, page_of(k))
 }
 
 // How many pictures had been written.
 pub fn pictures_of(file: &[u8], k: usize) -> u32
-    ensures { λ r. ⌜ r ≡ numberAt 4 (now (file .entry)) (4100 + 4096 * (k % 2)) ⌝ }
+    ensures { λ r. ⌜ r ≡ numberAt 4 (now (file .entry)) (slotOf k + picturesAt) ⌝ }
 {
-    four_at(file, 4100 + 4096 * (k % 2))
+    four_at(file, page_of(k) + PICTURES_AT)
 }
 
 // The session of slot k.
 pub fn session_of(file: &[u8], k: usize) -> Session
-    ensures { λ r. ⌜ r ≡ sessionOf (partOf (now (file .entry)) (4104 + 4096 * (k % 2)) 65) ⌝ }
+    ensures { λ r. ⌜ r ≡ sessionOf (partOf (now (file .entry)) (slotOf k + imageAt) imageSize) ⌝ }
 {
-    image::decode(part(file, 4104 + 4096 * (k % 2), 65))
+    image::decode(part(file, page_of(k) + IMAGE_AT, IMAGE))
 }
 
 // The values of slot k.
 pub fn load_values(file: &[u8], k: usize, values: &mut [u8])
-    ensures { λ _. ⌜ now (values .exit) ≡ sets (now (values .entry)) 0 (partOf (now (file .entry)) (4169 + 4096 * (k % 2)) 340) ⌝ }
+    ensures { λ _. ⌜ now (values .exit) ≡ sets (now (values .entry)) 0 (partOf (now (file .entry)) (slotOf k + valuesAt) bytesOfValues) ⌝ }
 {
-    put(values, 0, part(file, 4169 + 4096 * (k % 2), 340));
+    put(
+        values,
+        0,
+        part(file, page_of(k) + VALUES_AT, BYTES_OF_VALUES),
+    );
 }
 
 // Whether slot k has the sum that it says.
 pub fn is_whole(file: &[u8], k: usize) -> bool
     ensures { λ r. ⌜ r ≡ whole (now (file .entry)) (slotOf k) ⌝ }
 {
-    let at = 4096 + 4096 * (k % 2);
-    let said = four_at(file, at + 413);
-    let mark = four_at(file, 24);
-    said == sum(mark, part(file, at, 413))
+    let at = page_of(k);
+    let said = four_at(file, at + SUM_AT);
+    let mark = four_at(file, BODY_SUM_AT);
+    said == sum(mark, part(file, at, SUM_AT))
 }
 
 // Whether slot k was begun and is not whole: a change that was cut short.

@@ -12,7 +12,7 @@ use Rattle.activity_check.specs.Activity.{activitySound}
 use Rattle.session.specs.declared.Session.{Session}
 use Rattle.session.specs.Session.{leastWidth, mostWidth, mostX, mostY}
 use Rattle.lent.specs.Lent.{World, rowsOf}
-unfoldable pub use Rattle.session.specs.Active.{activeBytes}
+unfoldable pub use Rattle.active_form.specs.Active.{activeBytes}
 
 -- "these numbers in their ranges; length at most N"
 unfoldable pub numbersOk : ℕ → Session → Bool

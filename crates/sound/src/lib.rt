@@ -23,8 +23,6 @@ use session::MOST_WIDTH;
 use session::MOST_X;
 use session::MOST_Y;
 use session::Session;
-pub use session::active_declared;
-pub use session::active_pictures;
 
 mod checks; // 1, 2 and 3, that every read and label call checks first
 

@@ -6,13 +6,13 @@
 // page, background, store, links, directory, values and output; after them `C` has the length of its input and the input. A desk has room for more
 // than a call is lent. `stdout` has a line for each call: its number, the answer, the two counts, and a digest of all slices, the room beyond what was
 // lent included. Both files are those of peer/vectors.
-mod calls; // one call
+mod one_call; // one call
 
-use calls::call;
 use file_parts::part;
 use file_parts::two_at;
 use ground::back;
 use ground::byte;
+use one_call::call;
 use try_desk::Desk;
 use try_desk::changed;
 use try_desk::line;
@@ -53,11 +53,9 @@ fn size(record: &[u8]) -> usize {
 // O, C and L
 fn called(file: &[u8], r: Progress, record: &[u8]) -> Progress {
     let desk = r.desk;
-    let c = call(record, part(file, r.font, r.length), desk);
-    let answer = c.answer;
-    let after = c.desk;
+    let after = call(record, part(file, r.font, r.length), desk);
     let calls = ground::capped_sum(r.calls, 1);
-    line(calls, answer, after);
+    line(calls, after);
     let mut next = moved(r, size(record));
     next.desk = after;
     next.calls = calls;

@@ -22,7 +22,9 @@ const VALUES: usize = 11 * 34;
 
 const OUTPUT: usize = 256;
 
+// What is lent, and the last answer.
 pub struct Desk {
+    pub answer: u8,
     pub session: [u8; SESSION],
     pub counts: [u64; COUNTS],
     pub page: [u8; PAGE],
@@ -46,6 +48,7 @@ pub fn new_desk(fill: u8) -> Desk {
     let values = [fill; VALUES];
     let output = [fill; OUTPUT];
     Desk {
+        answer: 0,
         session: session,
         counts: counts,
         page: page,

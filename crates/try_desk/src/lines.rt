@@ -75,10 +75,10 @@ fn say(n: u64, after: &[u8]) {
     io::write_all(STDOUT_FILENO, after);
 }
 
-pub fn line(calls: usize, answer: u8, d: Desk) {
+pub fn line(calls: usize, d: Desk) {
     let counts = d.counts;
     say(calls as u64, b" ");
-    say(answer as u64, b" ");
+    say(d.answer as u64, b" ");
     say(counts[0], b" ");
     say(counts[1], b" ");
     io::print_hex(STDOUT_FILENO, digest(d) as u64, 8);

@@ -8,6 +8,7 @@ ghost use Rattle.grammar.specs.declared.ValueCommand.the-variants.{Variable as 
 ghost use Rattle.lent.specs.Lent.{world};
 ghost use Rattle.results.specs.Result.{ran};
 ghost use Rattle.value_commands.specs.Values.{enteredAnswer, valueBy};
+use active_form::active_declared;
 use answers::Answer;
 use answers::is_taken;
 use declarations::Entered;
@@ -21,7 +22,6 @@ use results::answered;
 use results::sixteen_bits;
 use results::taken;
 use session::Session;
-use sound::active_declared;
 use stored_values::unset_all;
 
 // [13] and [17], by what entering a value answers.
@@ -106,7 +106,7 @@ fn owe(
     let k = sixteen_bits(p.k);
     let active = session.active;
     let counters = session.counters;
-    if !sound::active_pictures(store, links, directory, active) {
+    if !active_form::active_pictures(store, links, directory, active) {
         return answered(Answer::Missing, session);
     }
     let d = active_declared(store, links, directory, active);

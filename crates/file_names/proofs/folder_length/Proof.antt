@@ -14,35 +14,27 @@ Inv-loop path best₀ i₀ best i = lastSlash i best (drop i path) ≡ lastSlash
 abbrev μ-loop : tie.MeasureT-loop
 μ-loop path best₀ i₀ best i = length path - i
 
--- src/lib.rt:145:5
 loop-holds : tie.Need-loop-holds Inv-loop μ-loop
 loop-holds c = refl
 
--- src/lib.rt:146:22
 shared-slice-read-slash : tie.Need-shared-slice-read-slash Inv-loop μ-loop
 shared-slice-read-slash c = search needs
 
--- src/lib.rt:146:31
 add-slash : tie.Need-add-slash Inv-loop μ-loop
 add-slash c = search needs
 
--- src/lib.rt:146:9
 slash-requires : tie.Need-slash-requires Inv-loop μ-loop
 slash-requires c κs = search needs
 
--- src/lib.rt:147:9
 add-i : tie.Need-add-i Inv-loop μ-loop
 add-i c = search needs
 
--- src/lib.rt:145:5
 loop-less : tie.Need-loop-less Inv-loop μ-loop
 loop-less c = omega arith
 
--- src/lib.rt:145:5
 loop-again : tie.Need-loop-again Inv-loop μ-loop
 loop-again c = rw (c .slash .ensures) (sym (slash-next _ (c .before .before .before .loop .i) (c .before .before .before .loop .best) (c .before .before .loop-test .taken)) ∙ c .before .before .before .loop .inv)
 
--- src/lib.rt:140:1
 returns : tie.Need-returns Inv-loop μ-loop
 returns c = sym (slash-end _ (c .before .loop .i) (c .before .loop .best) (c .loop-test .left)) ∙ c .before .loop .inv
 

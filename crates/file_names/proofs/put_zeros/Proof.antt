@@ -4,70 +4,54 @@ use borrow.Author.Needs.{needs}
 use Rattle.file_names.proofs.put_zeros.Statement.{statement}
 use Rattle.file_names.proofs.put_zeros.Tie as tie
 
--- src/lib.rt:77:29
 slice-aggregate-put : tie.Need-slice-aggregate-put
 slice-aggregate-put c = search needs
 
--- src/lib.rt:77:9
 put-requires : tie.Need-put-requires
 put-requires c κs = search needs
 
--- src/lib.rt:77:9
 same-length : tie.Need-same-length
 same-length c = search needs
 
--- src/lib.rt:77:9
 returns : tie.Need-returns
 unfolding zerosOf
 returns c = rw (lt-ltb _ _ (c .before .before .before .before .before .if1 .taken)) (c .before .before .put .ensures)
 
--- src/lib.rt:80:29
 slice-aggregate-put-2 : tie.Need-slice-aggregate-put-2
 slice-aggregate-put-2 c = search needs
 
--- src/lib.rt:80:9
 put-requires-2 : tie.Need-put-requires-2
 put-requires-2 c κs = search needs
 
--- src/lib.rt:80:9
 same-length-2 : tie.Need-same-length-2
 same-length-2 c = search needs
 
--- src/lib.rt:80:9
 returns-2 : tie.Need-returns-2
 unfolding zerosOf
 returns-2 c = rw (le-ltb _ _ (c .before .before .before .before .before .before .if1 .left), lt-ltb _ _ (c .before .before .before .before .before .if2 .taken)) (c .before .before .put2 .ensures)
 
--- src/lib.rt:83:29
 slice-aggregate-put-3 : tie.Need-slice-aggregate-put-3
 slice-aggregate-put-3 c = search needs
 
--- src/lib.rt:83:9
 put-requires-3 : tie.Need-put-requires-3
 put-requires-3 c κs = search needs
 
--- src/lib.rt:83:9
 same-length-3 : tie.Need-same-length-3
 same-length-3 c = search needs
 
--- src/lib.rt:83:9
 returns-3 : tie.Need-returns-3
 unfolding zerosOf
 returns-3 c = rw (le-ltb _ _ (c .before .before .before .before .before .before .before .if1 .left), le-ltb _ _ (c .before .before .before .before .before .before .if2 .left), lt-ltb _ _ (c .before .before .before .before .before .if3 .taken)) (c .before .before .put3 .ensures)
 
--- src/lib.rt:85:18
 slice-aggregate-put-4 : tie.Need-slice-aggregate-put-4
 slice-aggregate-put-4 c = search needs
 
--- src/lib.rt:85:5
 put-requires-4 : tie.Need-put-requires-4
 put-requires-4 c κs = search needs
 
--- src/lib.rt:73:1
 same-length-4 : tie.Need-same-length-4
 same-length-4 c = search needs
 
--- src/lib.rt:73:1
 returns-4 : tie.Need-returns-4
 unfolding zerosOf
 returns-4 c = rw (le-ltb _ _ (c .before .before .before .before .before .before .before .if1 .left), le-ltb _ _ (c .before .before .before .before .before .before .if2 .left), le-ltb _ _ (c .before .before .before .before .before .if3 .left)) (c .before .before .put4 .ensures)

@@ -3,11 +3,9 @@ use borrow.Author.Needs.{needs}
 use Rattle.file_names.proofs.slash.Statement.{statement}
 use Rattle.file_names.proofs.slash.Tie as tie
 
--- src/lib.rt:133:1
 returns : tie.Need-returns
 returns c = rw (eq-eqb _ _ (c .if1 .taken))
 
--- src/lib.rt:133:1
 returns-2 : tie.Need-returns-2
 returns-2 c = rw (ne-eqb _ _ (c .if1 .left))
 

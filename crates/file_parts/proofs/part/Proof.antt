@@ -2,15 +2,12 @@ use borrow.Author.Needs.{needs}
 use Rattle.file_parts.proofs.part.Statement.{statement}
 use Rattle.file_parts.proofs.part.Tie as tie
 
--- src/parts.rt:16:11
 back-requires : tie.Need-back-requires
 back-requires c κs = search needs
 
--- src/parts.rt:16:5
 front-requires : tie.Need-front-requires
 front-requires c κs = search needs
 
--- src/parts.rt:13:1
 returns : tie.Need-returns
 returns c = rw (c .front .ensures, c .before .back .ensures)
 

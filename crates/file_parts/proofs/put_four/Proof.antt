@@ -3,35 +3,27 @@ use borrow.Author.Needs.{needs}
 use Rattle.file_parts.proofs.put_four.Statement.{statement}
 use Rattle.file_parts.proofs.put_four.Tie as tie
 
--- src/parts.rt:60:9
 cast-t6 : tie.Need-cast-t6
 cast-t6 c = search needs
 
--- src/parts.rt:61:9
 cast-t9 : tie.Need-cast-t9
 cast-t9 c = search needs
 
--- src/parts.rt:62:9
 cast-t13 : tie.Need-cast-t13
 cast-t13 c = search needs
 
--- src/parts.rt:63:9
 cast-t18 : tie.Need-cast-t18
 cast-t18 c = search needs
 
--- src/parts.rt:65:19
 slice-aggregate-put : tie.Need-slice-aggregate-put
 slice-aggregate-put c = search needs
 
--- src/parts.rt:65:5
 put-requires : tie.Need-put-requires
 put-requires c κs = search needs
 
--- src/parts.rt:56:1
 same-length : tie.Need-same-length
 same-length c = search needs
 
--- src/parts.rt:56:1
 returns : tie.Need-returns
 unfolding bytesOf
 returns c = c .before .before .put .ensures

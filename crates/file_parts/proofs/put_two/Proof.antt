@@ -3,27 +3,21 @@ use borrow.Author.Needs.{needs}
 use Rattle.file_parts.proofs.put_two.Statement.{statement}
 use Rattle.file_parts.proofs.put_two.Tie as tie
 
--- src/parts.rt:52:18
 cast-t6 : tie.Need-cast-t6
 cast-t6 c = search needs
 
--- src/parts.rt:52:35
 cast-t9 : tie.Need-cast-t9
 cast-t9 c = search needs
 
--- src/parts.rt:53:19
 slice-aggregate-put : tie.Need-slice-aggregate-put
 slice-aggregate-put c = search needs
 
--- src/parts.rt:53:5
 put-requires : tie.Need-put-requires
 put-requires c κs = search needs
 
--- src/parts.rt:49:1
 same-length : tie.Need-same-length
 same-length c = search needs
 
--- src/parts.rt:49:1
 returns : tie.Need-returns
 unfolding bytesOf
 returns c = c .before .before .put .ensures

@@ -14,35 +14,27 @@ Inv-loop start bytes s₀ i₀ s i = (summed s (drop i bytes) ≡ sumOn start by
 abbrev μ-loop : tie.MeasureT-loop
 μ-loop start bytes s₀ i₀ s i = length bytes - i
 
--- src/parts.rt:82:5
 loop-holds : tie.Need-loop-holds Inv-loop μ-loop
 loop-holds c = (refl, omega arith)
 
--- src/parts.rt:83:21
 shared-slice-read-step : tie.Need-shared-slice-read-step Inv-loop μ-loop
 shared-slice-read-step c = search needs
 
--- src/parts.rt:83:9
 step-requires : tie.Need-step-requires Inv-loop μ-loop
 step-requires c κs = c .before .before .loop .inv .1
 
--- src/parts.rt:84:9
 add-i : tie.Need-add-i Inv-loop μ-loop
 add-i c = search needs
 
--- src/parts.rt:82:5
 loop-less : tie.Need-loop-less Inv-loop μ-loop
 loop-less c = omega arith
 
--- src/parts.rt:82:5
 loop-again : tie.Need-loop-again Inv-loop μ-loop
 loop-again c = (rw (c .step .ensures .0) (sym (sum-next _ (c .before .before .before .loop .i) (c .before .before .before .loop .s) (c .before .before .loop-test .taken)) ∙ c .before .before .before .loop .inv .0), c .step .ensures .1)
 
--- src/parts.rt:86:5
 cast-result : tie.Need-cast-result Inv-loop μ-loop
 cast-result c = omega (arith, c .before .loop .inv .1)
 
--- src/parts.rt:77:1
 returns : tie.Need-returns Inv-loop μ-loop
 returns c = sym (sum-end _ (c .before .loop .i) (c .before .loop .s) (c .loop-test .left)) ∙ c .before .loop .inv .0
 

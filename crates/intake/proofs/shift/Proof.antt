@@ -12,50 +12,39 @@ Inv-loop window₀ start end n i₀ window i = Shifting window₀ (part window�
 abbrev μ-loop : tie.MeasureT-loop
 μ-loop window₀ start end n i₀ window i = n - i
 
--- src/lib.rt:27:18
 least-requires : tie.Need-least-requires Inv-loop μ-loop
 least-requires c κs = search needs
 
--- src/lib.rt:27:9
 less-requires : tie.Need-less-requires Inv-loop μ-loop
 less-requires c κs = search needs
 
--- src/lib.rt:29:5
 loop-holds : tie.Need-loop-holds Inv-loop μ-loop
 loop-holds c = shift-start _ _
 
--- src/lib.rt:30:28
 add-window : tie.Need-add-window Inv-loop μ-loop
 add-window c = omega (arith, c .before .before .less .ensures, c .before .before .before .least .ensures)
 
--- src/lib.rt:30:21
 slice-read-window : tie.Need-slice-read-window Inv-loop μ-loop
 slice-read-window c = omega (arith, c .before .before .before .less .ensures, c .before .before .before .before .least .ensures, c .before .before .loop .inv .same)
 
--- src/lib.rt:30:9
 slice-write-window : tie.Need-slice-write-window Inv-loop μ-loop
 slice-write-window c = omega (arith, c .before .before .before .less .ensures, c .before .before .before .before .least .ensures, c .before .before .loop .inv .same)
 
--- src/lib.rt:31:9
 add-i : tie.Need-add-i Inv-loop μ-loop
 add-i c = search needs
 
--- src/lib.rt:29:5
 loop-less : tie.Need-loop-less Inv-loop μ-loop
 loop-less c = omega arith
 
--- src/lib.rt:29:5
 loop-again : tie.Need-loop-again Inv-loop μ-loop
 loop-again c = let a = c .before .before .before .before .before .before .args in let l = c .before .before .loop in
     let p = part-length (a .window .now) (a .start) (a .end) _ _ (c .before .before .before .before .least .ensures) (c .before .before .before .less .ensures) in
     shift-step (a .window .now) (l .window) (a .start) (a .end) (l .i) (l .inv) _ (omega (arith, p, c .before .loop-test .taken))
     (omega (arith, c .before .before .before .less .ensures, c .before .before .before .before .least .ensures, c .before .loop-test .taken)) refl
 
--- src/lib.rt:23:1
 same-length : tie.Need-same-length Inv-loop μ-loop
 same-length c = c .before .loop .inv .same
 
--- src/lib.rt:23:1
 returns : tie.Need-returns Inv-loop μ-loop
 returns c = let a = c .before .before .before .before .before .args in let l = c .before .loop in
     let p = part-length (a .window .now) (a .start) (a .end) _ _ (c .before .before .before .least .ensures) (c .before .before .less .ensures) in

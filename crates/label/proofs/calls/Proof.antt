@@ -9,11 +9,11 @@ use Rattle.label.proofs.calls.Statement.{statement}
 use Rattle.label.proofs.calls.Tie as tie
 
 abbrev Inv-loop : tie.InvT-loop
-Inv-loop page₀ background₀ store₀ links₀ directory₀ values₀ output₀ input s₀ unread₀ most₀ k₀ page background store links directory values output s unread most k =
-    (most ≤ length input) × (length page ≡ length page₀) × (length background ≡ length background₀) × (length store ≡ length store₀) × (length links ≡ length links₀) × (length directory ≡ length directory₀) × (length values ≡ length values₀) × (length output ≡ length output₀)
+Inv-loop background₀ store₀ links₀ directory₀ values₀ input s₀ unread₀ most₀ k₀ background store links directory values s unread most k =
+    (most ≤ length input) × (length background ≡ length background₀) × (length store ≡ length store₀) × (length links ≡ length links₀) × (length directory ≡ length directory₀) × (length values ≡ length values₀)
 
 abbrev μ-loop : tie.MeasureT-loop
-μ-loop page₀ background₀ store₀ links₀ directory₀ values₀ output₀ input s₀ unread₀ most₀ k₀ page background store links directory values output s unread most k = most - k
+μ-loop background₀ store₀ links₀ directory₀ values₀ input s₀ unread₀ most₀ k₀ background store links directory values s unread most k = most - k
 
 loop-holds : tie.Need-loop-holds Inv-loop μ-loop
 loop-holds c = search needs
@@ -35,8 +35,8 @@ loop-less c = search needs
 
 loop-again : tie.Need-loop-again Inv-loop μ-loop
 loop-again c =
-    let i = c .before .before .before .before .before .before .before .before .before .before .before .before .before .before .before .before .before .before .before .before .before .before .before .before .before .before .loop .inv in
-    (omega (arith, c .before .calls-in .ensures, i .0), c .before .before .before .before .before .before .before .before .before .before .before .before .before .before .before .before .page .given ∙ i .1, c .before .before .before .before .before .before .before .before .before .before .before .before .before .before .background .given ∙ i .2, c .before .before .before .before .before .before .before .before .before .before .before .before .store .given ∙ i .3, c .before .before .before .before .before .before .before .before .before .before .links .given ∙ i .4, c .before .before .before .before .before .before .before .before .directory .given ∙ i .5, c .before .before .before .before .before .before .values .given ∙ i .6, c .before .before .before .before .output .given ∙ i .7)
+    let i = c .before .before .before .before .before .before .before .before .before .before .before .before .before .before .before .before .before .before .before .before .loop .inv in
+    (omega (arith, c .before .calls-in .ensures, i .0), c .before .before .before .before .before .before .before .before .before .before .before .before .background .given ∙ i .1, c .before .before .before .before .before .before .before .before .before .before .store .given ∙ i .2, c .before .before .before .before .before .before .before .before .links .given ∙ i .3, c .before .before .before .before .before .before .directory .given ∙ i .4, c .before .before .before .before .values .given ∙ i .5)
 
 same-length : tie.Need-same-length Inv-loop μ-loop
 same-length c = c .before .loop .inv .1
@@ -52,12 +52,6 @@ same-length-4 c = c .before .loop .inv .4
 
 same-length-5 : tie.Need-same-length-5 Inv-loop μ-loop
 same-length-5 c = c .before .loop .inv .5
-
-same-length-6 : tie.Need-same-length-6 Inv-loop μ-loop
-same-length-6 c = c .before .loop .inv .6
-
-same-length-7 : tie.Need-same-length-7 Inv-loop μ-loop
-same-length-7 c = c .before .loop .inv .7
 
 returns : tie.Need-returns Inv-loop μ-loop
 returns c = search needs
@@ -80,6 +74,4 @@ calls-spec =
     same-length-3
     same-length-4
     same-length-5
-    same-length-6
-    same-length-7
     returns)

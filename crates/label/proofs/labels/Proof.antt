@@ -1,24 +1,31 @@
 -- `labels` is safe and ends: one label owed is counted down with each call. Assumes nothing.
-use mathlib.Core.Path.{_≡_}
-use lib.ListN.{length}
+use Prim.Native.Nat.{ℕ}
+use mathlib.Core.Path.{_≡_, sym}
+use lib.ListN.{length, length-replicate}
 use borrow.Author.Needs.{needs}
 use Rattle.label.proofs.labels.Statement.{statement}
 use Rattle.label.proofs.labels.Tie as tie
 
 abbrev Inv-loop : tie.InvT-loop
-Inv-loop page₀ background store links directory values s₀ owed₀ t11 page s owed = length page ≡ length page₀
+Inv-loop background store links directory values page₀ s₀ owed₀ font page s owed = 18240 ≡ length page
 
 abbrev μ-loop : tie.MeasureT-loop
-μ-loop page₀ background store links directory values s₀ owed₀ t11 page s owed = owed
+μ-loop background store links directory values page₀ s₀ owed₀ font page s owed = owed
 
 loop-holds : tie.Need-loop-holds Inv-loop μ-loop
-loop-holds c = search needs
+loop-holds c = sym (length-replicate {A = ℕ} 18240 0)
 
 slice-aggregate-label : tie.Need-slice-aggregate-label Inv-loop μ-loop
 slice-aggregate-label c = search needs
 
+slice-aggregate-label-2 : tie.Need-slice-aggregate-label-2 Inv-loop μ-loop
+slice-aggregate-label-2 c = search needs
+
 label-requires : tie.Need-label-requires Inv-loop μ-loop
 label-requires c κs = search needs
+
+slice-aggregate-say-label : tie.Need-slice-aggregate-say-label Inv-loop μ-loop
+slice-aggregate-say-label c = search needs
 
 say-label-requires : tie.Need-say-label-requires Inv-loop μ-loop
 say-label-requires c κs = search needs
@@ -32,9 +39,6 @@ loop-less c = search needs
 loop-again : tie.Need-loop-again Inv-loop μ-loop
 loop-again c = search needs
 
-same-length : tie.Need-same-length Inv-loop μ-loop
-same-length c = search needs
-
 returns : tie.Need-returns Inv-loop μ-loop
 returns c = search needs
 
@@ -46,10 +50,11 @@ labels-spec =
     μ-loop
     loop-holds
     slice-aggregate-label
+    slice-aggregate-label-2
     label-requires
+    slice-aggregate-say-label
     say-label-requires
     sub-owed
     loop-less
     loop-again
-    same-length
     returns)

@@ -4,34 +4,27 @@ use borrow.Author.Needs.{needs}
 use Rattle.options.proofs.rows.Statement.{statement}
 use Rattle.options.proofs.rows.Tie as tie
 
--- src/lib.rt:47:29
 number-requires : tie.Need-number-requires
 number-requires c κs = search needs
 
--- src/lib.rt:47:19
 enum-known-n : tie.Need-enum-known-n
 enum-known-n c = search needs
 
--- src/lib.rt:48:9
 enum-told : tie.Need-enum-told
 enum-told c = search needs
 
--- src/lib.rt:48:9
 returns : tie.Need-returns
 unfolding rowsOf
 returns c = rw (← c .before .before .number .ensures, c .enum-told .given .1)
 
--- src/lib.rt:51:9
 returns-2 : tie.Need-returns-2
 unfolding rowsOf
 returns-2 c = rw (← c .before .before .before .before .number .ensures, c .before .before .n .given .1, lt-ltb _ _ (c .if1 .taken))
 
--- src/lib.rt:54:9
 returns-3 : tie.Need-returns-3
 unfolding rowsOf
 returns-3 c = rw (← c .before .before .before .before .before .number .ensures, c .before .before .before .n .given .1, le-ltb _ _ (c .before .if1 .left), lt-ltb _ _ (c .if2 .taken))
 
--- src/lib.rt:44:1
 returns-4 : tie.Need-returns-4
 unfolding rowsOf
 returns-4 c = rw (← c .before .before .before .before .before .number .ensures, c .before .before .before .n .given .1, le-ltb _ _ (c .before .if1 .left), le-ltb _ _ (c .if2 .left))

@@ -10,30 +10,24 @@ use borrow.Author.Needs.{needs}
 use Rattle.options.proofs.word_of.Statement.{statement}
 use Rattle.options.proofs.word_of.Tie as tie
 
--- src/lib.rt:22:19
 slice-aggregate-same : tie.Need-slice-aggregate-same
 slice-aggregate-same c = search needs
 
--- src/lib.rt:22:8
 same-requires : tie.Need-same-requires
 same-requires c κs = search needs
 
--- src/lib.rt:23:9
 returns : tie.Need-returns
 unfolding wordOf
 returns c = let s = c .before .before .before .before .args .text .now in
     let e1 : equal s (bytes "-rows") ≡ true = sym (c .before .same .ensures) ∙ c .if1 .taken in
     rw e1
 
--- src/lib.rt:25:19
 slice-aggregate-same-2 : tie.Need-slice-aggregate-same-2
 slice-aggregate-same-2 c = search needs
 
--- src/lib.rt:25:8
 same-requires-2 : tie.Need-same-requires-2
 same-requires-2 c κs = search needs
 
--- src/lib.rt:26:9
 returns-2 : tie.Need-returns-2
 unfolding wordOf
 returns-2 c = let s = c .before .before .before .before .before .before .before .args .text .now in
@@ -41,15 +35,12 @@ returns-2 c = let s = c .before .before .before .before .before .before .before 
     let e2 : equal s (bytes "-font") ≡ true = sym (c .before .same2 .ensures) ∙ c .if2 .taken in
     rw (e1, e2)
 
--- src/lib.rt:28:19
 slice-aggregate-same-3 : tie.Need-slice-aggregate-same-3
 slice-aggregate-same-3 c = search needs
 
--- src/lib.rt:28:8
 same-requires-3 : tie.Need-same-requires-3
 same-requires-3 c κs = search needs
 
--- src/lib.rt:29:9
 returns-3 : tie.Need-returns-3
 unfolding wordOf
 returns-3 c = let s = c .before .before .before .before .before .before .before .before .before .before .args .text .now in
@@ -58,15 +49,12 @@ returns-3 c = let s = c .before .before .before .before .before .before .before 
     let e3 : equal s (bytes "-out") ≡ true = sym (c .before .same3 .ensures) ∙ c .if3 .taken in
     rw (e1, e2, e3)
 
--- src/lib.rt:31:19
 slice-aggregate-same-4 : tie.Need-slice-aggregate-same-4
 slice-aggregate-same-4 c = search needs
 
--- src/lib.rt:31:8
 same-requires-4 : tie.Need-same-requires-4
 same-requires-4 c κs = search needs
 
--- src/lib.rt:32:9
 returns-4 : tie.Need-returns-4
 unfolding wordOf
 returns-4 c = let s = c .before .before .before .before .before .before .before .before .before .before .before .before .before .args .text .now in
@@ -76,15 +64,12 @@ returns-4 c = let s = c .before .before .before .before .before .before .before 
     let e4 : equal s (bytes "-store") ≡ true = sym (c .before .same4 .ensures) ∙ c .if4 .taken in
     rw (e1, e2, e3, e4)
 
--- src/lib.rt:34:19
 slice-aggregate-same-5 : tie.Need-slice-aggregate-same-5
 slice-aggregate-same-5 c = search needs
 
--- src/lib.rt:34:8
 same-requires-5 : tie.Need-same-requires-5
 same-requires-5 c κs = search needs
 
--- src/lib.rt:35:9
 returns-5 : tie.Need-returns-5
 unfolding wordOf
 returns-5 c = let s = c .before .before .before .before .before .before .before .before .before .before .before .before .before .before .before .before .args .text .now in
@@ -95,11 +80,9 @@ returns-5 c = let s = c .before .before .before .before .before .before .before 
     let e5 : equal s (bytes "-quiet") ≡ true = sym (c .before .same5 .ensures) ∙ c .if5 .taken in
     rw (e1, e2, e3, e4, e5)
 
--- src/lib.rt:37:8
 byte-requires : tie.Need-byte-requires
 byte-requires c κs = search needs
 
--- src/lib.rt:38:9
 returns-6 : tie.Need-returns-6
 unfolding wordOf
 returns-6 c = let s = c .before .before .before .before .before .before .before .before .before .before .before .before .before .before .before .before .before .before .args .text .now in
@@ -111,7 +94,6 @@ returns-6 c = let s = c .before .before .before .before .before .before .before 
     let d : eqb (getD s 0 0) 45 ≡ true = rw (← c .before .byte .ensures) (eq-eqb _ 45 (c .if6 .taken)) in
     rw (e1, e2, e3, e4, e5, d)
 
--- src/lib.rt:19:1
 returns-7 : tie.Need-returns-7
 unfolding wordOf
 returns-7 c = let s = c .before .before .before .before .before .before .before .before .before .before .before .before .before .before .before .before .before .before .args .text .now in

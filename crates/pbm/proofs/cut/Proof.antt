@@ -5,75 +5,59 @@ use borrow.Author.Needs.{needs}
 use Rattle.pbm.proofs.cut.Statement.{statement}
 use Rattle.pbm.proofs.cut.Tie as tie
 
--- src/lib.rt:30:14
 mul-result : tie.Need-mul-result
 mul-result c = search needs
 
--- src/lib.rt:31:14
 mul-result-2 : tie.Need-mul-result-2
 mul-result-2 c = search needs
 
--- src/lib.rt:32:14
 mul-result-3 : tie.Need-mul-result-3
 mul-result-3 c = search needs
 
--- src/lib.rt:33:14
 mul-result-4 : tie.Need-mul-result-4
 mul-result-4 c = search needs
 
--- src/lib.rt:34:14
 mul-result-5 : tie.Need-mul-result-5
 mul-result-5 c = search needs
 
--- src/lib.rt:35:14
 mul-result-6 : tie.Need-mul-result-6
 mul-result-6 c = search needs
 
--- src/lib.rt:36:14
 mul-result-7 : tie.Need-mul-result-7
 mul-result-7 c = search needs
 
--- src/lib.rt:25:1
 returns : tie.Need-returns
 unfolding cut
 returns c = rw (c .match .keys1) (omega arith)
 
--- src/lib.rt:25:1
 returns-2 : tie.Need-returns-2
 unfolding cut
 returns-2 c = rw (c .match .keys2)
 
--- src/lib.rt:25:1
 returns-3 : tie.Need-returns-3
 unfolding cut
 returns-3 c = rw (c .match .keys3)
 
--- src/lib.rt:25:1
 returns-4 : tie.Need-returns-4
 unfolding cut
 returns-4 c = rw (c .match .keys4)
 
--- src/lib.rt:25:1
 returns-5 : tie.Need-returns-5
 unfolding cut
 returns-5 c = rw (c .match .keys5)
 
--- src/lib.rt:25:1
 returns-6 : tie.Need-returns-6
 unfolding cut
 returns-6 c = rw (c .match .keys6)
 
--- src/lib.rt:25:1
 returns-7 : tie.Need-returns-7
 unfolding cut
 returns-7 c = rw (c .match .keys7)
 
--- src/lib.rt:25:1
 returns-8 : tie.Need-returns-8
 unfolding cut
 returns-8 c = rw (c .match .keys8)
 
--- src/lib.rt:25:1
 returns-9 : tie.Need-returns-9
 returns-9 c = let r = c .match .rest in cut-whole _ _ (r .0 .0 .0 .0 .0 .0 .0 .1) (r .0 .0 .0 .0 .0 .0 .1) (r .0 .0 .0 .0 .0 .1) (r .0 .0 .0 .0 .1) (r .0 .0 .0 .1) (r .0 .0 .1) (r .0 .1) (r .1)
 

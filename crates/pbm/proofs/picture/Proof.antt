@@ -3,19 +3,15 @@ use borrow.Author.Needs.{needs}
 use Rattle.pbm.proofs.picture.Statement.{statement}
 use Rattle.pbm.proofs.picture.Tie as tie
 
--- src/lib.rt:107:9
 put-head-requires : tie.Need-put-head-requires
 put-head-requires c κs = search needs
 
--- src/lib.rt:108:5
 put-rows-requires : tie.Need-put-rows-requires
 put-rows-requires c κs = search needs
 
--- src/lib.rt:104:1
 same-length : tie.Need-same-length
 same-length c = search needs
 
--- src/lib.rt:104:1
 returns : tie.Need-returns
 returns c = wrote-then (c .before .before .before .before .before .before .put-head .ensures) (c .before .before .put-rows .ensures)
 

@@ -16,35 +16,27 @@ Inv-loop page width from out₀ at n place₀ j₀ out place j = Rest out₀ at 
 abbrev μ-loop : tie.MeasureT-loop
 μ-loop page width from out₀ at n place₀ j₀ out place j = n - j
 
--- src/lib.rt:68:9
 row-bytes-requires : tie.Need-row-bytes-requires Inv-loop μ-loop
 row-bytes-requires c κs = search needs
 
--- src/lib.rt:71:5
 loop-holds : tie.Need-loop-holds Inv-loop μ-loop
 loop-holds c = let a = c .before .before .before .args in (none-yet (rowFrom (a .page .now) (a .width) (a .from) 0) _ (c .before .before .before .pre .1), refl)
 
--- src/lib.rt:72:9
 put-byte-requires : tie.Need-put-byte-requires Inv-loop μ-loop
 put-byte-requires c κs = (c .before .before .before .before .before .before .pre .0, omega (arith, c .before .before .before .row-bytes .ensures .1))
 
--- src/lib.rt:73:9
 add-j : tie.Need-add-j Inv-loop μ-loop
 add-j c = search needs
 
--- src/lib.rt:71:5
 loop-less : tie.Need-loop-less Inv-loop μ-loop
 loop-less c = omega arith
 
--- src/lib.rt:71:5
 loop-again : tie.Need-loop-again Inv-loop μ-loop
 loop-again c = (row-next _ _ _ _ _ (c .before .before .before .before .loop-test .taken) (c .before .before .before .before .before .loop .inv .0) (c .before .before .put-byte .ensures), wrote-length (c .before .before .put-byte .ensures) ∙ c .before .before .before .before .before .loop .inv .1)
 
--- src/lib.rt:64:1
 same-length : tie.Need-same-length Inv-loop μ-loop
 same-length c = c .before .loop .inv .1
 
--- src/lib.rt:64:1
 returns : tie.Need-returns Inv-loop μ-loop
 returns c = let a = c .before .before .before .before .before .args in
     wrote-same (row-last _ _ _ _ _ (c .loop-test .left) (c .before .loop .inv .0)) (ap (rowFrom (a .page .now) (a .width) (a .from) 0) (c .before .before .row-bytes .ensures .0))

@@ -15,35 +15,27 @@ Inv-loop page width rows out₀ at n place₀ y₀ out place y = Rest out₀ at 
 abbrev μ-loop : tie.MeasureT-loop
 μ-loop page width rows out₀ at n place₀ y₀ out place y = n - y
 
--- src/lib.rt:85:5
 loop-holds : tie.Need-loop-holds Inv-loop μ-loop
 loop-holds c = let a = c .before .before .args in (none-yet (rowsFrom (a .page .now) (a .width) 0) _ (c .before .before .pre), refl)
 
--- src/lib.rt:86:38
 mul-put-row : tie.Need-mul-put-row Inv-loop μ-loop
 mul-put-row c = search needs
 
--- src/lib.rt:86:9
 put-row-requires : tie.Need-put-row-requires Inv-loop μ-loop
 put-row-requires c κs = (omega arith, omega (arith, c .before .before .loop .inv .0 .room))
 
--- src/lib.rt:87:9
 add-y : tie.Need-add-y Inv-loop μ-loop
 add-y c = search needs
 
--- src/lib.rt:85:5
 loop-less : tie.Need-loop-less Inv-loop μ-loop
 loop-less c = omega arith
 
--- src/lib.rt:85:5
 loop-again : tie.Need-loop-again Inv-loop μ-loop
 loop-again c = (rows-next _ _ _ _ (c .before .before .before .before .loop-test .taken) (c .before .before .before .before .before .loop .inv .0) (c .before .before .put-row .ensures), wrote-length (c .before .before .put-row .ensures) ∙ c .before .before .before .before .before .loop .inv .1)
 
--- src/lib.rt:78:1
 same-length : tie.Need-same-length Inv-loop μ-loop
 same-length c = c .before .loop .inv .1
 
--- src/lib.rt:78:1
 returns : tie.Need-returns Inv-loop μ-loop
 returns c = rows-last _ _ _ _ (c .loop-test .left) (c .before .loop .inv .0)
 

@@ -5,7 +5,6 @@ use Rattle.plainfont.specs.Plain.{dots, rowsAt, glyphsFrom, fontOf}
 use Rattle.plainfont.proofs.bytes.Statement.{statement}
 use Rattle.plainfont.proofs.bytes.Tie as tie
 
--- src/lib.rt:9:1
 returns : tie.Need-returns
 unfolding fontOf glyphFields glyphsFrom rowsAt dots drawing band32 band48 band64 band80 band96 band112
 returns c = refl

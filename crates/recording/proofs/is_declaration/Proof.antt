@@ -5,74 +5,58 @@ use Rattle.recording.proofs.is_declaration.Tie as tie
 use Rattle.recording.proofs.is_declaration.Reads as reads
 use Rattle.recording.proofs.is_declaration.Lts as lts
 
--- src/judged.rt:60:28
 enum-told : tie.Need-enum-told
 enum-told c = search needs
 
--- src/judged.rt:61:30
 enum-told-2 : tie.Need-enum-told-2
 enum-told-2 c = search needs
 
--- src/judged.rt:62:29
 enum-told-3 : tie.Need-enum-told-3
 enum-told-3 c = search needs
 
--- src/judged.rt:63:26
 enum-told-4 : tie.Need-enum-told-4
 enum-told-4 c = search needs
 
--- src/judged.rt:64:26
 enum-told-5 : tie.Need-enum-told-5
 enum-told-5 c = search needs
 
--- src/judged.rt:65:25
 enum-told-6 : tie.Need-enum-told-6
 enum-told-6 c = search needs
 
--- src/judged.rt:66:27
 enum-told-7 : tie.Need-enum-told-7
 enum-told-7 c = search needs
 
--- src/judged.rt:67:29
 enum-told-8 : tie.Need-enum-told-8
 enum-told-8 c = search needs
 
--- src/judged.rt:56:1
 returns : tie.Need-returns
 unfolding declaration
 returns c = rw (c .enum-told .given .1)
 
--- src/judged.rt:56:1
 returns-2 : tie.Need-returns-2
 unfolding declaration
 returns-2 c = rw (c .enum-told2 .given .1)
 
--- src/judged.rt:56:1
 returns-3 : tie.Need-returns-3
 unfolding declaration
 returns-3 c = rw (c .enum-told3 .given .1)
 
--- src/judged.rt:56:1
 returns-4 : tie.Need-returns-4
 unfolding declaration
 returns-4 c = rw (c .enum-told4 .given .1)
 
--- src/judged.rt:56:1
 returns-5 : tie.Need-returns-5
 unfolding declaration
 returns-5 c = rw (c .enum-told5 .given .1)
 
--- src/judged.rt:56:1
 returns-6 : tie.Need-returns-6
 unfolding declaration
 returns-6 c = rw (c .enum-told6 .given .1)
 
--- src/judged.rt:56:1
 returns-7 : tie.Need-returns-7
 unfolding declaration
 returns-7 c = rw (c .enum-told7 .given .1)
 
--- src/judged.rt:56:1
 returns-8 : tie.Need-returns-8
 unfolding declaration
 returns-8 c = rw (c .enum-told8 .given .1)

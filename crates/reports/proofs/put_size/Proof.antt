@@ -4,43 +4,33 @@ use borrow.Author.Needs.{needs}
 use Rattle.reports.proofs.put_size.Statement.{statement}
 use Rattle.reports.proofs.put_size.Tie as tie
 
--- src/lib.rt:23:36
 slice-aggregate-put-numbered : tie.Need-slice-aggregate-put-numbered
 slice-aggregate-put-numbered c = search needs
 
--- src/lib.rt:23:9
 put-numbered-requires : tie.Need-put-numbered-requires
 put-numbered-requires c κs = search needs
 
--- src/lib.rt:24:38
 slice-aggregate-put-numbered-2 : tie.Need-slice-aggregate-put-numbered-2
 slice-aggregate-put-numbered-2 c = search needs
 
--- src/lib.rt:24:9
 put-numbered-requires-2 : tie.Need-put-numbered-requires-2
 put-numbered-requires-2 c κs = search needs
 
--- src/lib.rt:25:39
 slice-aggregate-put-numbered-3 : tie.Need-slice-aggregate-put-numbered-3
 slice-aggregate-put-numbered-3 c = search needs
 
--- src/lib.rt:25:9
 put-numbered-requires-3 : tie.Need-put-numbered-requires-3
 put-numbered-requires-3 c κs = search needs
 
--- src/lib.rt:26:19
 slice-aggregate-put : tie.Need-slice-aggregate-put
 slice-aggregate-put c = search needs
 
--- src/lib.rt:26:5
 put-requires : tie.Need-put-requires
 put-requires c κs = search needs
 
--- src/lib.rt:20:1
 same-length : tie.Need-same-length
 same-length c = search needs
 
--- src/lib.rt:20:1
 returns : tie.Need-returns
 unfolding sizeOf
 returns c = wrote-then (c .before .before .before .before .before .before .before .before .before .before .before .before .before .before .before .before .before .put-numbered .ensures) (wrote-then (c .before .before .before .before .before .before .before .before .before .before .before .before .put-numbered2 .ensures) (wrote-then (c .before .before .before .before .before .before .before .put-numbered3 .ensures) (c .before .before .put .ensures)))

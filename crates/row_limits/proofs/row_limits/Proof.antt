@@ -33,14 +33,11 @@ returns c = let a = c .before .before .before .before .before .args in
     let l = c .before .before .loop in
     sym (limits-done (rowOf (a .row) .fields) (boundsOf (a .row) (a .rows)) (now (a .line)) (l .before) (now (a .vs)) (now (a .ps)) (l .i) (out-row (a .row) (l .i) (getD (g .result) (l .i) 0) (form-at (a .row) (l .i) (g .result) (g .ensures) (c .before .loop-test .taken)) (c .if1 .taken))) ∙ l .inv
 
-add-bound-by : tie.Need-add-bound-by Inv-loop μ-loop
-add-bound-by c = search needs
+add-letter : tie.Need-add-letter Inv-loop μ-loop
+add-letter c = search needs
 
-array-read-bound-by : tie.Need-array-read-bound-by Inv-loop μ-loop
-array-read-bound-by c = search needs
-
-bound-by-requires : tie.Need-bound-by-requires Inv-loop μ-loop
-bound-by-requires c κs = search needs
+array-read-letter : tie.Need-array-read-letter Inv-loop μ-loop
+array-read-letter c = search needs
 
 mul-v : tie.Need-mul-v Inv-loop μ-loop
 mul-v c = search needs
@@ -62,13 +59,13 @@ enum-known-fault c = search needs
 
 returns-2 : tie.Need-returns-2 Inv-loop μ-loop
 unfolding fieldLimits
-returns-2 c = let a = c .before .before .before .before .before .before .before .before .before .before .before .before .args in
-    let g = c .before .before .before .before .before .before .before .before .before .before .line-up in
-    let l = c .before .before .before .before .before .before .before .before .before .loop in
-    let t = c .before .before .before .before .before .before .before .before .loop-test .taken in
+returns-2 c = let a = c .before .before .before .before .before .before .before .before .before .before .before .args in
+    let g = c .before .before .before .before .before .before .before .before .before .line-up in
+    let l = c .before .before .before .before .before .before .before .before .loop in
+    let t = c .before .before .before .before .before .before .before .loop-test .taken in
     let f = form-at (a .row) (l .i) (g .result) (g .ensures) t in
-    let b = bounds-at (a .row) (l .i) (a .rows) (g .result) (c .before .before .before .before .before .before .bound-by .result) (g .ensures) t (c .before .before .before .before .before .before .bound-by .ensures) in
-    sym (sym (l .inv) ∙ limits-out (rowOf (a .row) .fields) (boundsOf (a .row) (a .rows)) (now (a .line)) (l .before) (now (a .vs)) (now (a .ps)) (l .i) (in-row (a .row) (l .i) (getD (g .result) (l .i) 0) f (c .before .before .before .before .before .before .before .if1 .left)) _ (rw (← f, ← b .0, ← b .1, ← c .before .before .before .field-limits .ensures) (c .before .fault .given .1)))
+    let b = bounds-at (a .row) (l .i) (a .rows) (g .result) _ (g .ensures) t refl in
+    sym (sym (l .inv) ∙ limits-out (rowOf (a .row) .fields) (boundsOf (a .row) (a .rows)) (now (a .line)) (l .before) (now (a .vs)) (now (a .ps)) (l .i) (in-row (a .row) (l .i) (getD (g .result) (l .i) 0) f (c .before .before .before .before .before .before .if1 .left)) _ (rw (← f, ← b .0, ← b .1, ← c .before .before .before .field-limits .ensures) (c .before .fault .given .1)))
 
 enum-told : tie.Need-enum-told Inv-loop μ-loop
 enum-told c = search needs
@@ -84,13 +81,13 @@ loop-less c = search needs
 
 loop-again : tie.Need-loop-again Inv-loop μ-loop
 unfolding fieldLimits
-loop-again c = let a = c .before .before .before .before .before .before .before .before .before .before .before .before .args in
-    let g = c .before .before .before .before .before .before .before .before .before .before .line-up in
-    let l = c .before .before .before .before .before .before .before .before .before .loop in
-    let t = c .before .before .before .before .before .before .before .before .loop-test .taken in
+loop-again c = let a = c .before .before .before .before .before .before .before .before .before .before .before .args in
+    let g = c .before .before .before .before .before .before .before .before .before .line-up in
+    let l = c .before .before .before .before .before .before .before .before .loop in
+    let t = c .before .before .before .before .before .before .before .loop-test .taken in
     let f = form-at (a .row) (l .i) (g .result) (g .ensures) t in
-    let b = bounds-at (a .row) (l .i) (a .rows) (g .result) (c .before .before .before .before .before .before .bound-by .result) (g .ensures) t (c .before .before .before .before .before .before .bound-by .ensures) in
-    rw (c .number-after .ensures, f) (sym (limits-more (rowOf (a .row) .fields) (boundsOf (a .row) (a .rows)) (now (a .line)) (l .before) (now (a .vs)) (now (a .ps)) (l .i) (in-row (a .row) (l .i) (getD (g .result) (l .i) 0) f (c .before .before .before .before .before .before .before .if1 .left)) (rw (← f, ← b .0, ← b .1, ← c .before .before .before .field-limits .ensures) (c .before .enum-told .given .1))) ∙ l .inv)
+    let b = bounds-at (a .row) (l .i) (a .rows) (g .result) _ (g .ensures) t refl in
+    rw (c .number-after .ensures, f) (sym (limits-more (rowOf (a .row) .fields) (boundsOf (a .row) (a .rows)) (now (a .line)) (l .before) (now (a .vs)) (now (a .ps)) (l .i) (in-row (a .row) (l .i) (getD (g .result) (l .i) 0) f (c .before .before .before .before .before .before .if1 .left)) (rw (← f, ← b .0, ← b .1, ← c .before .before .before .field-limits .ensures) (c .before .enum-told .given .1))) ∙ l .inv)
 
 returns-3 : tie.Need-returns-3 Inv-loop μ-loop
 returns-3 c = let a = c .before .before .before .before .args in
@@ -107,9 +104,8 @@ row-limits-spec =
     loop-holds
     array-read-f
     returns
-    add-bound-by
-    array-read-bound-by
-    bound-by-requires
+    add-letter
+    array-read-letter
     mul-v
     element-copy-out-v
     mul-p

@@ -4,31 +4,24 @@ use borrow.Author.Needs.{needs}
 use Rattle.sentences.proofs.put.Statement.{statement}
 use Rattle.sentences.proofs.put.Tie as tie
 
--- src/lib.rt:20:9
 returns : tie.Need-returns
 returns c = wrote-past _ _ _ (c .if1 .taken)
 
--- src/lib.rt:22:32
 sub-least : tie.Need-sub-least
 sub-least c = search needs
 
--- src/lib.rt:22:9
 least-requires : tie.Need-least-requires
 least-requires c κs = search needs
 
--- src/lib.rt:23:5
 put-requires : tie.Need-put-requires
 put-requires c κs = search needs
 
--- src/lib.rt:24:5
 add-result : tie.Need-add-result
 add-result c = search needs
 
--- src/lib.rt:16:1
 same-length : tie.Need-same-length
 same-length c = search needs
 
--- src/lib.rt:16:1
 returns-2 : tie.Need-returns-2
 returns-2 c = record { place = omega (arith, c .before .before .before .before .least .ensures); stored = c .before .before .put .ensures }
 

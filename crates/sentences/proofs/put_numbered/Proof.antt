@@ -7,19 +7,15 @@ use Rattle.sentences.proofs.put_numbered.Lts as lts
 use Rattle.writing.proofs.put_decimal.Reads as put-decimal-reads
 use Rattle.sentences.proofs.put.Reads as put-reads
 
--- src/lib.rt:34:9
 put-requires : tie.Need-put-requires
 put-requires c κs = search needs
 
--- src/lib.rt:35:5
 put-decimal-requires : tie.Need-put-decimal-requires
 put-decimal-requires c κs = search needs
 
--- src/lib.rt:31:1
 same-length : tie.Need-same-length
 same-length c = search needs
 
--- src/lib.rt:31:1
 returns : tie.Need-returns
 returns c = wrote-then (c .before .before .before .before .before .before .put .ensures) (c .before .before .put-decimal .ensures)
 

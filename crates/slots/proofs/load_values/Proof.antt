@@ -1,31 +1,30 @@
 use borrow.Author.Needs.{needs}
 use Rattle.slots.proofs.load_values.Statement.{statement}
 use Rattle.slots.proofs.load_values.Tie as tie
+use Rattle.slots.proofs.load_values.Reads as reads
+use Rattle.slots.proofs.load_values.Lts as lts
+use Rattle.file_parts.proofs.part.Reads as part-reads
+use Rattle.ground.proofs.put.Reads as put-reads
+use Rattle.slots.proofs.page_of.Reads as page-of-reads
 
--- src/saved.rt:127:38
-mul-part : tie.Need-mul-part
-mul-part c = search needs
+page-of-requires : tie.Need-page-of-requires
+page-of-requires c κs = search needs
 
--- src/saved.rt:127:31
 add-part : tie.Need-add-part
 add-part c = search needs
 
--- src/saved.rt:127:20
 part-requires : tie.Need-part-requires
 part-requires c κs = search needs
 
--- src/saved.rt:127:5
 put-requires : tie.Need-put-requires
 put-requires c κs = search needs
 
--- src/saved.rt:124:1
 same-length : tie.Need-same-length
 same-length c = search needs
 
--- src/saved.rt:124:1
 returns : tie.Need-returns
-returns c = rw (c .before .before .put .ensures, c .before .before .before .part .ensures)
+returns c = rw (c .before .before .put .ensures, c .before .before .before .part .ensures, c .before .before .before .before .page-of .ensures)
 
 pub load-values-spec : {M : Type 1} → statement M
 load-values-spec =
-    tie.close (tie.spec mul-part add-part part-requires put-requires same-length returns)
+    tie.close (tie.spec page-of-requires add-part part-requires put-requires same-length returns)

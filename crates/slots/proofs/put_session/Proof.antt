@@ -5,27 +5,21 @@ use borrow.Author.Needs.{needs}
 use Rattle.slots.proofs.put_session.Statement.{statement}
 use Rattle.slots.proofs.put_session.Tie as tie
 
--- src/saved.rt:30:27
 slice-aggregate-encode : tie.Need-slice-aggregate-encode
 slice-aggregate-encode c = search needs
 
--- src/saved.rt:30:5
 encode-requires : tie.Need-encode-requires
 encode-requires c κs = search needs
 
--- src/saved.rt:31:19
 slice-aggregate-put : tie.Need-slice-aggregate-put
 slice-aggregate-put c = search needs
 
--- src/saved.rt:31:5
 put-requires : tie.Need-put-requires
 put-requires c κs = search needs
 
--- src/saved.rt:26:1
 same-length : tie.Need-same-length
 same-length c = search needs
 
--- src/saved.rt:26:1
 returns : tie.Need-returns
 returns c = let a = c .before .before .before .before .before .before .before .before .before .args in c .before .before .put .ensures ∙ ap (sets (a .file .now) (a .at)) (c .before .before .before .before .before .before .encode .ensures ∙ image-whole _ (a .session) refl)
 

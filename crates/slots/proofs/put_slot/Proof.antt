@@ -3,39 +3,30 @@ use borrow.Author.Needs.{needs}
 use Rattle.slots.proofs.put_slot.Statement.{statement}
 use Rattle.slots.proofs.put_slot.Tie as tie
 
--- src/saved.rt:60:5
 fill-slot-requires : tie.Need-fill-slot-requires
 fill-slot-requires c κs = search needs
 
--- src/saved.rt:61:9
 slot-at-requires : tie.Need-slot-at-requires
 slot-at-requires c κs = search needs
 
--- src/saved.rt:62:9
 four-at-requires : tie.Need-four-at-requires
 four-at-requires c κs = search needs
 
--- src/saved.rt:63:23
 part-requires : tie.Need-part-requires
 part-requires c κs = search needs
 
--- src/saved.rt:63:9
 sum-requires : tie.Need-sum-requires
 sum-requires c κs = search needs
 
--- src/saved.rt:64:20
 add-put-four : tie.Need-add-put-four
 add-put-four c = search needs
 
--- src/saved.rt:64:5
 put-four-requires : tie.Need-put-four-requires
 put-four-requires c κs = search needs
 
--- src/saved.rt:51:1
 same-length : tie.Need-same-length
 same-length c = search needs
 
--- src/saved.rt:51:1
 returns : tie.Need-returns
 unfolding slotted
 returns c = rw (c .before .before .put-four .ensures, c .before .before .before .before .sum .ensures, c .before .before .before .before .before .part .ensures, c .before .before .before .before .before .before .before .four-at .ensures, c .before .before .before .before .before .before .before .before .before .slot-at .ensures, c .before .before .before .before .before .before .before .before .before .before .before .before .fill-slot .ensures)

@@ -2,19 +2,15 @@ use borrow.Author.Needs.{needs}
 use Rattle.slots.proofs.torn.Statement.{statement}
 use Rattle.slots.proofs.torn.Tie as tie
 
--- src/judged.rt:67:17
 order-of-requires : tie.Need-order-of-requires
 order-of-requires c κs = search needs
 
--- src/judged.rt:68:18
 is-whole-requires : tie.Need-is-whole-requires
 is-whole-requires c κs = search needs
 
--- src/judged.rt:68:5
 both-requires : tie.Need-both-requires
 both-requires c κs = search needs
 
--- src/judged.rt:63:1
 returns : tie.Need-returns
 returns c = rw (c .both .ensures, c .before .is-whole .ensures, c .before .before .order-of .ensures)
 

@@ -3,23 +3,18 @@ use borrow.Author.Needs.{needs}
 use Rattle.words.proofs.line_of.Statement.{statement}
 use Rattle.words.proofs.line_of.Tie as tie
 
--- src/lib.rt:72:27
 line-start-requires : tie.Need-line-start-requires
 line-start-requires c κs = search needs
 
--- src/lib.rt:72:9
 back-requires : tie.Need-back-requires
 back-requires c κs = search needs
 
--- src/lib.rt:73:17
 run-end-requires : tie.Need-run-end-requires
 run-end-requires c κs = search needs
 
--- src/lib.rt:73:5
 front-requires : tie.Need-front-requires
 front-requires c κs = search needs
 
--- src/lib.rt:69:1
 returns : tie.Need-returns
 returns c = line-found (c .before .before .before .before .before .args .text .now) (c .before .before .before .before .before .args .k) (c .before .before .before .line-start .result) (c .before .before .back .ensures) (c .before .before .before .line-start .ensures) (c .before .run-end .ensures) (c .front .ensures)
 

@@ -14,35 +14,27 @@ Inv-loop text k left₀ i₀ left i = fromLine left (drop i text) ≡ fromLine k
 abbrev μ-loop : tie.MeasureT-loop
 μ-loop text k left₀ i₀ left i = length text - i
 
--- src/lib.rt:60:5
 loop-holds : tie.Need-loop-holds Inv-loop μ-loop
 loop-holds c = refl
 
--- src/lib.rt:62:13
 returns : tie.Need-returns Inv-loop μ-loop
 returns c = sym (from-here _ (c .before .before .loop .i) (c .before .before .loop .left) (c .if1 .taken) (c .before .loop-test .taken)) ∙ c .before .before .loop .inv
 
--- src/lib.rt:64:23
 shared-slice-read-passed : tie.Need-shared-slice-read-passed Inv-loop μ-loop
 shared-slice-read-passed c = search needs
 
--- src/lib.rt:64:9
 passed-requires : tie.Need-passed-requires Inv-loop μ-loop
 passed-requires c κs = search needs
 
--- src/lib.rt:65:9
 add-i : tie.Need-add-i Inv-loop μ-loop
 add-i c = search needs
 
--- src/lib.rt:60:5
 loop-less : tie.Need-loop-less Inv-loop μ-loop
 loop-less c = omega arith
 
--- src/lib.rt:60:5
 loop-again : tie.Need-loop-again Inv-loop μ-loop
 loop-again c = rw (c .passed .ensures) (sym (from-next _ (c .before .before .before .before .loop .i) (c .before .before .before .before .loop .left) (c .before .before .if1 .left) (c .before .before .before .loop-test .taken)) ∙ c .before .before .before .before .loop .inv)
 
--- src/lib.rt:55:1
 returns-2 : tie.Need-returns-2 Inv-loop μ-loop
 returns-2 c = sym (from-end _ (c .before .loop .i) (c .before .loop .left) (omega arith)) ∙ c .before .loop .inv
 

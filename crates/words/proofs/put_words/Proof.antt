@@ -8,31 +8,24 @@ use borrow.Author.Needs.{needs}
 use Rattle.words.proofs.put_words.Statement.{statement}
 use Rattle.words.proofs.put_words.Tie as tie
 
--- src/lib.rt:81:26
 slice-aggregate-line-of : tie.Need-slice-aggregate-line-of
 slice-aggregate-line-of c = search needs
 
--- src/lib.rt:81:34
 number-requires : tie.Need-number-requires
 number-requires c κs = search needs
 
--- src/lib.rt:81:34
 cast-line-of : tie.Need-cast-line-of
 cast-line-of c = search needs
 
--- src/lib.rt:81:18
 line-of-requires : tie.Need-line-of-requires
 line-of-requires c κs = search needs
 
--- src/lib.rt:81:5
 put-requires : tie.Need-put-requires
 put-requires c κs = search needs
 
--- src/lib.rt:77:1
 same-length : tie.Need-same-length
 same-length c = search needs
 
--- src/lib.rt:77:1
 returns : tie.Need-returns
 unfolding line table wordsOf
 returns c = wrote-same (c .before .before .put .ensures) (c .before .before .before .line-of .ensures ∙ (ap (λ (n : ℕ). lineOf n table) (c .before .before .before .before .number .ensures) ∙ words-line (c .before .before .before .before .before .before .before .before .args .a)))

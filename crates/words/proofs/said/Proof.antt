@@ -7,67 +7,51 @@ use borrow.Author.Needs.{needs}
 use Rattle.words.proofs.said.Statement.{statement}
 use Rattle.words.proofs.said.Tie as tie
 
--- src/lib.rt:88:38
 slice-aggregate-put-numbered : tie.Need-slice-aggregate-put-numbered
 slice-aggregate-put-numbered c = search needs
 
--- src/lib.rt:88:9
 put-numbered-requires : tie.Need-put-numbered-requires
 put-numbered-requires c κs = search needs
 
--- src/lib.rt:89:43
 slice-aggregate-put-numbered-2 : tie.Need-slice-aggregate-put-numbered-2
 slice-aggregate-put-numbered-2 c = search needs
 
--- src/lib.rt:89:50
 number-requires : tie.Need-number-requires
 number-requires c κs = search needs
 
--- src/lib.rt:89:50
 cast-put-numbered : tie.Need-cast-put-numbered
 cast-put-numbered c = search needs
 
--- src/lib.rt:89:9
 put-numbered-requires-2 : tie.Need-put-numbered-requires-2
 put-numbered-requires-2 c κs = search needs
 
--- src/lib.rt:90:34
 slice-aggregate-put : tie.Need-slice-aggregate-put
 slice-aggregate-put c = search needs
 
--- src/lib.rt:90:9
 put-requires : tie.Need-put-requires
 put-requires c κs = search needs
 
--- src/lib.rt:91:9
 put-words-requires : tie.Need-put-words-requires
 put-words-requires c κs = search needs
 
--- src/lib.rt:92:32
 slice-aggregate-put-2 : tie.Need-slice-aggregate-put-2
 slice-aggregate-put-2 c = search needs
 
--- src/lib.rt:92:9
 put-requires-2 : tie.Need-put-requires-2
 put-requires-2 c κs = search needs
 
--- src/lib.rt:93:9
 put-requires-3 : tie.Need-put-requires-3
 put-requires-3 c κs = search needs
 
--- src/lib.rt:94:19
 slice-aggregate-put-3 : tie.Need-slice-aggregate-put-3
 slice-aggregate-put-3 c = search needs
 
--- src/lib.rt:94:5
 put-requires-4 : tie.Need-put-requires-4
 put-requires-4 c κs = search needs
 
--- src/lib.rt:85:1
 same-length : tie.Need-same-length
 same-length c = search needs
 
--- src/lib.rt:85:1
 returns : tie.Need-returns
 unfolding saidOf
 returns c = wrote-then (c .before .before .before .before .before .before .before .before .before .before .before .before .before .before .before .before .before .before .before .before .before .before .before .before .before .before .before .before .before .before .before .put-numbered .ensures) (wrote-then (wrote-same (c .before .before .before .before .before .before .before .before .before .before .before .before .before .before .before .before .before .before .before .before .before .before .before .before .before .put-numbered2 .ensures) (ap (numbered (bytes ": ")) (c .before .before .before .before .before .before .before .before .before .before .before .before .before .before .before .before .before .before .before .before .before .before .before .before .before .before .number .ensures))) (wrote-then (c .before .before .before .before .before .before .before .before .before .before .before .before .before .before .before .before .before .before .before .before .put .ensures) (wrote-then (c .before .before .before .before .before .before .before .before .before .before .before .before .before .before .before .before .put-words .ensures) (wrote-then (c .before .before .before .before .before .before .before .before .before .before .before .put2 .ensures) (wrote-then (c .before .before .before .before .before .before .before .put3 .ensures) (c .before .before .put4 .ensures))))))

@@ -1,3 +1,9 @@
+use mathlib.Core.Path.{_≡_, ap}
+use Prim.Native.Nat.{ℕ}
+use Rattle.kinds.specs.declared.Kind.{Kind}
+use Rattle.grammar.specs.declared.Item.the-variants.{Bars}
+use Rattle.grammar.specs.declared.Command.{Command}
+use Rattle.grammar.specs.declared.Command.the-variants.{Item}
 use borrow.Author.Needs.{needs}
 use Rattle.grammar.specs.Forms.{inOrder}
 use Rattle.grammar.proofs.makers.bars.Statement.{statement}
@@ -33,9 +39,17 @@ element-copy-out-t24 c = search needs
 element-copy-out-t27 : tie.Need-element-copy-out-t27
 element-copy-out-t27 c = search needs
 
+-- with its type of bars read, the symbol is whole
+module _ (x y r e f g at : ℕ) where
+  abbrev symbol : Kind → Command
+  symbol k = Item (Bars (record { x = x; y = y; r = r; kind = k; e = e; f = f; g = g; at = at }))
+
+  kind-read : (k l : Kind) → k ≡ l → symbol k ≡ symbol l
+  kind-read k l h = ap symbol h
+
 returns : tie.Need-returns
 unfolding inOrder
-returns c = λ s. rw (c .before .before .before .before .kind-from .ensures)
+returns c = λ s. kind-read _ _ _ _ _ _ _ _ _ (c .before .before .before .before .kind-from .ensures)
 
 pub bars-spec : {M : Type 1} → statement M
 bars-spec =

@@ -3,39 +3,30 @@ use borrow.Author.Needs.{needs}
 use Rattle.lasting.proofs.judged.choose.Statement.{statement}
 use Rattle.lasting.proofs.judged.choose.Tie as tie
 
--- src/judged.rt:75:9
 is-whole-requires : tie.Need-is-whole-requires
 is-whole-requires c κs = search needs
 
--- src/judged.rt:76:9
 is-whole-requires-2 : tie.Need-is-whole-requires-2
 is-whole-requires-2 c κs = search needs
 
--- src/judged.rt:77:9
 order-of-requires : tie.Need-order-of-requires
 order-of-requires c κs = search needs
 
--- src/judged.rt:78:9
 order-of-requires-2 : tie.Need-order-of-requires-2
 order-of-requires-2 c κs = search needs
 
--- src/judged.rt:79:21
 either-requires : tie.Need-either-requires
 either-requires c κs = search needs
 
--- src/judged.rt:79:8
 both-requires : tie.Need-both-requires
 both-requires c κs = search needs
 
--- src/judged.rt:80:9
 returns : tie.Need-returns
 returns c = chosen-second _ _ _ _ _ _ _ (c .before .before .before .before .before .before .is-whole .ensures) (c .before .before .before .before .before .is-whole2 .ensures) (c .before .before .before .before .order-of .ensures) (c .before .before .before .order-of2 .ensures) (c .before .before .either .ensures) (c .before .both .ensures) (c .if1 .taken)
 
--- src/judged.rt:83:9
 returns-2 : tie.Need-returns-2
 returns-2 c = chosen-first _ _ _ _ _ _ _ (c .before .before .before .before .before .before .before .is-whole .ensures) (c .before .before .before .before .before .before .is-whole2 .ensures) (c .before .before .before .before .before .order-of .ensures) (c .before .before .before .before .order-of2 .ensures) (c .before .before .before .either .ensures) (c .before .before .both .ensures) (c .before .if1 .left) (c .if2 .taken)
 
--- src/judged.rt:72:1
 returns-3 : tie.Need-returns-3
 returns-3 c = chosen-none _ _ _ _ _ _ _ (c .before .before .before .before .before .before .before .is-whole .ensures) (c .before .before .before .before .before .before .is-whole2 .ensures) (c .before .before .before .before .before .order-of .ensures) (c .before .before .before .before .order-of2 .ensures) (c .before .before .before .either .ensures) (c .before .before .both .ensures) (c .before .if1 .left) (c .if2 .left)
 

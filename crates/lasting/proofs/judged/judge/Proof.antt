@@ -5,108 +5,91 @@ use Prim.Native.Nat.{ℕ}
 use lib.ListN.{length}
 use lib.Dec.{eqb}
 use borrow.Author.Tests.{eq-eqb, ne-eqb}
-use Rattle.kinds.specs.Text.{bytes}
+use Rattle.slots.specs.Slots.{bodySumAt}
 use Rattle.writing.specs.Writing.{equal}
 use Rattle.low_first.specs.Low.{numberAt}
-use Rattle.lasting.specs.File.{rowsOf, fileSize, fileSum, sizesWrong}
+use Rattle.lasting.specs.File.{name, versionAt, rowsOf, fileSize, fileSum, sizesWrong}
 use Rattle.file_parts.specs.Sums.{partOf}
 use Rattle.lasting.proofs.Verdicts.{judged-by}
 use borrow.Author.Needs.{needs}
 use Rattle.lasting.proofs.judged.judge.Statement.{statement}
 use Rattle.lasting.proofs.judged.judge.Tie as tie
 
--- src/judged.rt:91:21
 part-requires : tie.Need-part-requires
 part-requires c κs = search needs
 
--- src/judged.rt:91:40
 slice-aggregate-same : tie.Need-slice-aggregate-same
 slice-aggregate-same c = search needs
 
--- src/judged.rt:91:9
 same-requires : tie.Need-same-requires
 same-requires c κs = search needs
 
--- src/judged.rt:92:9
 returns : tie.Need-returns
 returns c = let f = c .before .before .before .before .before .args .file .now in
-    let a : true ≡ not (equal (partOf f 0 16) (bytes "Skeinferry store")) = rw (← c .before .before .before .part .ensures, ← c .before .same .ensures) (sym (c .if1 .taken)) in
+    let a : true ≡ not (equal (partOf f 0 versionAt) name) = rw (← c .before .before .before .part .ensures, ← c .before .same .ensures) (sym (c .if1 .taken)) in
     judged-by f _ _ _ _ _ _ a refl refl refl refl refl
 
--- src/judged.rt:94:8
 two-at-requires : tie.Need-two-at-requires
 two-at-requires c κs = search needs
 
--- src/judged.rt:95:9
 returns-2 : tie.Need-returns-2
 returns-2 c = let f = c .before .before .before .before .before .before .before .args .file .now in
-    let a : false ≡ not (equal (partOf f 0 16) (bytes "Skeinferry store")) = rw (← c .before .before .before .before .before .part .ensures, ← c .before .before .before .same .ensures) (sym (c .before .before .if1 .left)) in
-    let b : true ≡ not (eqb (numberAt 2 f 16) 1) = rw (← c .before .two-at .ensures, ne-eqb _ 1 (c .if2 .taken)) in
+    let a : false ≡ not (equal (partOf f 0 versionAt) name) = rw (← c .before .before .before .before .before .part .ensures, ← c .before .before .before .same .ensures) (sym (c .before .before .if1 .left)) in
+    let b : true ≡ not (eqb (numberAt 2 f versionAt) 1) = rw (← c .before .two-at .ensures, ne-eqb _ 1 (c .if2 .taken)) in
     judged-by f _ _ _ _ _ _ a b refl refl refl refl
 
--- src/judged.rt:97:8
 sizes-wrong-requires : tie.Need-sizes-wrong-requires
 sizes-wrong-requires c κs = search needs
 
--- src/judged.rt:98:9
 returns-3 : tie.Need-returns-3
 returns-3 c = let f = c .before .before .before .before .before .before .before .before .before .args .file .now in
-    let a : false ≡ not (equal (partOf f 0 16) (bytes "Skeinferry store")) = rw (← c .before .before .before .before .before .before .before .part .ensures, ← c .before .before .before .before .before .same .ensures) (sym (c .before .before .before .before .if1 .left)) in
-    let b : false ≡ not (eqb (numberAt 2 f 16) 1) = rw (← c .before .before .before .two-at .ensures, eq-eqb _ 1 (c .before .before .if2 .left)) in
+    let a : false ≡ not (equal (partOf f 0 versionAt) name) = rw (← c .before .before .before .before .before .before .before .part .ensures, ← c .before .before .before .before .before .same .ensures) (sym (c .before .before .before .before .if1 .left)) in
+    let b : false ≡ not (eqb (numberAt 2 f versionAt) 1) = rw (← c .before .before .before .two-at .ensures, eq-eqb _ 1 (c .before .before .if2 .left)) in
     let w : true ≡ sizesWrong f = sym (c .if3 .taken) ∙ c .before .sizes-wrong .ensures in
     judged-by f _ _ _ _ _ _ a b w refl refl refl
 
--- src/judged.rt:100:36
 rows-requires : tie.Need-rows-requires
 rows-requires c κs = search needs
 
--- src/judged.rt:100:31
 mul-if4 : tie.Need-mul-if4
 mul-if4 c = search needs
 
--- src/judged.rt:100:22
 add-if4 : tie.Need-add-if4
 add-if4 c = search needs
 
--- src/judged.rt:101:9
 returns-4 : tie.Need-returns-4
 returns-4 c = let f = c .before .before .before .before .before .before .before .before .before .before .before .args .file .now in
-    let a : false ≡ not (equal (partOf f 0 16) (bytes "Skeinferry store")) = rw (← c .before .before .before .before .before .before .before .before .before .part .ensures, ← c .before .before .before .before .before .before .before .same .ensures) (sym (c .before .before .before .before .before .before .if1 .left)) in
-    let b : false ≡ not (eqb (numberAt 2 f 16) 1) = rw (← c .before .before .before .before .before .two-at .ensures, eq-eqb _ 1 (c .before .before .before .before .if2 .left)) in
+    let a : false ≡ not (equal (partOf f 0 versionAt) name) = rw (← c .before .before .before .before .before .before .before .before .before .part .ensures, ← c .before .before .before .before .before .before .before .same .ensures) (sym (c .before .before .before .before .before .before .if1 .left)) in
+    let b : false ≡ not (eqb (numberAt 2 f versionAt) 1) = rw (← c .before .before .before .before .before .two-at .ensures, eq-eqb _ 1 (c .before .before .before .before .if2 .left)) in
     let w : false ≡ sizesWrong f = sym (c .before .before .if3 .left) ∙ c .before .before .before .sizes-wrong .ensures in
     let d : true ≡ not (eqb (length f) (fileSize (rowsOf f))) = rw (← c .before .rows .ensures .0, ne-eqb _ _ (c .if4 .taken)) in
     judged-by f _ _ _ _ _ _ a b w d refl refl
 
--- src/judged.rt:103:8
 file-sum-requires : tie.Need-file-sum-requires
 file-sum-requires c κs = search needs
 
--- src/judged.rt:103:26
 four-at-requires : tie.Need-four-at-requires
 four-at-requires c κs = search needs
 
--- src/judged.rt:104:9
 returns-5 : tie.Need-returns-5
 returns-5 c = let f = c .before .before .before .before .before .before .before .before .before .before .before .before .before .before .args .file .now in
-    let a : false ≡ not (equal (partOf f 0 16) (bytes "Skeinferry store")) = rw (← c .before .before .before .before .before .before .before .before .before .before .before .before .part .ensures, ← c .before .before .before .before .before .before .before .before .before .before .same .ensures) (sym (c .before .before .before .before .before .before .before .before .before .if1 .left)) in
-    let b : false ≡ not (eqb (numberAt 2 f 16) 1) = rw (← c .before .before .before .before .before .before .before .before .two-at .ensures, eq-eqb _ 1 (c .before .before .before .before .before .before .before .if2 .left)) in
+    let a : false ≡ not (equal (partOf f 0 versionAt) name) = rw (← c .before .before .before .before .before .before .before .before .before .before .before .before .part .ensures, ← c .before .before .before .before .before .before .before .before .before .before .same .ensures) (sym (c .before .before .before .before .before .before .before .before .before .if1 .left)) in
+    let b : false ≡ not (eqb (numberAt 2 f versionAt) 1) = rw (← c .before .before .before .before .before .before .before .before .two-at .ensures, eq-eqb _ 1 (c .before .before .before .before .before .before .before .if2 .left)) in
     let w : false ≡ sizesWrong f = sym (c .before .before .before .before .before .if3 .left) ∙ c .before .before .before .before .before .before .sizes-wrong .ensures in
     let d : false ≡ not (eqb (length f) (fileSize (rowsOf f))) = rw (← c .before .before .before .before .rows .ensures .0, eq-eqb _ _ (c .before .before .before .if4 .left)) in
-    let e : true ≡ not (eqb (fileSum f) (numberAt 4 f 24)) = rw (← c .before .before .file-sum .ensures, ← c .before .four-at .ensures, ne-eqb _ _ (c .if5 .taken)) in
+    let e : true ≡ not (eqb (fileSum f) (numberAt 4 f bodySumAt)) = rw (← c .before .before .file-sum .ensures, ← c .before .four-at .ensures, ne-eqb _ _ (c .if5 .taken)) in
     judged-by f _ _ _ _ _ _ a b w d e refl
 
--- src/judged.rt:106:5
 choose-requires : tie.Need-choose-requires
 choose-requires c κs = search needs
 
--- src/judged.rt:88:1
 returns-6 : tie.Need-returns-6
 returns-6 c = let f = c .before .before .before .before .before .before .before .before .before .before .before .before .before .before .before .args .file .now in
-    let a : false ≡ not (equal (partOf f 0 16) (bytes "Skeinferry store")) = rw (← c .before .before .before .before .before .before .before .before .before .before .before .before .before .part .ensures, ← c .before .before .before .before .before .before .before .before .before .before .before .same .ensures) (sym (c .before .before .before .before .before .before .before .before .before .before .if1 .left)) in
-    let b : false ≡ not (eqb (numberAt 2 f 16) 1) = rw (← c .before .before .before .before .before .before .before .before .before .two-at .ensures, eq-eqb _ 1 (c .before .before .before .before .before .before .before .before .if2 .left)) in
+    let a : false ≡ not (equal (partOf f 0 versionAt) name) = rw (← c .before .before .before .before .before .before .before .before .before .before .before .before .before .part .ensures, ← c .before .before .before .before .before .before .before .before .before .before .before .same .ensures) (sym (c .before .before .before .before .before .before .before .before .before .before .if1 .left)) in
+    let b : false ≡ not (eqb (numberAt 2 f versionAt) 1) = rw (← c .before .before .before .before .before .before .before .before .before .two-at .ensures, eq-eqb _ 1 (c .before .before .before .before .before .before .before .before .if2 .left)) in
     let w : false ≡ sizesWrong f = sym (c .before .before .before .before .before .before .if3 .left) ∙ c .before .before .before .before .before .before .before .sizes-wrong .ensures in
     let d : false ≡ not (eqb (length f) (fileSize (rowsOf f))) = rw (← c .before .before .before .before .before .rows .ensures .0, eq-eqb _ _ (c .before .before .before .before .if4 .left)) in
-    let e : false ≡ not (eqb (fileSum f) (numberAt 4 f 24)) = rw (← c .before .before .before .file-sum .ensures, ← c .before .before .four-at .ensures, eq-eqb _ _ (c .before .if5 .left)) in
+    let e : false ≡ not (eqb (fileSum f) (numberAt 4 f bodySumAt)) = rw (← c .before .before .before .file-sum .ensures, ← c .before .before .four-at .ensures, eq-eqb _ _ (c .before .if5 .left)) in
     judged-by f _ _ _ _ _ _ a b w d e (c .choose .ensures)
 
 pub judge-spec : {M : Type 1} → statement M

@@ -6,19 +6,15 @@ use borrow.Author.Needs.{needs}
 use Rattle.lasting.proofs.links.link.Statement.{statement}
 use Rattle.lasting.proofs.links.link.Tie as tie
 
--- src/parts.rt:92:26
 mul-result : tie.Need-mul-result
 mul-result c = search needs
 
--- src/parts.rt:92:26
 shared-slice-read-result : tie.Need-shared-slice-read-result
 shared-slice-read-result c = search needs
 
--- src/parts.rt:89:1
 returns : tie.Need-returns
 returns c = search needs
 
--- src/parts.rt:89:1
 returns-2 : tie.Need-returns-2
 returns-2 c = sym (List·getD-eq-default (now (c .before .args .links)) 0 (omega arith))
 

@@ -14,46 +14,36 @@ Inv-loop file₀ at links i₀ file i = (putting links at i file ≡ putting lin
 abbrev μ-loop : tie.MeasureT-loop
 μ-loop file₀ at links i₀ file i = 2024 - i
 
--- src/parts.rt:101:5
 loop-holds : tie.Need-loop-holds Inv-loop μ-loop
 loop-holds c = (refl, refl)
 
--- src/parts.rt:102:28
 mul-put-two : tie.Need-mul-put-two Inv-loop μ-loop
 mul-put-two c = search needs
 
--- src/parts.rt:102:23
 add-put-two : tie.Need-add-put-two Inv-loop μ-loop
 add-put-two c = search needs
 
--- src/parts.rt:102:35
 link-requires : tie.Need-link-requires Inv-loop μ-loop
 link-requires c κs = search needs
 
--- src/parts.rt:102:9
 put-two-requires : tie.Need-put-two-requires Inv-loop μ-loop
 put-two-requires c κs = search needs
 
--- src/parts.rt:103:9
 add-i : tie.Need-add-i Inv-loop μ-loop
 add-i c = search needs
 
--- src/parts.rt:101:5
 loop-less : tie.Need-loop-less Inv-loop μ-loop
 loop-less c = omega arith
 
--- src/parts.rt:101:5
 loop-again : tie.Need-loop-again Inv-loop μ-loop
 loop-again c = let a = c .before .before .before .before .before .before .before .before .before .args in let l = c .before .before .before .before .before .before .loop in (
   rw (c .before .before .put-two .ensures, c .before .before .before .link .ensures) (sym (put-next (a .links .now) (a .at) (l .i) (l .file) (c .before .before .before .before .before .loop-test .taken)) ∙ l .inv .0),
   rw (c .before .before .put-two .ensures, length-sets) (l .inv .1),
 )
 
--- src/parts.rt:96:1
 same-length : tie.Need-same-length Inv-loop μ-loop
 same-length c = c .before .loop .inv .1
 
--- src/parts.rt:96:1
 returns : tie.Need-returns Inv-loop μ-loop
 returns c = let a = c .before .before .before .before .args in let l = c .before .loop in sym (put-end (a .links .now) (a .at) (l .i) (l .file) (c .loop-test .left)) ∙ l .inv .0 ∙ start-putting (a .links .now) (a .at) (a .file .now)
 

@@ -4,23 +4,18 @@ use borrow.Author.Needs.{needs}
 use Rattle.lasting.proofs.links.set_link.Statement.{statement}
 use Rattle.lasting.proofs.links.set_link.Tie as tie
 
--- src/parts.rt:111:9
 mul-links : tie.Need-mul-links
 mul-links c = search needs
 
--- src/parts.rt:111:9
 slice-write-links : tie.Need-slice-write-links
 slice-write-links c = search needs
 
--- src/parts.rt:107:1
 same-length : tie.Need-same-length
 same-length c = search needs
 
--- src/parts.rt:107:1
 returns : tie.Need-returns
 returns c = search needs
 
--- src/parts.rt:107:1
 returns-2 : tie.Need-returns-2
 returns-2 c = sym (set-out _ _ _ (c .if1 .left))
 

@@ -13,46 +13,36 @@ Inv-loop file at links₀ i₀ links i = (taking file at i links ≡ taking file
 abbrev μ-loop : tie.MeasureT-loop
 μ-loop file at links₀ i₀ links i = 2024 - i
 
--- src/parts.rt:121:5
 loop-holds : tie.Need-loop-holds Inv-loop μ-loop
 loop-holds c = (refl, refl)
 
--- src/parts.rt:122:46
 mul-two-at : tie.Need-mul-two-at Inv-loop μ-loop
 mul-two-at c = search needs
 
--- src/parts.rt:122:41
 add-two-at : tie.Need-add-two-at Inv-loop μ-loop
 add-two-at c = search needs
 
--- src/parts.rt:122:28
 two-at-requires : tie.Need-two-at-requires Inv-loop μ-loop
 two-at-requires c κs = omega (arith, c .before .before .before .before .before .pre)
 
--- src/parts.rt:122:9
 set-link-requires : tie.Need-set-link-requires Inv-loop μ-loop
 set-link-requires c κs = search needs
 
--- src/parts.rt:123:9
 add-i : tie.Need-add-i Inv-loop μ-loop
 add-i c = search needs
 
--- src/parts.rt:121:5
 loop-less : tie.Need-loop-less Inv-loop μ-loop
 loop-less c = omega arith
 
--- src/parts.rt:121:5
 loop-again : tie.Need-loop-again Inv-loop μ-loop
 loop-again c = let a = c .before .before .before .before .before .before .before .before .before .args in let l = c .before .before .before .before .before .before .loop in (
   rw (c .before .before .set-link .ensures, c .before .before .before .two-at .ensures) (sym (take-next (a .file .now) (a .at) (l .i) (l .links) (c .before .before .before .before .before .loop-test .taken)) ∙ l .inv .0),
   rw (c .before .before .set-link .ensures, length-set) (l .inv .1),
 )
 
--- src/parts.rt:116:1
 same-length : tie.Need-same-length Inv-loop μ-loop
 same-length c = c .before .loop .inv .1
 
--- src/parts.rt:116:1
 returns : tie.Need-returns Inv-loop μ-loop
 returns c = let a = c .before .before .before .before .args in let l = c .before .loop in sym (take-end (a .file .now) (a .at) (l .i) (l .links) (c .loop-test .left)) ∙ l .inv .0 ∙ start-taking (a .file .now) (a .at) (a .links .now)
 

@@ -4,47 +4,36 @@ use borrow.Author.Needs.{needs}
 use Rattle.lasting.proofs.saved.place.Statement.{statement}
 use Rattle.lasting.proofs.saved.place.Tie as tie
 
--- src/saved.rt:87:16
 cast-rows : tie.Need-cast-rows
 cast-rows c = search needs
 
--- src/saved.rt:88:5
 put-head-requires : tie.Need-put-head-requires
 put-head-requires c κs = search needs
 
--- src/saved.rt:89:5
 put-requires : tie.Need-put-requires
 put-requires c κs = search needs
 
--- src/saved.rt:90:5
 put-links-requires : tie.Need-put-links-requires
 put-links-requires c κs = search needs
 
--- src/saved.rt:91:5
 put-requires-2 : tie.Need-put-requires-2
 put-requires-2 c κs = search needs
 
--- src/saved.rt:92:5
 put-requires-3 : tie.Need-put-requires-3
 put-requires-3 c κs = search needs
 
--- src/saved.rt:93:20
 cast-result : tie.Need-cast-result
 cast-result c = search needs
 
--- src/saved.rt:93:14
 mul-result : tie.Need-mul-result
 mul-result c = search needs
 
--- src/saved.rt:93:5
 add-result : tie.Need-add-result
 add-result c = search needs
 
--- src/saved.rt:78:1
 same-length : tie.Need-same-length
 same-length c = search needs
 
--- src/saved.rt:78:1
 returns : tie.Need-returns
 unfolding placed
 returns c = (refl, rw (c .before .before .put3 .ensures, c .before .before .before .before .before .before .put2 .ensures, c .before .before .before .before .before .before .before .before .before .before .put-links .ensures, c .before .before .before .before .before .before .before .before .before .before .before .before .before .before .put .ensures, c .before .before .before .before .before .before .before .before .before .before .before .before .before .before .before .before .before .before .put-head .ensures))

@@ -2,19 +2,15 @@ use borrow.Author.Needs.{needs}
 use Rattle.lasting.proofs.saved.seal.Statement.{statement}
 use Rattle.lasting.proofs.saved.seal.Tie as tie
 
--- src/saved.rt:100:9
 file-sum-requires : tie.Need-file-sum-requires
 file-sum-requires c κs = search needs
 
--- src/saved.rt:101:5
 put-four-requires : tie.Need-put-four-requires
 put-four-requires c κs = search needs
 
--- src/saved.rt:97:1
 same-length : tie.Need-same-length
 same-length c = search needs
 
--- src/saved.rt:97:1
 returns : tie.Need-returns
 returns c = rw (c .before .before .put-four .ensures, c .before .before .before .before .file-sum .ensures)
 

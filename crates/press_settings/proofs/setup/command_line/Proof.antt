@@ -9,39 +9,30 @@ Inv-loop s₀ left₀ s left = Unit {0}
 abbrev μ-loop : tie.MeasureT-loop
 μ-loop s₀ left₀ s left = left
 
--- src/setup.rt:109:16
 arg-count-requires : tie.Need-arg-count-requires Inv-loop μ-loop
 arg-count-requires c κs = search needs
 
--- src/setup.rt:117:5
 loop-holds : tie.Need-loop-holds Inv-loop μ-loop
 loop-holds c = tt
 
--- src/setup.rt:119:13
 returns : tie.Need-returns Inv-loop μ-loop
 returns c = search needs
 
--- src/setup.rt:122:13
 returns-2 : tie.Need-returns-2 Inv-loop μ-loop
 returns-2 c = search needs
 
--- src/setup.rt:124:9
 option-requires : tie.Need-option-requires Inv-loop μ-loop
 option-requires c κs = search needs
 
--- src/setup.rt:125:9
 sub-left : tie.Need-sub-left Inv-loop μ-loop
 sub-left c = search needs
 
--- src/setup.rt:117:5
 loop-less : tie.Need-loop-less Inv-loop μ-loop
 loop-less c = omega arith
 
--- src/setup.rt:117:5
 loop-again : tie.Need-loop-again Inv-loop μ-loop
 loop-again c = tt
 
--- src/setup.rt:102:1
 returns-3 : tie.Need-returns-3 Inv-loop μ-loop
 returns-3 c = search needs
 

@@ -10,35 +10,27 @@ Inv-loop s i₀ i = Unit {0}
 abbrev μ-loop : tie.MeasureT-loop
 μ-loop s i₀ i = s .count - i
 
--- src/setup.rt:178:9
 returns : tie.Need-returns Inv-loop μ-loop
 returns c = search needs
 
--- src/setup.rt:181:5
 loop-holds : tie.Need-loop-holds Inv-loop μ-loop
 loop-holds c = tt
 
--- src/setup.rt:182:13
 readable-file-requires : tie.Need-readable-file-requires Inv-loop μ-loop
 readable-file-requires c κs = search needs
 
--- src/setup.rt:183:13
 returns-2 : tie.Need-returns-2 Inv-loop μ-loop
 returns-2 c = search needs
 
--- src/setup.rt:185:9
 add-i : tie.Need-add-i Inv-loop μ-loop
 add-i c = search needs
 
--- src/setup.rt:181:5
 loop-less : tie.Need-loop-less Inv-loop μ-loop
 loop-less c = omega arith
 
--- src/setup.rt:181:5
 loop-again : tie.Need-loop-again Inv-loop μ-loop
 loop-again c = tt
 
--- src/setup.rt:176:1
 returns-3 : tie.Need-returns-3 Inv-loop μ-loop
 returns-3 c = search needs
 

@@ -6,8 +6,8 @@ use Rattle.session.proofs.Session.label.Tie as tie
 copy-requires : tie.Need-copy-requires
 copy-requires c κs = search needs
 
-draw-active-requires : tie.Need-draw-active-requires
-draw-active-requires c κs = search needs
+draw-requires : tie.Need-draw-requires
+draw-requires c κs = search needs
 
 turn-page-requires : tie.Need-turn-page-requires
 turn-page-requires c κs = search needs
@@ -24,15 +24,15 @@ counted-requires c κs = search needs
 same-length : tie.Need-same-length
 same-length c =
     let t = c .before .before .before .before .before in let d = t .before .before .before .before in
-    search (needs, t .turn-page .kept, d .draw-active .kept, d .before .before .before .before .copy .kept)
+    search (needs, t .turn-page .kept, d .draw .kept, d .before .before .before .before .before .copy .kept)
 
 returns : tie.Need-returns
 returns c =
     let t = c .before .before .before .before .before in let d = t .before .before .before .before in
-    label-made _ _ _ _ _ _ _ _ _ _ (d .before .before .before .before .copy .ensures) (d .draw-active .ensures) (t .turn-page .ensures)
+    label-made _ _ _ _ _ _ _ _ _ _ (d .before .before .before .before .before .copy .ensures) (d .draw .ensures) (t .turn-page .ensures)
     (c .before .before .active-declared .ensures) (c .before .moved .ensures) (c .counted .ensures)
 
 pub label-spec : {M : Type 1} → statement M
 label-spec =
     tie.close
-    (tie.spec copy-requires draw-active-requires turn-page-requires active-declared-requires moved-requires counted-requires same-length returns)
+    (tie.spec copy-requires draw-requires turn-page-requires active-declared-requires moved-requires counted-requires same-length returns)
