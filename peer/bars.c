@@ -1,4 +1,4 @@
-/* bars.c: the four bar types, each as a row of widths: a bar, a space, a bar, and so on.
+/* bars.c: the four bar types, each as a row of widths: a bar, a space, a bar, and so on; and the line under the bars.
  *
  * Code 39 and Interleaved 2 of 5 have narrow and wide elements; EAN-13 and Code 128 count modules of the narrow width.
  * No quiet zones.
@@ -148,20 +148,54 @@ unsigned bar_widths(enum bar_type type, int narrow, int wide, const uint8_t *dat
     return w.count;
 }
 
-/* Bars are set black over the whole height; "spaces leave dots as they are". t.high is lent, t.wide is set here. */
-void draw_bars(struct paper *p, struct turned t, enum bar_type type, int narrow, int wide, const uint8_t *data,
-               unsigned length)
+/* Bars are set black over the whole height; "spaces leave dots as they are". x: where the first bar stands in the unturned
+ * box t. */
+static void draw_bars(struct paper *p, const struct turned *t, int x, int high, const uint8_t *widths, unsigned count)
 {
-    uint8_t widths[MOST_BARS];
-    unsigned count = bar_widths(type, narrow, wide, data, length, widths);
-    int x = 0;
-
-    t.wide = 0;
-    for (unsigned i = 0; i < count; i++)
-        t.wide += widths[i];
     for (unsigned i = 0; i < count; i++) {
         if (i % 2 == 0)
-            draw_turned(p, &t, x, 0, widths[i], t.high, BLACK);
+            draw_turned(p, t, x, 0, widths[i], high, BLACK);
         x += widths[i];
     }
+}
+
+/* ---- the line under the bars ---- */
+
+/* The line is the data, "with the EAN check digit"; Code 39 shows no `*` and Code 128 no check. Without a line: no bytes. */
+static unsigned line_bytes(const struct symbol *s, uint8_t *line)
+{
+    if (s->place == 'N')
+        return 0;
+    memcpy(line, s->data, s->length);
+    if (s->type != EAN_13)
+        return s->length;
+    line[s->length] = (uint8_t)('0' + ean_check(s->data));
+    return s->length + 1;
+}
+
+/* What stands left of the narrower one when so many dots are spare: "C with the smaller half left". */
+static int spare_left(char place, int spare)
+{
+    switch (place) {
+    case 'C': return spare / 2;
+    case 'R': return spare;
+    default: return 0;
+    }
+}
+
+/* "The box is as wide as the wider of the two", and the line stands directly under the bars. Of the two the wider has no spare
+ * dots. t holds corner and turn; the rest is set here. */
+void draw_symbol(struct paper *p, struct turned t, const struct symbol *s)
+{
+    const struct pen pen = {s->font, 1, 1, BLACK};
+    uint8_t widths[MOST_BARS], line[MOST_DATA];
+    unsigned count = bar_widths(s->type, s->narrow, s->wide, s->data, s->length, widths), shown = line_bytes(s, line);
+    int bars = 0, text = (int)(shown * s->font->width);
+
+    for (unsigned i = 0; i < count; i++)
+        bars += widths[i];
+    t.wide = bars > text ? bars : text;
+    t.high = s->high + (shown > 0 ? (int)s->font->height : 0);
+    draw_bars(p, &t, spare_left(s->place, t.wide - bars), s->high, widths, count);
+    draw_glyphs(p, &t, spare_left(s->place, t.wide - text), s->high, &pen, line, shown);
 }

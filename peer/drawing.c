@@ -141,16 +141,31 @@ static bool glyph_dot(const uint8_t *row, unsigned x)
     return row[x / 8] >> (7 - x % 8) & 1;
 }
 
-/* One row of a glyph, each run of dots as one box. left: of the cell, in dots of the unturned box. */
-static void draw_glyph_row(struct paper *p, const struct turned *t, const uint8_t *row, unsigned width, int left, int y, int h,
-                           int v, enum ink ink)
+/* One row of a glyph, each run of dots as one box. x: of the cell, y: of the row, in dots of the unturned box. */
+static void draw_glyph_row(struct paper *p, const struct turned *t, int x, int y, const struct pen *pen, const uint8_t *row)
 {
-    for (unsigned x = 0; x < width; x++) {
-        unsigned from = x;
-        while (x < width && glyph_dot(row, x))
-            x++;
-        if (x > from)
-            draw_turned(p, t, left + (int)from * h, y, (int)(x - from) * h, v, ink);
+    unsigned width = pen->font->width;
+
+    for (unsigned at = 0; at < width; at++) {
+        unsigned from = at;
+        while (at < width && glyph_dot(row, at))
+            at++;
+        if (at > from)
+            draw_turned(p, t, x + (int)from * pen->h, y, (int)(at - from) * pen->h, pen->v, pen->ink);
+    }
+}
+
+void draw_glyphs(struct paper *p, const struct turned *t, int x, int y, const struct pen *pen, const uint8_t *text,
+                 unsigned length)
+{
+    const struct font *f = pen->font;
+
+    for (unsigned i = 0; i < length; i++, x += (int)f->width * pen->h) {
+        const uint8_t *glyph = f->glyph[text[i]];
+        if (!glyph)
+            continue;  /* "A missing code draws as blank" */
+        for (unsigned row = 0; row < f->height; row++)
+            draw_glyph_row(p, t, x, y + (int)row * pen->v, pen, glyph + row * f->row_bytes);
     }
 }
 
@@ -158,20 +173,13 @@ static void draw_glyph_row(struct paper *p, const struct turned *t, const uint8_
 void draw_text(struct paper *p, struct turned t, int h, int v, char mode, const struct font *f, const uint8_t *text,
                unsigned length)
 {
-    int cell = (int)f->width * h;
+    struct pen pen = {f, h, v, mode == 'R' ? WHITE : BLACK};
 
-    t.wide = (int)length * cell;
+    t.wide = (int)(length * f->width) * h;
     t.high = (int)f->height * v;
     if (mode == 'R')
         draw_turned(p, &t, 0, 0, t.wide, t.high, BLACK);
-    for (unsigned i = 0; i < length; i++) {
-        const uint8_t *glyph = f->glyph[text[i]];
-        if (!glyph)
-            continue;
-        for (unsigned y = 0; y < f->height; y++)
-            draw_glyph_row(p, &t, glyph + y * f->row_bytes, f->width, (int)i * cell, (int)y * v, h, v,
-                           mode == 'R' ? WHITE : BLACK);
-    }
+    draw_glyphs(p, &t, 0, 0, &pen, text, length);
 }
 
 /* ---- the turned page ---- */

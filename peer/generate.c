@@ -194,9 +194,15 @@ static void put_x(struct generator *g)
     put_number(g, 0, 2047, chance(g, 80) ? 100 : 620);
 }
 
+/* A row of the page, or now and then one a little below it. */
+static unsigned usual_y(struct generator *g)
+{
+    return g->rows + (chance(g, 10) ? 20 : 0);
+}
+
 static void put_y(struct generator *g, unsigned most)
 {
-    put_number(g, 0, most, g->rows + (chance(g, 10) ? 20 : 0));
+    put_number(g, 0, most, usual_y(g));
 }
 
 static void put_comma(struct generator *g)
@@ -240,9 +246,10 @@ static void put_name(struct generator *g, uint8_t kind, unsigned stored_in_hundr
     put(g, '"');
 }
 
+/* A comma is a little likelier: inside quotes it parts nothing. */
 static uint8_t text_byte(struct generator *g)
 {
-    uint8_t byte = (uint8_t)between(g, 32, 126);
+    uint8_t byte = chance(g, 3) ? ',' : (uint8_t)between(g, 32, 126);
 
     return byte == '"' ? 'Q' : byte;
 }
@@ -330,7 +337,7 @@ static void put_from(struct generator *g, const char *bytes, unsigned length)
 static void put_any_element(struct generator *g, const struct declared *d)
 {
     if (chance(g, 45) || put_value(g, d, false) == 0)
-        put_quoted(g, chance(g, 4) ? between(g, 60, 135) : below(g, 10));
+        put_quoted(g, !chance(g, 4) ? below(g, 10) : chance(g, 40) ? between(g, 126, 130) : between(g, 60, 135));
 }
 
 static void put_stray(struct generator *g)
@@ -350,6 +357,18 @@ static void put_any_data(struct generator *g, const struct declared *d)
         put_stray(g);
 }
 
+/* What is put to so many bytes of values, 46 at most: now and then up to the most that data may show, or a little more. */
+static unsigned usual_fill(struct generator *g, char type, unsigned total)
+{
+    if (type == 'E')
+        return total < 12 ? 12 - total : 0;
+    if (chance(g, 3))
+        return 2 * between(g, 63, 65) - total + (type == '3' ? below(g, 2) : 0);
+    if (type == '2')
+        return total % 2 + 2 * below(g, chance(g, 5) ? 60 : 5);
+    return below(g, chance(g, 5) ? 130 : 9);
+}
+
 /* Digits shown in all: a sum that fits type 2, E30 or 3, unless it is spoilt. */
 static void put_digit_data(struct generator *g, const struct declared *d, char type)
 {
@@ -357,12 +376,7 @@ static void put_digit_data(struct generator *g, const struct declared *d, char t
 
     while (tries-- && total < 12)
         total += put_value(g, d, true);
-    if (type == 'E')
-        fill = total < 12 ? 12 - total : 0;
-    else if (type == '2')
-        fill = total % 2 + 2 * below(g, chance(g, 5) ? 60 : 5);
-    else
-        fill = below(g, chance(g, 5) ? 130 : 9);
+    fill = usual_fill(g, type, total);
     if (chance(g, 10))
         fill += below(g, 3);
     if (total + fill == 0 || (type == '2' && total + fill < 2))
@@ -407,12 +421,12 @@ static void put_frame(struct generator *g)
     put_y(g, 4095);
 }
 
-static void put_corner(struct generator *g, char word)
+static void put_corner(struct generator *g, char word, unsigned usual)
 {
     put(g, (uint8_t)word);
     put_x(g);
     put_comma(g);
-    put_y(g, 4095);
+    put_number(g, 0, 4095, usual);
     put_comma(g);
     put_number(g, 0, 3, 3);
     put_comma(g);
@@ -429,7 +443,7 @@ static void pad_data(struct generator *g)
 
 static void put_text_line(struct generator *g, const struct declared *d)
 {
-    put_corner(g, 'A');
+    put_corner(g, 'A', usual_y(g));
     put_number(g, 1, 6, 2);
     put_comma(g);
     put_number(g, 1, 9, 2);
@@ -439,13 +453,11 @@ static void put_text_line(struct generator *g, const struct declared *d)
         pad_data(g);
 }
 
-static void put_bars_line(struct generator *g, const struct declared *d)
+/* Type, narrow, wide and height. */
+static void put_bar_sizes(struct generator *g, char type)
 {
-    static const char types[] = "32E1";
-    char type = types[below(g, 4)];
     unsigned narrow = chance(g, 80) ? between(g, 1, 2) : between(g, 1, 6);
 
-    put_corner(g, 'B');
     put_words(g, type == 'E' ? "E30" : (const char[]){type, 0});
     put_comma(g);
     if (spoilt(g))
@@ -458,8 +470,39 @@ static void put_bars_line(struct generator *g, const struct declared *d)
     else
         put_digits(g, between(g, narrow + 1, chance(g, 80) ? narrow + 2 : 10));
     put_comma(g);
-    put_number(g, 24, 1000, 40);
-    put_words(g, ",N,");
+    put_number(g, 24, 1000, chance(g, 50) ? 28 : 40);
+    put_comma(g);
+}
+
+/* Words that are not written so, some of them only with what follows: a C that data follows, or nothing at all. */
+static void put_wrong_word(struct generator *g, bool *ends)
+{
+    static const char *const before_data[] = {"BC,", "BR,", "B,L,", "N,C,", "N,R,", "BB,", "b,", "B,C", "B,R", "B,C,C,", "B,R,C,", "B,,",
+                                              "B,c,", "BN,", "C,", "B", "N", ""};
+    static const char *const at_end[] = {"B,", "B,C,", "B,R,", "B,C", "B,R", "B", "N,", "N"};
+
+    *ends = chance(g, 35);
+    put_words(g, *ends ? at_end[below(g, 8)] : before_data[below(g, sizeof before_data / sizeof before_data[0])]);
+}
+
+/* Half of them ask for a line under the bars, and more of them stand in the upper rows, where there is room for it. */
+static void put_bars_line(struct generator *g, const struct declared *d)
+{
+    static const char types[] = "32E1";
+    static const char *const words[] = {"N,", "N,", "N,", "B,", "B,C,", "B,R,"};
+    char type = types[below(g, 4)];
+    bool ends = false;
+
+    put_corner(g, 'B', chance(g, 70) ? g->rows / 3 : usual_y(g));
+    put_bar_sizes(g, type);
+    if (chance(g, 4))
+        put_wrong_word(g, &ends);
+    else
+        put_words(g, words[below(g, 6)]);
+    if (ends)
+        return;
+    if (chance(g, 2))
+        put_stray(g);
     if (type == '1')
         put_any_data(g, d);
     else
@@ -782,7 +825,7 @@ static void put_drawing(struct generator *g, const struct declared *d)
 {
     unsigned k = below(g, 100);
 
-    if (k < 33)
+    if (k < 26)
         put_text_line(g, d);
     else if (k < 62)
         put_bars_line(g, d);
@@ -898,9 +941,9 @@ static void put_idle_line(struct generator *g, const struct view *v)
         put_named(g, "FS", FORM, 8);
     else if (k < 24)
         put_named(g, "FR", FORM, 80);
-    else if (k < 44)
+    else if (k < 48)
         put_drawing(g, &nothing);
-    else if (k < 62)
+    else if (k < 64)
         put_load(g);
     else if (k < 71)
         put_erasure(g);
@@ -1020,7 +1063,7 @@ static size_t write_font(struct generator *g, uint8_t *font, unsigned width, uns
 
 static void make_font(struct generator *g)
 {
-    unsigned width = chance(g, 85) ? between(g, 1, 10) : between(g, 1, 32);
+    unsigned width = chance(g, 60) ? between(g, 1, 10) : between(g, 8, 32);  /* in wide cells a line is wider than its bars */
     unsigned height = chance(g, 85) ? between(g, 1, 9) : between(g, 1, 64);
     unsigned share = chance(g, 60) ? 90 : below(g, 100);
 
@@ -1175,7 +1218,7 @@ static void damage_store(struct generator *g)
 /* A digit or letter in a form changed for one that may be in its place: often another legal form. */
 static void damage_form_slightly(struct generator *g)
 {
-    static const char bytes[] = "00123456789NRLCZVEOGMX,,\".+-a *;\n";
+    static const char bytes[] = "00123456789NRLCZVBEOGMX,,\".+-a *;\n";
     unsigned i = below(g, g->entries);
     const uint8_t *e = entry(g, i);
     unsigned portion = entry_first(e), size = entry_size(e);
@@ -1382,7 +1425,7 @@ uint64_t session_seed(const struct generator *g)
 
 static void choose_sizes(struct generator *g)
 {
-    g->rows = chance(g, 90) ? between(g, 1, 60) : chance(g, 90) ? between(g, 1, 400) : between(g, 1, 4000);
+    g->rows = chance(g, 90) ? between(g, 1, chance(g, 40) ? 60 : 200) : chance(g, 90) ? between(g, 1, 400) : between(g, 1, 4000);
     g->portions = chance(g, 90) ? between(g, 1, 20) : chance(g, 85) ? between(g, 1, 150) : between(g, 1, 2024);
     g->entries = chance(g, 90) ? between(g, 1, 6) : chance(g, 85) ? between(g, 1, 30) : between(g, 1, 512);
     if (rarely(g, 4))
@@ -1484,8 +1527,8 @@ static void spoil_something(struct generator *g)
         make_bad_font(g);
         g->font_damaged = g->font_due = true;
         g->calls_to_repair = between(g, 1, 3);
-    } else if (rarely(g, 5)) {
-        make_font(g);
+    } else if (rarely(g, 15)) {
+        make_font(g);  /* for the labels of forms recorded and bars drawn with another */
         g->font_due = true;
     }
 }

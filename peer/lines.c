@@ -263,6 +263,27 @@ static void text_line(struct reader *r, struct command *c)
     data(r, c);
 }
 
+/* After `B,` a place is C or R with its own comma. A C that no comma follows begins the data: `B,C0` is the data C0. */
+static bool place_follows(const struct reader *r)
+{
+    return r->length - r->place >= 2 && (next(r) == 'C' || next(r) == 'R') && r->line[r->place + 1] == ',';
+}
+
+/* `N`, `B`, `B,C` or `B,R`, and the comma before the data. Gives N, or the place: L, C or R. */
+static char line_under_bars(struct reader *r)
+{
+    char place = letter(r, "NB");
+
+    comma(r);
+    if (place != 'B')
+        return place;
+    if (!place_follows(r))
+        return 'L';
+    place = letter(r, "CR");
+    comma(r);
+    return place;
+}
+
 static void bars_line(struct reader *r, struct command *c)
 {
     static const uint32_t corner[3][2] = {{0, 2047}, {0, 4095}, {0, 3}};
@@ -276,8 +297,7 @@ static void bars_line(struct reader *r, struct command *c)
     if (c->n[4] <= c->n[3])
         r->within = false;  /* "wide f 2..10 and above e, else 7" */
     comma(r);
-    letter(r, "N");
-    comma(r);
+    c->letter = line_under_bars(r);
     data(r, c);
 }
 

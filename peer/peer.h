@@ -8,7 +8,7 @@
  *   store.c    portions, links, chains, directory entries, names, listings
  *   picture.c  legal pictures and their drawing
  *   drawing.c  boxes, turns, frames, text and its font
- *   bars.c     the four bar types
+ *   bars.c     the four bar types and the line under the bars
  *   sound.c    the session image and the rule of a sound memory
  *   station.c  the three calls
  */
@@ -86,7 +86,8 @@ struct command {
     enum word word;
     uint32_t n[6];       /* the numbers of the line in their order */
     bool minus;          /* the step of C is below zero */
-    char letter;         /* T or B of Z, mode of A, justification of V */
+    char letter;         /* T or B of Z, mode of A, justification of V; of B where the narrower of line and bars stands: L, C
+                            or R, or N when there is no line */
     enum bar_type type;
     struct name name;    /* in capitals */
     bool every;          /* "*" after FK or GK */
@@ -193,6 +194,13 @@ struct font {
     const uint8_t *glyph[127];  /* NULL where the code is missing */
 };
 
+/* How glyphs are written: h scales along the text, v across it. */
+struct pen {
+    const struct font *font;
+    int h, v;
+    enum ink ink;
+};
+
 bool read_font(const uint8_t *bytes, size_t length, struct font *f);
 void draw_box(struct paper *p, int x, int y, int wide, int high, enum ink ink);
 void draw_turned(struct paper *p, const struct turned *t, int x, int y, int wide, int high, enum ink ink);
@@ -201,10 +209,23 @@ void draw_text(struct paper *p, struct turned t, int h, int v, char mode, const 
                unsigned length);
 void turn_paper(struct paper *p);
 
+/* The glyph dots of text whose first cell has its corner at x,y inside the unturned box t. */
+void draw_glyphs(struct paper *p, const struct turned *t, int x, int y, const struct pen *pen, const uint8_t *text,
+                 unsigned length);
+
 /* ---- bars.c ---- */
 
-void draw_bars(struct paper *p, struct turned t, enum bar_type type, int narrow, int wide, const uint8_t *data,
-               unsigned length);
+/* The fields of B, and what they need: the data it shows and the font of the line. */
+struct symbol {
+    enum bar_type type;
+    int narrow, wide, high;
+    char place;               /* as the letter of a command */
+    const struct font *font;
+    const uint8_t *data;
+    unsigned length;
+};
+
+void draw_symbol(struct paper *p, struct turned t, const struct symbol *s);
 
 /* Bars and spaces in turn, a bar first; every width in dots. Gives their number. */
 enum { MOST_BARS = 2048 };

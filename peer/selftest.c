@@ -1,4 +1,5 @@
-/* selftest.c: paper 01's sample session and its ten proof cases, as far as the three calls show them, and drawing dot by dot.
+/* selftest.c: paper 01's sample session and its ten proof cases, as far as the three calls show them, paper 02's line under the
+ * bars, and drawing dot by dot.
  *
  *   selftest                   runs all of them
  *   selftest bars TYPE W DATA  writes the modules of one symbol, narrow 1 and wide W, as 1 (bar) and 0, for zint-check
@@ -28,6 +29,12 @@ struct bench {
 
 static const uint8_t empty_font[] = {1, 2, 0, 8, 8, 255, 0, 0};
 
+static void lend_font(struct bench *b, const uint8_t *font, size_t length)
+{
+    put_on_desk(&b->desk, FONT, font, length);
+    b->length[FONT] = length;
+}
+
 static void open_bench(struct bench *b, unsigned rows, const uint8_t *font, size_t font_length)
 {
     size_t room[SLICES];
@@ -36,8 +43,7 @@ static void open_bench(struct bench *b, unsigned rows, const uint8_t *font, size
     usual_lengths(b->length, rows, 64, 8, 65536);
     usual_room(room, b->length, 65536, 65536);
     set_up_desk(&b->desk, room, 0xa5);
-    put_on_desk(&b->desk, FONT, font, font_length);
-    b->length[FONT] = font_length;
+    lend_font(b, font, font_length);
     if (call_station(&peer_station, &b->desk, OPEN, b->length) != 0)
         abort();
 }
@@ -318,6 +324,203 @@ static void turn_cases(void)
     clear_away(&turned.desk);
 }
 
+/* ---- the line under the bars ---- */
+
+/* The fields of a B between its corner and its word, its data, what its line must show, and both widths with the telling
+ * font, whose cells are 8 by 2. */
+struct lined {
+    const char *fields, *data, *shown;
+    int high, bars, line;
+};
+
+/* What stands left of one of the two when the box has so many dots to spare for it. */
+static int moved(const char *word, int spare)
+{
+    return strcmp(word, "B,C") == 0 ? spare / 2 : strcmp(word, "B,R") == 0 ? spare : 0;
+}
+
+/* Dot (x,y) of the unturned box, told without a line under bars: bars come from a B with N at 0,0, the line from an A at 0,0. */
+static int box_dot(const struct bench *bars, const struct bench *line, const struct lined *l, const char *word, int x, int y)
+{
+    int wide = l->bars > l->line ? l->bars : l->line;
+
+    if (y < l->high) {
+        x -= moved(word, wide - l->bars);
+        return x >= 0 && x < l->bars && dot(bars, BACKGROUND, x, y);
+    }
+    x -= moved(word, wide - l->line);
+    return x >= 0 && x < l->line && dot(line, BACKGROUND, x, y - l->high);
+}
+
+/* The line of B at x,y with turn r on a page that was white, each dot of its box against box_dot. */
+static int lined_well(const struct bench *bars, const struct bench *line, struct bench *both, const struct lined *l,
+                      const char *word, int x, int y, int r)
+{
+    int wide = l->bars > l->line ? l->bars : l->line, high = l->high + 2, seen = 0, wrong = 0, to_x, to_y;
+    char text[256];
+
+    sprintf(text, "B%d,%d,%d,%s,%s,\"%s\"", x, y, r, l->fields, word, l->data);
+    if (send(both, "N") != 0 || send(both, text) != 0)
+        return 0;
+    for (int v = 0; v < high; v++)
+        for (int u = 0; u < wide; u++) {
+            int black = box_dot(bars, line, l, word, u, v);
+            turn_dot(r, wide, high, u, v, &to_x, &to_y);
+            if (!inside(both, x + to_x, y + to_y))
+                continue;
+            seen += black;
+            wrong += black != dot(both, BACKGROUND, x + to_x, y + to_y);
+        }
+    return wrong == 0 && seen == (int)black_dots(both, BACKGROUND);
+}
+
+/* One B with its line at places up to and over the edge, in four turns; its bars and line by themselves first. */
+static int lined_anywhere(struct bench *bars, struct bench *line, struct bench *both, const struct lined *l, const char *word)
+{
+    char text[256];
+    int well;
+
+    sprintf(text, "B0,0,0,%s,N,\"%s\"", l->fields, l->data);
+    well = send(bars, "N") == 0 && send(bars, text) == 0 && bars_wide(bars) == l->bars;
+    sprintf(text, "A0,0,0,1,1,N,\"%s\"", l->shown);
+    well &= send(line, "N") == 0 && send(line, text) == 0 && l->line == 8 * (int)strlen(l->shown);
+    for (int r = 0; r < 4; r++)
+        for (int x = 0; x < 340; x += 17)
+            well &= lined_well(bars, line, both, l, word, x, 3 * x / 4, r);
+    return well;
+}
+
+static void lined_cases(void)
+{
+    static const struct lined samples[] = {
+        {"1,1,2,24", "A", "A", 24, 46, 8},
+        {"3,2,5,31", "1", "1", 31, 85, 8},
+        {"2,2,5,24", "12", "12", 24, 49, 16},
+        {"2,1,2,24", "12345678", "12345678", 24, 64, 64},
+        {"2,1,3,24", "12", "12", 24, 27, 16},
+        {"2,1,2,30", "1234567890", "1234567890", 30, 78, 80},
+        {"E30,1,2,24", "123456789012", "1234567890128", 24, 95, 104},
+        {"E30,2,3,24", "400638133393", "4006381333931", 24, 190, 104}};
+    static const char *const words[] = {"B", "B,C", "B,R"};
+    static const char *const told[] = {"B: line and bars at the left, four turns, cut at the edge",
+                                       "B,C: the narrower in the middle, the smaller half left",
+                                       "B,R: the narrower at the right, all dot by dot"};
+    static uint8_t font[1024];
+    size_t length = telling_font(font);
+    struct bench bars, line, both;
+
+    open_bench(&bars, 40, font, length);
+    open_bench(&line, 40, font, length);
+    open_bench(&both, 300, font, length);
+    send(&both, "q333");
+    send(&both, "Q277,0");
+    for (unsigned w = 0; w < 3; w++) {
+        int well = 1;
+        for (unsigned i = 0; i < sizeof samples / sizeof samples[0]; i++)
+            well &= lined_anywhere(&bars, &line, &both, &samples[i], words[w]);
+        check(told[w], well);
+    }
+    clear_away(&bars.desk);
+    clear_away(&line.desk);
+    clear_away(&both.desk);
+}
+
+/* With the telling font a row of the line is its bytes. */
+static int row_is(const struct bench *b, enum slice s, int y, const char *bytes, unsigned length)
+{
+    const uint8_t *row = b->desk.bytes[s] + y * ROW_BYTES;
+
+    for (unsigned i = 0; i < ROW_BYTES; i++)
+        if (row[i] != (i < length ? (uint8_t)bytes[i] : 0))
+            return 0;
+    return 1;
+}
+
+static void line_cases(void)
+{
+    static uint8_t font[1024];
+    struct bench b;
+    unsigned black;
+
+    open_bench(&b, 40, font, telling_font(font));
+    check("the line is the data: no * around Code 39",
+          send(&b, "B0,0,0,3,1,2,24,B,\"LP-1\"") == 0 && row_is(&b, BACKGROUND, 24, "LP-1", 4)
+              && row_is(&b, BACKGROUND, 25, "LP-1", 4) && row_is(&b, BACKGROUND, 26, "", 0));
+    send(&b, "N");
+    check("no check after Code 128",
+          send(&b, "B0,0,0,1,1,2,24,B,\"Lens\"\" 7\"") == 0 && row_is(&b, BACKGROUND, 24, "Lens 7", 6));
+    send(&b, "N");
+    check("E30: twelve digits and the check digit",
+          send(&b, "B0,0,0,E30,1,2,24,B,\"123456789012\"") == 0 && row_is(&b, BACKGROUND, 24, "1234567890128", 13));
+    send(&b, "N");
+    check("right of 46 dots of bars: 38 dots of them before the line",
+          send(&b, "B2,0,0,1,1,2,24,B,R,\"A\"") == 0 && row_is(&b, BACKGROUND, 24, "\0\0\0\0\0A", 6));
+    send(&b, "LO0,0,608,40");
+    black = black_dots(&b, BACKGROUND);
+    check("all else stays: on black nothing turns white",
+          send(&b, "B8,3,1,1,1,2,24,B,C,\"Lens\"") == 0 && black_dots(&b, BACKGROUND) == black);
+    clear_away(&b.desk);
+}
+
+/* In a form the font is the label call's: here cells of 24 by 1, and only the 7 has a glyph. */
+static void line_in_form_case(void)
+{
+    static const uint8_t wide[] = {1, 2, 0, 24, 1, 2, 4, 0, '7', 0xa1, 0xb2, 0xc3, 255, 0, 0};
+    const char *lines[] = {"FS\"F\"", "C0,1,+1,\"\"", "B000,0,00,2,01,2,024,B,R,\"7\"C0L01", "FE", "FR\"F\"", "?C0,7", "P2"};
+    static const char listing[] = "C0,1,+1,\"\"\nB0,0,0,2,1,2,24,B,R,\"7\"C0L1\n";
+    static uint8_t font[1024];
+    unsigned refused = 0;
+    struct bench b;
+
+    open_bench(&b, 40, font, telling_font(font));
+    for (unsigned i = 0; i < 7; i++)
+        refused += send(&b, lines[i]) != 0;
+    lend_font(&b, wide, sizeof wide);
+    refused += label(&b) != 0;
+    check("in a form the font is the label call's",
+          refused == 0 && row_is(&b, PAGE, 24, "\xa1\xb2\xc3\xa1\xb2\xc3", 6) && row_is(&b, PAGE, 25, "", 0));
+    check("there the bars are the narrower: 26 dots left of them", !dot(&b, PAGE, 25, 0) && dot(&b, PAGE, 26, 0) && dot(&b, PAGE, 47, 0));
+    check("the next label: the next number, a missing glyph blank",
+          label(&b) == 0 && row_is(&b, PAGE, 24, "\xa1\xb2\xc3", 3));
+    check("the listing has the word as it was written",
+          send(&b, "FP\"F\"") == 0 && count(&b, 1) == sizeof listing - 1
+              && memcmp(b.desk.bytes[OUTPUT], listing, sizeof listing - 1) == 0);
+    clear_away(&b.desk);
+}
+
+/* What may stand between height and data. In the form C0 and V1, of two digits each, are declared. */
+static void word_cases(void)
+{
+    static const struct {
+        const char *end;
+        unsigned answer, outside;
+    } words[] = {
+        {"N,\"12\"", 0, 0}, {"B,\"12\"", 0, 0}, {"B,C,\"12\"", 0, 0}, {"B,R,\"12\"", 0, 0}, {"B,C0", 0, 13}, {"B,C,C0", 0, 13},
+        {"B,R,C0", 0, 13}, {"B,V1", 0, 13}, {"B,R,V1", 0, 13}, {"N,C0", 0, 13}, {"B,\",,\"", 0, 0}, {"B,C,\"C,\"", 0, 0},
+        {"BC,\"12\"", 6, 6}, {"B,L,\"12\"", 6, 6}, {"N,C,\"12\"", 6, 6}, {"B,", 6, 6}, {"N,R,\"12\"", 6, 6}, {"BR,\"12\"", 6, 6},
+        {"B,C,", 6, 6}, {"B,R,", 6, 6}, {"B,C", 6, 6}, {"B,R", 6, 6}, {"B", 6, 6}, {"B,C\"12\"", 6, 6}, {"B,R\"12\"", 6, 6},
+        {"B,CC0", 6, 6}, {"B,RC0", 6, 6}, {"B,C,R,\"12\"", 6, 6}, {"B,C,C,C0", 6, 6}, {"B,,\"12\"", 6, 6}, {"B,c,\"12\"", 6, 6},
+        {"b,\"12\"", 6, 6}, {"BB,\"12\"", 6, 6}, {"B\"12\"", 6, 6}, {"B,C,\"\"", 15, 15}, {"B,\"\"", 15, 15}};
+    unsigned wrong = 0;
+    struct bench b;
+    char line[64];
+
+    open_bench(&b, 40, empty_font, sizeof empty_font);
+    for (unsigned i = 0; i < sizeof words / sizeof words[0]; i++) {
+        sprintf(line, "B0,0,0,1,1,2,24,%s", words[i].end);
+        wrong += send(&b, line) != words[i].outside;
+    }
+    wrong += send(&b, "FS\"F\"") != 0 || send(&b, "C0,2,+1,\"\"") != 0 || send(&b, "V1,2,Z,\"\"") != 0;
+    for (unsigned i = 0; i < sizeof words / sizeof words[0]; i++) {
+        sprintf(line, "B0,0,0,1,1,2,24,%s", words[i].end);
+        wrong += send(&b, line) != words[i].answer;
+    }
+    check("N, B, B,C and B,R; B,C0 is the data C0; other words are 6", wrong == 0);
+    clear_away(&b.desk);
+}
+
+/* ---- rectangles, the turned page, a picture ---- */
+
 /* Rectangles in each ink, kept dot by dot in a second page. */
 static void rectangle_cases(void)
 {
@@ -426,6 +629,10 @@ int main(int argc, char **argv)
     variable_case();
     limit_cases();
     turn_cases();
+    lined_cases();
+    line_cases();
+    line_in_form_case();
+    word_cases();
     rectangle_cases();
     picture_case();
     return failures != 0;

@@ -68,9 +68,9 @@ static void run_bars(struct run *r, const struct command *c, struct turned corne
 {
     uint8_t shown[MOST_DATA];
     unsigned length = show_data(c, r->declared, r->memory->values, r->counters, shown);
+    struct symbol s = {c->type, (int)c->n[3], (int)c->n[4], (int)c->n[5], c->letter, r->font, shown, length};
 
-    corner.high = (int)c->n[5];
-    draw_bars(&r->paper, corner, c->type, (int)c->n[3], (int)c->n[4], shown, length);
+    draw_symbol(&r->paper, corner, &s);
 }
 
 static void run_picture(struct run *r, const struct command *c, int x, int y)

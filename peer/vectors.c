@@ -2,7 +2,8 @@
  *
  *   vectors INPUT-FILE LINES-FILE [FIRST-SEED [SESSIONS]]
  *
- * Without a seed it writes the eight sessions that are kept in peer/vectors; they give each of the 22 answers.
+ * Without a seed it writes what is kept in peer/vectors: eight sessions by chance, which give each of the 22 answers, and behind
+ * them a ninth that is written here and draws every word of the line under the bars.
  *
  * INPUT-FILE is a row of records, all numbers low byte first. A record starts with its letter:
  *
@@ -71,29 +72,148 @@ static void write_line(FILE *f, const struct desk *d, unsigned calls, unsigned a
     fprintf(f, "%u %u %" PRIu64 " %" PRIu64 " %08" PRIx32 "\n", calls, answer, counts[0], counts[1], digest_of(d));
 }
 
-static void set_up(FILE *f, struct desk *d, const struct event *e)
+/* ---- an event, made and written down ---- */
+
+struct record {
+    FILE *input, *lines;
+    struct desk desk;
+    unsigned calls, reached[22];
+};
+
+static void set_up(struct record *r, const struct event *e)
 {
-    putc('S', f);
-    putc(e->fill, f);
-    set_up_desk(d, e->room, e->fill);
-    memset(d->bytes[COUNTS], 0, d->room[COUNTS]);
+    putc('S', r->input);
+    putc(e->fill, r->input);
+    set_up_desk(&r->desk, e->room, e->fill);
+    memset(r->desk.bytes[COUNTS], 0, r->desk.room[COUNTS]);
 }
 
-static void new_font(FILE *f, struct desk *d, const struct event *e)
+static void new_font(struct record *r, const struct event *e)
 {
-    putc('F', f);
-    put_number(f, e->count);
-    fwrite(e->bytes, 1, e->count, f);
-    put_on_desk(d, FONT, e->bytes, e->count);
+    putc('F', r->input);
+    put_number(r->input, e->count);
+    fwrite(e->bytes, 1, e->count, r->input);
+    put_on_desk(&r->desk, FONT, e->bytes, e->count);
 }
 
-static void poke(FILE *f, struct desk *d, const struct event *e)
+static void poke(struct record *r, const struct event *e)
 {
-    putc('K', f);
-    putc((int)e->slice, f);
-    put_number(f, e->at);
-    putc(e->byte, f);
-    d->bytes[e->slice][e->at] = e->byte;
+    putc('K', r->input);
+    putc((int)e->slice, r->input);
+    put_number(r->input, e->at);
+    putc(e->byte, r->input);
+    r->desk.bytes[e->slice][e->at] = e->byte;
+}
+
+static unsigned make_call(struct record *r, const struct event *e)
+{
+    unsigned answer;
+
+    put_on_desk(&r->desk, INPUT, e->bytes, e->count);
+    write_call(r->input, e);
+    answer = call_station(&peer_station, &r->desk, e->call, e->length);
+    write_line(r->lines, &r->desk, ++r->calls, answer);
+    r->reached[answer]++;
+    return answer;
+}
+
+/* ---- sessions by chance ---- */
+
+/* Gives what the last of them was set up with. */
+static struct event chance_sessions(struct record *r, uint64_t seed, unsigned sessions)
+{
+    static struct generator g;
+    struct event e, room = {0};
+
+    start_generator(&g, seed, true, &r->desk);
+    for (;;) {
+        next_event(&g, &e);
+        if (e.kind == SET_UP && sessions-- == 0)
+            return room;
+        switch (e.kind) {
+        case SET_UP: set_up(r, &e); room = e; break;
+        case NEW_FONT: new_font(r, &e); break;
+        case POKE: poke(r, &e); break;
+        case CALL: tell_answer(&g, make_call(r, &e)); break;
+        }
+    }
+}
+
+/* ---- the line under the bars ---- */
+
+/* Cells of up to 16 dots by height; digits alone have glyphs, each another one. */
+static void lend_digits(struct record *r, struct event *e, unsigned width, unsigned height)
+{
+    static uint8_t font[512];
+    unsigned row = (width + 7) / 8, size = 1 + height * row;
+    uint8_t *at = font;
+
+    memcpy(at, (const uint8_t[]){1, 2, 0, (uint8_t)width, (uint8_t)height}, 5);
+    at += 5;
+    for (unsigned code = '0'; code <= '9'; code++) {
+        memcpy(at, (const uint8_t[]){2, (uint8_t)size, 0, (uint8_t)code}, 4);
+        at += 4;
+        for (unsigned y = 0; y < height; y++) {
+            unsigned dots = (code * 2654435761u >> (y + 3)) << (16 - width);
+            *at++ = (uint8_t)(dots >> 8);
+            if (row == 2)
+                *at++ = (uint8_t)dots;
+        }
+    }
+    memcpy(at, (const uint8_t[]){255, 0, 0}, 3);
+    e->bytes = font;
+    e->count = e->length[FONT] = (size_t)(at + 3 - font);
+    new_font(r, e);
+}
+
+/* Every word and some wrong ones, types and turns, in a form and outside; over the right edge and the lower one; data that begins
+ * with C or V, and as much data as there may be. */
+static const char *const drawn_outside[] = {
+    "B0,0,0,E30,1,2,24,B,C,\"400638133393\"", "B110,4,2,3,1,2,24,B,R,\"A1\"", "B200,0,1,1,1,2,24,B,\"07\"",
+    "B250,2,3,2,1,2,24,B,C,\"0123\"", "B300,8,0,2,1,2,24,N,\"77\"", "B400,0,0,1,1,2,24,B,\",7\"", "B0,0,0,2,1,2,24,BC,\"12\"",
+    "B0,0,0,2,1,2,24,B,L,\"12\"", "B0,0,0,2,1,2,24,N,C,\"12\"", "B0,0,0,2,1,2,24,B,R\"12\"", "B0,0,0,2,1,2,24,B,C0", "N"};
+static const char *const recorded[] = {
+    "FS\"LINES\"", "C0,4,+1,\"\"", "V0,2,Z,\"\"", "B0,01,0,2,1,2,024,B,C0", "B100,1,2,2,1,2,24,B,C,C0", "B150,0,1,1,1,2,24,B,R,V0",
+    "B200,3,3,3,1,2,24,B,R,C0R2", "B260,2,0,E30,1,2,24,B,R,\"12345678\"C0", "B400,2,2,E30,1,2,24,B,C,C0C0C0",
+    "B40,2,1,E30,1,2,24,B,C0C0C0", "B0,36,2,2,1,2,24,B,C0C0C0C0C0C0C0C0C0C0C0C0C0C0C0C0C0C0C0C0C0C0C0C0C0C0C0C0C0C0C0C0",
+    "B590,2,0,1,1,2,24,B,\"7\"C0L1", "B520,30,2,1,1,2,24,B,C,V0", "B560,0,0,3,1,2,24,N,C0", "B0,0,0,1,1,2,24,B,CC0", "FE",
+    "FR\"LINES\"", "?C0,7098", "?V0,\"7\"", "P3"};
+
+static void send_lines(struct record *r, struct event *e, const char *const *lines, unsigned count)
+{
+    char line[128];
+
+    e->call = COMMAND;
+    for (unsigned i = 0; i < count; i++) {
+        e->count = e->length[INPUT] = (size_t)snprintf(line, sizeof line, "%s\n", lines[i]);
+        e->bytes = (const uint8_t *)line;
+        make_call(r, e);
+    }
+}
+
+static void draw_label(struct record *r, struct event *e)
+{
+    e->call = LABEL;
+    e->count = 0;
+    make_call(r, e);
+}
+
+/* The labels are drawn with three fonts: the recording's, one whose lines are wider than their bars, and one between. */
+static void lined_session(struct record *r, struct event e)
+{
+    set_up(r, &e);
+    usual_lengths(e.length, 40, 16, 4, 256);
+    lend_digits(r, &e, 6, 5);
+    e.call = OPEN;
+    e.count = 0;
+    make_call(r, &e);
+    send_lines(r, &e, drawn_outside, sizeof drawn_outside / sizeof drawn_outside[0]);
+    send_lines(r, &e, recorded, sizeof recorded / sizeof recorded[0]);
+    draw_label(r, &e);
+    lend_digits(r, &e, 16, 3);
+    draw_label(r, &e);
+    lend_digits(r, &e, 9, 4);
+    draw_label(r, &e);
 }
 
 static FILE *open_file(const char *path)
@@ -109,40 +229,22 @@ static FILE *open_file(const char *path)
 
 int main(int argc, char **argv)
 {
-    static struct generator g;
-    static struct desk d;
-    uint64_t seed = argc > 3 ? strtoull(argv[3], NULL, 10) : 9;
-    unsigned sessions = argc > 4 ? (unsigned)atoi(argv[4]) : 8, calls = 0, reached[22] = {0}, missing = 0;
-    struct event e;
+    static struct record r;
+    uint64_t seed = argc > 3 ? strtoull(argv[3], NULL, 10) : 3168;
+    unsigned missing = 0;
 
     if (argc < 3) {
         fprintf(stderr, "vectors INPUT-FILE LINES-FILE [FIRST-SEED [SESSIONS]]\n");
         return 2;
     }
-    FILE *input = open_file(argv[1]), *lines = open_file(argv[2]);
-    start_generator(&g, seed, true, &d);
-    for (;;) {
-        next_event(&g, &e);
-        if (e.kind == SET_UP && sessions-- == 0)
-            break;
-        switch (e.kind) {
-        case SET_UP: set_up(input, &d, &e); break;
-        case NEW_FONT: new_font(input, &d, &e); break;
-        case POKE: poke(input, &d, &e); break;
-        case CALL:
-            put_on_desk(&d, INPUT, e.bytes, e.count);
-            write_call(input, &e);
-            unsigned answer = call_station(&peer_station, &d, e.call, e.length);
-            write_line(lines, &d, ++calls, answer);
-            reached[answer]++;
-            tell_answer(&g, answer);
-        }
-    }
+    r.input = open_file(argv[1]);
+    r.lines = open_file(argv[2]);
+    lined_session(&r, chance_sessions(&r, seed, argc > 4 ? (unsigned)atoi(argv[4]) : 8));
     for (unsigned a = 0; a < 22; a++)
-        missing += reached[a] == 0;
-    fprintf(stderr, "%u calls, %ld bytes, %u of the 22 answers not reached\n", calls, ftell(input), missing);
-    fclose(input);
-    fclose(lines);
-    clear_away(&d);
+        missing += r.reached[a] == 0;
+    fprintf(stderr, "%u calls, %ld bytes, %u of the 22 answers not reached\n", r.calls, ftell(r.input), missing);
+    fclose(r.input);
+    fclose(r.lines);
+    clear_away(&r.desk);
     return 0;
 }

@@ -134,14 +134,18 @@ written-front xs l m n p h =
     let e : n ≡ length xs = omega (arith, p .next) in
     ap (λ k. take k m) e ∙ ap (take (length xs)) (p .written ∙ s) ∙ take-append-seam xs (drop (0 + length xs) l)
 
+-- so the widths that stand there are those of the bars
+pub widths-front : (kind : Kind) (e f n : ℕ) (s l m : List ℕ) → Put (elements kind s) 0 l m n → n ≤ 1299 → 1299 ≤ length l
+    → map (dotsOf kind e f) (take n m) ≡ widths kind e f s
+unfolding widths
+widths-front kind e f n s l m put h k = ap (map (dotsOf kind e f)) (written-front (elements kind s) l m n put (omega (arith, put .next)))
+
 pub strokes-drawn : (W L x y r g w n a b e f : ℕ) (kind : Kind) (s l m p q : List ℕ) → a ≡ e → b ≡ f → Put (elements kind s) 0 l m n → n ≤ 1299 → 1299 ≤ length l
     → w ≡ sum (map (dotsOf kind a b) (take n m)) → q ≡ drawn Black (cut W L (placed r w g x y (bars (map (dotsOf kind a b) (take n m))))) p
     → q ≡ drawn Black (cut W L (placed r (sum (widths kind e f s)) g x y (bars (widths kind e f s)))) p
-unfolding widths
 strokes-drawn W L x y r g w n a b e f kind s l m p q ea eb put h k t d =
-    let front : take n m ≡ elements kind s = written-front (elements kind s) l m n put (omega (arith, put .next)) in
-    let same : map (dotsOf kind a b) (take n m) ≡ map (dotsOf kind e f) (elements kind s) =
-    ap (λ i. map (dotsOf kind i b) (take n m)) ea ∙ ap (λ i. map (dotsOf kind e i) (take n m)) eb ∙ ap (map (dotsOf kind e f)) front in
+    let same : map (dotsOf kind a b) (take n m) ≡ widths kind e f s =
+    ap (λ i. map (dotsOf kind i b) (take n m)) ea ∙ ap (λ i. map (dotsOf kind e i) (take n m)) eb ∙ widths-front kind e f n s l m put h k in
     d ∙ ap (λ i. drawn Black (cut W L (placed r i g x y (bars (map (dotsOf kind a b) (take n m))))) p) t
     ∙ ap (λ ws. drawn Black (cut W L (placed r (sum ws) g x y (bars ws))) p) same
 

@@ -78,10 +78,10 @@ fn width_at(kind: Kind, e: u8, f: u8, ws: &[u8], k: usize) -> usize
     0
 }
 
-// `place` asks, with at most 1,299 elements.
+// `breadth` and `place` ask, with at most 1,299 elements.
 fn total(kind: Kind, e: u8, f: u8, ws: &[u8]) -> usize
     requires { ⌜ ListN.length (now ws) ≤ 1300 ⌝ }
-    ensures { λ r. ⌜ r ≡ sum (map (dotsOf kind e f) (now (ws .entry))) ⌝ }
+    ensures { λ r. ⌜ (r ≡ sum (map (dotsOf kind e f) (now (ws .entry)))) × (r ≤ 65025 * ListN.length (now (ws .entry))) ⌝ }
 {
     let mut sum: usize = 0;
     let mut k = 0;
@@ -90,6 +90,15 @@ fn total(kind: Kind, e: u8, f: u8, ws: &[u8]) -> usize
         k += 1;
     }
     sum
+}
+
+// How many dots wide the bars of data are: 1,299 elements of 65,025 dots at most.
+pub fn breadth(kind: Kind, e: u8, f: u8, bytes: &[u8]) -> usize
+    ensures { λ r. ⌜ (r ≡ sum (widths kind e f (now (bytes .entry)))) × (r ≤ 84467475) ⌝ }
+{
+    let mut ws = [0u8; MOST_ELEMENTS];
+    let n = elements(kind, bytes, &mut ws);
+    total(kind, e, f, &ws[..n])
 }
 
 // Draws the bars of elements whose widths come to w, in a box of w by g dots.

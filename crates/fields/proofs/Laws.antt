@@ -11,7 +11,7 @@ use borrow.Author.Tests.{le-leb, lt-leb, ltb-true, ne-eqb, eqb-true}
 use Rattle.classes.specs.Bytes.{runAt}
 use Rattle.classes.specs.declared.Class.the-variants.{Quoted}
 use Rattle.classes.proofs.Laws.{inside, past}
-use Rattle.fields.specs.Field.{textAt, textFault, byteAt}
+use Rattle.fields.specs.Field.{textAt, textFault, byteAt, isPlace, placeBehind}
 use Rattle.fields.specs.declared.Field.{Field}
 use Rattle.fields.specs.declared.Field.the-variants.{Is, Not}
 
@@ -66,3 +66,8 @@ byte-ends b s at = go (ltb at (length s)) (eqb (getD s at 0) b) refl
     go true true e = let h = ltb-true at (length s) e in (omega arith, omega arith)
     go true false e = tt
     go false y e = tt
+
+-- a comma and a place: then the byte behind them decides
+pub place-found : (s : List ℕ) (at a p c : ℕ) (b : Bool) → a ≡ getD s (at + 1) 0 → a ≡ code "," → p ≡ getD s (at + 2) 0 → b ≡ isPlace p → b ≡ true → c ≡ getD s (at + 3) 0
+    → eqb c (code ",") ≡ placeBehind s at
+place-found s at a p c b ea ca ep eb tb ec = rw (← ea, ca, ← ep, ← eb, tb, ← ec)

@@ -3,12 +3,15 @@
 -- Assumes nothing.
 use Prim.Native.Nat.{ℕ, _+_}
 use Prim.Native.Char.{code}
-use mathlib.Core.Bool.{cond, _&&_}
+use mathlib.Core.Bool.{Bool, cond, _&&_, _||_}
 use mathlib.Core.List.{List}
 use lib.ListN.{length, getD}
 use lib.Dec.{leb, ltb, eqb}
 use Rattle.kinds.specs.declared.Kind.{Kind}
 use Rattle.kinds.specs.declared.Kind.the-variants.{Code39, Interleaved, Ean13, Code128}
+use Rattle.kinds.specs.declared.Place.the-variants.{Left, Centre, Right}
+use Rattle.kinds.specs.declared.Under.{Under}
+use Rattle.kinds.specs.declared.Under.the-variants.{Nothing, Line}
 use Rattle.classes.specs.Bytes.{inClass, runAt}
 use Rattle.classes.specs.declared.Class.{Class}
 use Rattle.classes.specs.declared.Class.the-variants.{Quoted}
@@ -51,3 +54,24 @@ typeAt s at =
 -- what a bar type's data is for
 unfoldable pub kindFrom : ℕ → Kind
 kindFrom t = cond (eqb t 3) Code39 (cond (eqb t 2) Interleaved (cond (eqb t 30) Ean13 Code128))
+
+-- ---- paper 02, §1: "B is to take `B` where 01 takes only `N`, and after it an optional `,C` or `,R`"
+abbrev pub isPlace : ℕ → Bool
+isPlace b = eqb b (code "C") || eqb b (code "R")
+
+-- whether a place stands between two commas behind the byte at `at`. Data follows the word, so a comma follows the place: `B,C0` is the word `B` and then the
+-- data `C0`, and `B,C,C0` the word `B,C`
+abbrev pub placeBehind : List ℕ → ℕ → Bool
+placeBehind s at = eqb (getD s (at + 1) 0) (code ",") && (isPlace (getD s (at + 2) 0) && eqb (getD s (at + 3) 0) (code ","))
+
+-- the word that starts with a `B`
+abbrev pub wordFrom : List ℕ → ℕ → Field
+wordFrom s at = cond (placeBehind s at) (Is (getD s (at + 2) 0) (at + 3)) (Is (code "B") (at + 1))
+
+-- what stands under bars, one of the words `N`, `B`, `B,C`, `B,R`; its value is the word's last letter
+unfoldable pub underAt : List ℕ → ℕ → Field
+underAt s at = cond (eqb (getD s at 0) (code "N")) (Is (code "N") (at + 1)) (cond (eqb (getD s at 0) (code "B")) (wordFrom s at) (Not at))
+
+-- what a word says: nothing under the bars, or a line; "otherwise left"
+unfoldable pub underFrom : ℕ → Under
+underFrom v = cond (eqb v (code "N")) Nothing (cond (eqb v (code "C")) (Line Centre) (cond (eqb v (code "R")) (Line Right) (Line Left)))

@@ -1,17 +1,23 @@
-// The fields of a command line, one at a time: texts, letters, bar types and bytes that stand for themselves.
+// The fields of a command line, one at a time: texts, letters, bar types, what stands under bars, and bytes that stand for themselves.
 //
 // Paper 01 writes a line as letters, numbers, quoted texts and data side by side. Each function here reads one such field at a place of a
 // line and answers its value and the place after it, or that the written form is not there, with the place at fault. Numbers and data are read in the same
 // way, in crates `numbers` and `data_field`. Any line and any place is answered. Which fields make up a command, and what is within its limits, is
 // said in crate `read`.
+pub mod word; // the words that say what stands under bars
+
 ghost use mathlib.Core.Path.{_≡_};
-ghost use Rattle.fields.specs.Field.{textAt, letterAt, byteAt, typeAt, kindFrom, stopOf};
+ghost use Prim.Native.Nat.{_<_};
+ghost use lib.ListN.{length};
+ghost use Rattle.fields.specs.Field.{textAt, letterAt, byteAt, typeAt, kindFrom, isPlace, placeBehind, wordFrom, underAt, underFrom, stopOf};
 use classes::Class;
 use classes::in_class;
 use classes::run_end;
 use ground::byte;
 use ground::wide;
 use kinds::Kind;
+use kinds::Place;
+use kinds::Under;
 
 // What reading one field finds: its value and the place after it; or that the written form is not there, and the place at fault.
 pub enum Field {
@@ -109,5 +115,63 @@ pub fn kind_from(bar: usize) -> Kind
         2 => Kind::Interleaved,
         30 => Kind::Ean13,
         _ => Kind::Code128,
+    }
+}
+
+fn is_place(b: u8) -> bool
+    ensures { λ r. ⌜ r ≡ isPlace b ⌝ }
+{
+    match b {
+        b'C' => true,
+        b'R' => true,
+        _ => false,
+    }
+}
+
+// Whether a place stands between two commas behind a byte of the line. Asked for by `word_from` alone, as that is by `under`, where a `B` stands.
+fn place_behind(line: &[u8], at: usize) -> bool
+    requires { ⌜ at < length (now line) ⌝ }
+    ensures { λ r. ⌜ r ≡ placeBehind (now (line .entry)) at ⌝ }
+{
+    if byte(line, at + 1) != b',' {
+        return false;
+    }
+    if is_place(byte(line, at + 2)) {
+        return byte(line, at + 3) == b',';
+    }
+    false
+}
+
+// The word that starts with the `B` at a place.
+fn word_from(line: &[u8], at: usize) -> Field
+    requires { ⌜ at < length (now line) ⌝ }
+    ensures { λ r. ⌜ r ≡ wordFrom (now (line .entry)) at ⌝ }
+{
+    if place_behind(line, at) {
+        return Field::Is(wide(byte(line, at + 2)), at + 3);
+    }
+    Field::Is(word::LINE, at + 1)
+}
+
+// What stands under bars; its value is the last letter of the word.
+pub fn under(line: &[u8], at: usize) -> Field
+    ensures { λ r. ⌜ r ≡ underAt (now (line .entry)) at ⌝ }
+{
+    match byte(line, at) {
+        b'N' => Field::Is(word::NOTHING, at + 1),
+        b'B' => word_from(line, at),
+        _ => Field::Not(at),
+    }
+}
+
+// What the word says of which v is the last letter.
+pub fn under_from(v: usize) -> Under
+    ensures { λ r. ⌜ r ≡ underFrom v ⌝ }
+{
+    match v {
+        word::NOTHING => Under::Nothing,
+        word::CENTRE => Under::Line(Place::Centre),
+        word::RIGHT => Under::Line(Place::Right),
+        _ => Under::Line(Place::Left),
     }
 }

@@ -9,7 +9,7 @@ use mathlib.Core.List.{List, [], _∷_}
 use lib.ListN.{getD}
 use lib.Dec.{eqb}
 use Rattle.kinds.specs.Text.{bytes}
-use Rattle.fields.specs.Field.{kindFrom}
+use Rattle.fields.specs.Field.{kindFrom, underFrom}
 use Rattle.numbers.specs.Number.{nought}
 use Rattle.grammar.specs.Makers.{Maker, boxOf, isMinus, stepOf, sideOf, namedFrom}
 use Rattle.grammar.specs.declared.Ink.the-variants.{Black, White, Inverted}
@@ -24,7 +24,7 @@ use Rattle.grammar.specs.declared.Command.the-variants.{Item as item, En
 
 -- The written form of a command. In it n stands for a number, w for a number above the number before it, s for a number with or without
 -- sign, t for a quoted text, a for a name, z for a name or `"*"`, u for a quoted text of any length, m and j for one letter (mode,
--- justification), k for a bar type and d for data; any other byte stands for itself.
+-- justification), k for a bar type, h for what stands under bars and d for data; any other byte stands for itself.
 -- The limits: the least and the greatest value of each n, w and s, and of the length of each t, a and z, by the rows N of the page.
 -- What the fields make: the command, of the line s, the value v and the place p of each field, counted from 0; bytes that stand for themselves do not count.
 pub record Form : Type 0 where
@@ -47,7 +47,7 @@ forms =
     ∷ form "LWn,n,n,n" ((0, 2047) ∷ (0, 2047) ∷ (1, 2047) ∷ (1, 2047) ∷ []) (λ s v p. boxOf White v)
     ∷ form "Xn,n,n,n,n" ((0, 2047) ∷ (0, 4095) ∷ (1, 80) ∷ (0, 2047) ∷ (0, 4095) ∷ []) (λ s v p. item (Frame (record { a = v 0; b = v 1; c = v 2; d = v 3; e = v 4 })))
     ∷ form "An,n,n,n,n,m,d" ((0, 2047) ∷ (0, 4095) ∷ (0, 3) ∷ (1, 6) ∷ (1, 9) ∷ []) (λ s v p. item (Text (record { x = v 0; y = v 1; r = v 2; h = v 3; v = v 4; reverse = eqb (v 5) (code "R"); at = p 6 })))
-    ∷ form "Bn,n,n,k,n,w,n,N,d" ((0, 2047) ∷ (0, 4095) ∷ (0, 3) ∷ (1, 6) ∷ (2, 10) ∷ (24, 1000) ∷ []) (λ s v p. item (Bars (record { x = v 0; y = v 1; r = v 2; kind = kindFrom (v 3); e = v 4; f = v 5; g = v 6; at = p 7 })))
+    ∷ form "Bn,n,n,k,n,w,n,h,d" ((0, 2047) ∷ (0, 4095) ∷ (0, 3) ∷ (1, 6) ∷ (2, 10) ∷ (24, 1000) ∷ []) (λ s v p. item (Bars (record { x = v 0; y = v 1; r = v 2; kind = kindFrom (v 3); e = v 4; f = v 5; g = v 6; under = underFrom (v 7); at = p 8 })))
     ∷ form "GGn,n,a" ((0, 2047) ∷ (0, 4095) ∷ (1, 8) ∷ []) (λ s v p. item (Picture (record { a = v 0; b = v 1; at = p 2; length = v 2 })))
     ∷ form "FSa" ((1, 8) ∷ []) (λ s v p. Forms (Start (namedFrom s (p 0) (v 0))))
     ∷ form "FE" [] (λ s v p. End)
@@ -99,7 +99,7 @@ boundsOf row rows = spread (rowOf row .fields) (rowOf row .bounds rows)
 
 -- a letter that stands for a field
 abbrev pub isField : ℕ → Bool
-isField f = limited f || (eqb f (code "u") || (eqb f (code "m") || (eqb f (code "j") || (eqb f (code "k") || eqb f (code "d")))))
+isField f = limited f || (eqb f (code "u") || (eqb f (code "m") || (eqb f (code "j") || (eqb f (code "k") || (eqb f (code "h") || eqb f (code "d"))))))
 
 -- Reading a line fills a slot for each byte of the form. These are the slots of the fields alone, in their order, from the slot i on.
 unfoldable pub inOrder : List ℕ → ℕ → List ℕ → List ℕ

@@ -8,6 +8,7 @@ pub mod row;
 pub mod table;
 
 use kinds::Kind;
+use kinds::Under;
 
 pub enum Ink {
     Black,
@@ -52,12 +53,14 @@ pub struct Text {
     pub at: usize,
 }
 
-// B: bars. Their data stands from the place `at` to the end of the line.
+// B: bars, and what stands under them; this is kept beside their type, so that the two share a word and an item is copied as quickly as it was. Their
+// data stands from the place `at` to the end of the line.
 pub struct Bars {
     pub x: usize,
     pub y: usize,
     pub r: usize,
     pub kind: Kind,
+    pub under: Under,
     pub e: usize,
     pub f: usize,
     pub g: usize,

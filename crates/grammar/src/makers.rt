@@ -32,6 +32,7 @@ use crate::Variable;
 use crate::Width;
 use crate::row;
 use fields::kind_from;
+use fields::under_from;
 use numbers::NOUGHT;
 
 // The letters of mode and justification, as the values of their fields.
@@ -45,7 +46,7 @@ const NONE: usize = b'N' as usize;
 
 const REVERSE: usize = b'R' as usize;
 
-// The slots of the fields behind one letter, in their order: each field has a comma behind it, and the last of B stands behind its N.
+// The slots of the fields behind one letter, in their order: each field has a comma behind it.
 mod one {
     pub const FIRST: usize = 1;
 
@@ -61,7 +62,9 @@ mod one {
 
     pub const SEVENTH: usize = 13;
 
-    pub const BEHIND_N: usize = 17;
+    pub const EIGHTH: usize = 15;
+
+    pub const NINTH: usize = 17;
 }
 
 // Behind two letters.
@@ -166,7 +169,8 @@ fn bars(v: &[usize; 18], p: &[usize; 18]) -> Command
         e: v[one::FIFTH],
         f: v[one::SIXTH],
         g: v[one::SEVENTH],
-        at: p[one::BEHIND_N],
+        under: under_from(v[one::EIGHTH]),
+        at: p[one::NINTH],
     }))
 }
 

@@ -31,7 +31,7 @@ fn drawn_rows(row: usize) -> [u8; 36]
         row::LW => *b"LWn,n,n,n         --a-a-b-b---------",
         row::FRAME => *b"Xn,n,n,n,n        -a-c-d-a-c--------",
         row::TEXT => *b"An,n,n,n,n,m,d    -a-c-e-f-g--------",
-        row::BARS => *b"Bn,n,n,k,n,w,n,N,d-a-c-e---f-h-i----",
+        row::BARS => *b"Bn,n,n,k,n,w,n,h,d-a-c-e---f-h-i----",
         _ => *b"GGn,n,a           --a-c-q-----------",
     }
 }

@@ -18,7 +18,7 @@ use Rattle.dots.specs.Dots.{drawn, cut, box}
 use Rattle.frames.specs.Frame.{frame}
 use Rattle.picture.specs.Shape.{pictured}
 use Rattle.text.specs.Text.{textDrawn}
-use Rattle.bars.specs.Drawing.{barsDrawn}
+use Rattle.lined.specs.Lined.{barsWith}
 use Rattle.grammar.specs.declared.Ink.{Ink as Said}
 use Rattle.grammar.specs.declared.Ink.the-variants.{Black as black, White as white, Inverted as inverted}
 use Rattle.grammar.specs.declared.Item.{Item}
@@ -71,7 +71,7 @@ drawsItem g d x y line (Counter c) page = page
 drawsItem g d x y line (Text t) page =
     textDrawn (g .width) (g .length) (far x (t .x)) (far y (t .y)) (t .r) (t .h) (t .v) (t .reverse) (g .font) (shown g d line (t .at)) page
 drawsItem g d x y line (Bars b) page =
-    barsDrawn (g .width) (g .length) (far x (b .x)) (far y (b .y)) (b .r) (b .kind) (b .e) (b .f) (b .g) (shown g d line (b .at)) page
+    barsWith (g .width) (g .length) (far x (b .x)) (far y (b .y)) (b .r) (b .kind) (b .e) (b .f) (b .g) (b .under) (g .font) (shown g d line (b .at)) page
 drawsItem g d x y line (Box r) page =
     drawn (inkOf (r .ink)) (cut (g .width) (g .length) (box (far x (r .a)) (far y (r .b)) (far (far x (r .a)) (r .c)) (far (far y (r .b)) (r .d)))) page
 drawsItem g d x y line (Frame f) page =

@@ -2,7 +2,7 @@
 //
 // R's origin "is added to coordinates after it"; the sums are not limited, and "Drawing is cut at width and length." Text and bars show the data of their line for
 // the values that are lent, boxes and frames are inked, and GG draws the picture of its name where it is stored. `draw_item` leaves the page that the
-// definition (specs/Draw.antt) says, for any item, memory and page. How text, bars and pictures look stands in crates `font`, `bars` and `picture`, how a
+// definition (specs/Draw.antt) says, for any item, memory and page. How text, bars and pictures look stands in crates `text`, `lined` and `picture`, how a
 // whole form is drawn in crate `form_drawing`.
 ghost use mathlib.Core.Path.{_≡_};
 ghost use mathlib.Core.Bool.{true};
@@ -17,7 +17,7 @@ ghost use Rattle.frames.specs.Frame.{frame};
 ghost use Rattle.dots.specs.declared.Ink.the-variants.{Black};
 ghost use Rattle.picture.specs.Shape.{pictured};
 ghost use Rattle.text.specs.Text.{textDrawn};
-ghost use Rattle.bars.specs.Drawing.{barsDrawn};
+ghost use Rattle.lined.specs.Lined.{barsWith};
 ghost use Rattle.item_drawing.specs.Draw.{setting, inkOf, bytesAt, drawsItem, far as farOf};
 use counters::Counters;
 use declarations::Declared;
@@ -83,6 +83,7 @@ fn draw_text<'a>(
 
 fn draw_bars<'a>(
     page: &mut [u8],
+    font: &[u8],
     values: &'a [u8],
     counters: Counters,
     width: usize,
@@ -93,14 +94,15 @@ fn draw_bars<'a>(
     line: &'a [u8],
     s: Bars,
 )
-    ensures { λ _. ⌜ now (page .exit) ≡ barsDrawn width length (farOf x (s .x)) (farOf y (s .y)) (s .r) (s .kind) (s .e) (s .f) (s .g) (take 128 (assembled (now (line .entry)) d (valuesIn (now (values .entry)) counters) (elements (now (line .entry)) (s .at)))) (now (page .entry)) ⌝ }
+    ensures { λ _. ⌜ now (page .exit) ≡ barsWith width length (farOf x (s .x)) (farOf y (s .y)) (s .r) (s .kind) (s .e) (s .f) (s .g) (s .under) (now (font .entry)) (take 128 (assembled (now (line .entry)) d (valuesIn (now (values .entry)) counters) (elements (now (line .entry)) (s .at)))) (now (page .entry)) ⌝ }
 {
     let mut buffer = [0u8; 128];
     let n = pieces::assemble(line, s.at, d, values, counters, &mut buffer);
     let kind = s.kind;
+    let under = s.under;
     let a = far(x, s.x);
     let b = far(y, s.y);
-    bars::draw(
+    lined::draw(
         page,
         width,
         length,
@@ -111,6 +113,8 @@ fn draw_bars<'a>(
         s.e,
         s.f,
         s.g,
+        under,
+        font,
         front(&buffer, n),
     );
 }
@@ -211,7 +215,19 @@ pub fn draw_item<'a>(
             line,
             t,
         ),
-        Item::Bars(s) => draw_bars(page, values, counters, width, length, d, x, y, line, s),
+        Item::Bars(s) => draw_bars(
+            page,
+            font,
+            values,
+            counters,
+            width,
+            length,
+            d,
+            x,
+            y,
+            line,
+            s,
+        ),
         Item::Box(r) => draw_box(page, width, length, x, y, r),
         Item::Frame(f) => draw_frame(page, width, length, x, y, f),
         Item::Picture(p) => draw_picture(

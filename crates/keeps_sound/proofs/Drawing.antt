@@ -1,17 +1,16 @@
 -- What drawing an item keeps: the background's length, and its white outside width by length.
 -- Assumes nothing.
 use mathlib.Core.Path.{_≡_, refl, _∙_}
-use mathlib.Core.Bool.{Bool, true, false, cond, _&&_}
+use mathlib.Core.Bool.{Bool, true, false, cond}
 use mathlib.Core.List.{List}
 use Prim.Native.Nat.{ℕ}
 use lib.ListN.{length}
-use Rattle.kinds.specs.Fit.{fit}
 use Rattle.dots.specs.declared.Ink.{Ink}
 use Rattle.dots.specs.Dots.{drawn, cut}
 use Rattle.dots.proofs.Pages.{length-drawn}
 use Rattle.outside.proofs.WhiteOutside.{white-outside-drawn}
 use Rattle.text.specs.Text.{textDrawn, inMode, spotOf, glyphs, drawable}
-use Rattle.bars.specs.Drawing.{barsDrawn, inLimits}
+use Rattle.lined.proofs.Keeping.{with-keeps}
 use Rattle.declarations.specs.declared.Declared.{Declared}
 use Rattle.grammar.specs.declared.Item.{Item}
 use Rattle.item_drawing.specs.Draw.{Setting, drawsItem}
@@ -36,8 +35,7 @@ module _ (p : List ℕ → Type 0) (g : Setting) (dots : (ink : Ink) (s : ℕ �
       picked (drawable h v s) _ page (in-mode reverse x y r h v (length s) (glyphs (g .font) h v s) page k) k
 
   pub bars-keep : BarsKeep p g
-  unfolding barsDrawn
-  bars-keep x y r kind e f h s page k = picked (inLimits e f h && fit kind s) _ page (dots _ _ page k) k
+  bars-keep x y r kind e f h under s page k = with-keeps p (g .width) (g .length) dots x y r kind e f h under (g .font) s page k
 
 -- ---- an item
 

@@ -221,7 +221,7 @@ telling =
     & (λ s vs ps k c. tt)
     & (λ s vs ps k c. tt)
     & (λ s vs ps k c. (let r = last-data (bytes "An,n,n,n,n,m,") s 0 vs ps tt k in (c ∙ r .0, r .1)))
-    & (λ s vs ps k c. (let r = last-data (bytes "Bn,n,n,k,n,w,n,N,") s 0 vs ps tt k in (c ∙ r .0, r .1)))
+    & (λ s vs ps k c. (let r = last-data (bytes "Bn,n,n,k,n,w,n,h,") s 0 vs ps tt k in (c ∙ r .0, r .1)))
     & (λ s vs ps k c. tt)
     & (λ s vs ps k c. tt)
     & (λ s vs ps k c. tt)

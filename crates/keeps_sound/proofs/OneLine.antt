@@ -28,11 +28,11 @@ use Rattle.grammar.specs.declared.Command.the-variants.{Item as item}
 use Rattle.read.specs.declared.Read.the-variants.{Taken as Reads}
 use Rattle.row_fields.proofs.Rows.{fields-split}
 use Rattle.writing.specs.Writing.{decimal, signed, kept, cased}
-use Rattle.normal.specs.Written.{partWritten, whatWritten, elementWritten, dataWritten, writtenField, writtenFrom, normal}
+use Rattle.normal.specs.Written.{partWritten, whatWritten, elementWritten, dataWritten, wordWritten, writtenField, writtenFrom, normal}
 use Rattle.writing.proofs.Writes.{cased-kept}
 use Rattle.normal.proofs.Back.{allIn, T-true, digits-class, number-fits, signed-fits, letter-fits, text-fits, cased-quoted, cased-quotes}
 use Rattle.normal.proofs.Data.{PartFits, Fits, a-text as is-text, a-variable as is-variable, a-counter as is-counter, Chain, ended, then, chain-of}
-use Rattle.normal.proofs.Fields.{Letter, a-number, a-wide, a-step, a-prompt, a-text, a-name, a-star, a-mode, a-side, a-type, some-data, itself, letter-of, TypeFits, one, two, three, ean, type-fits, plain-written}
+use Rattle.normal.proofs.Fields.{Letter, a-number, a-wide, a-step, a-prompt, a-text, a-name, a-star, a-mode, a-side, a-type, a-word, some-data, itself, letter-of, TypeFits, one, two, three, ean, type-fits, Word, nothing, left, centre, right, word-fits, plain-written}
 use Rattle.normal.proofs.Round.{every-row, item-parted, normal-is}
 use Rattle.forms.proofs.Growing.{Inside}
 
@@ -77,6 +77,13 @@ inside-type s at v (two h) = rw (cased-kept (kept s at 1), h) ((λ e. omega arit
 inside-type s at v (three h) = rw (cased-kept (kept s at 1), h) ((λ e. omega arith), tt)
 inside-type s at v (ean h) = rw (cased-kept (kept s at 3), h) ((λ e. omega arith), ((λ e. omega arith), ((λ e. omega arith), tt)))
 
+inside-word : (v : ℕ) → Word v → Inside (wordWritten v)
+unfolding wordWritten
+inside-word v nothing = ((λ e. omega arith), tt)
+inside-word v left = ((λ e. omega arith), tt)
+inside-word v centre = ((λ e. omega arith), ((λ e. omega arith), ((λ e. omega arith), tt)))
+inside-word v right = ((λ e. omega arith), ((λ e. omega arith), ((λ e. omega arith), tt)))
+
 -- ---- data
 
 inside-part : (p : Part) → PartFits p → Inside (partWritten p)
@@ -114,6 +121,7 @@ inside-field a-star s at v e n h = inside-text true s at v e h
 inside-field a-mode s at v e n h = inside-letter Mode refl s at v (letter-fits Mode s at v e h)
 inside-field a-side s at v e n h = inside-letter Side refl s at v (letter-fits Side s at v e h)
 inside-field a-type s at v e n h = inside-type s at v (type-fits s at v e h)
+inside-field a-word s at v e n h = inside-word v (word-fits s at v e h .letter)
 inside-field some-data s at v e n h = inside-data (chain-of s at v e h)
 inside-field (itself p) s at v e n h = rw (plain-written p s v at) (n, tt)
 

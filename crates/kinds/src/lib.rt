@@ -1,8 +1,8 @@
-// What data is for, and which bytes are fit for it.
+// What data is for, which bytes are fit for it, and what stands under bars.
 //
 // Paper 01 says under "Fit data" how many bytes a text or a bar symbol takes, and which. This crate has that paragraph for
 // bytes that are known: `fits` answers true exactly when the definition `fit` (specs/Fit.antt) holds. What becomes of data with
-// variables and counters in it stands in crate `fitness`, and the bars themselves in crate `bars`.
+// variables and counters in it stands in crate `fitness`, the bars themselves in crate `bars`, and the line under them in crate `lined`.
 ghost use mathlib.Core.Path.{_≡_};
 ghost use mathlib.Core.Bool.{_&&_};
 ghost use lib.ListN.{length};
@@ -19,6 +19,19 @@ pub enum Kind {
     Interleaved,
     Ean13,
     Code128,
+}
+
+// Where the narrower of two things stands, as against the wider.
+pub enum Place {
+    Left,
+    Centre,
+    Right,
+}
+
+// What stands under bars: nothing (N), or their data as a line of text (B).
+pub enum Under {
+    Nothing,
+    Line(Place),
 }
 
 // Whether b is one of the bytes lo to hi.

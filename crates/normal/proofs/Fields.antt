@@ -1,6 +1,6 @@
 -- Each letter of the grammar: its field, written, reads back as it was, is written again the same, and stays within its limits.
 use mathlib.Core.Path.{_≡_, _∙_, refl, sym, ap}
-use mathlib.Core.Bool.{Bool, true, false, cond, _&&_, _||_}
+use mathlib.Core.Bool.{Bool, true, false, cond, _&&_, _||_, false≢true}
 use mathlib.Core.List.{List, [], _∷_, _++_, append-assoc, append-nil}
 use Prim.Native.Nat.{ℕ, suc, _+_, _-_, _<_}
 use Prim.Native.Char.{code}
@@ -16,7 +16,7 @@ use Rattle.fields.specs.declared.Field.the-variants.{Is, Not}
 use Rattle.elements.specs.declared.What.the-variants.{Text as Quote}
 use Rattle.data_field.specs.declared.Limits.the-variants.{Within, Outside}
 use Rattle.classes.specs.Bytes.{inClass, runAt}
-use Rattle.fields.specs.Field.{textAt, typeAt, byteAt}
+use Rattle.fields.specs.Field.{textAt, typeAt, byteAt, isPlace, underAt}
 use Rattle.elements.specs.Elements.{elements}
 use Rattle.classes.proofs.Laws.{inside}
 use Rattle.reader.specs.Letters.{fieldAt}
@@ -24,7 +24,7 @@ use Rattle.row_limits.specs.Limits.{named, meets, fieldLimits}
 use Rattle.grammar.specs.Makers.{starred}
 use Rattle.parts.specs.Names.{capital}
 use Rattle.writing.specs.Writing.{kept, cased}
-use Rattle.normal.specs.Written.{dataWritten, writtenField}
+use Rattle.normal.specs.Written.{dataWritten, wordWritten, writtenField}
 use Rattle.normal.specs.Contents.{held}
 use Rattle.writing.proofs.Writes.{cased-kept}
 use Rattle.normal.proofs.Back.{allIn, run-all, run-in, number-back, text-back, byte-back, letter-back, signed-back, kept-back, number-fits, signed-fits, byte-fits, letter-fits, text-fits, cased-quoted, cased-named, cased-length, cased-twice, cased-quotes}
@@ -42,6 +42,7 @@ pub record Plain (f : ℕ) : Type 0 where
   pub no-m : eqb f (code "m") ≡ false
   pub no-j : eqb f (code "j") ≡ false
   pub no-k : eqb f (code "k") ≡ false
+  pub no-h : eqb f (code "h") ≡ false
   pub no-d : eqb f (code "d") ≡ false
 
 pub data Letter : ℕ → Type 0 where
@@ -55,6 +56,7 @@ pub data Letter : ℕ → Type 0 where
   a-mode : Letter (code "m")
   a-side : Letter (code "j")
   a-type : Letter (code "k")
+  a-word : Letter (code "h")
   some-data : Letter (code "d")
   itself : {f : ℕ} → Plain f → Letter f
 
@@ -64,25 +66,28 @@ letter-of f =
     (ℕ-discrete f (code "m"))
     (ℕ-discrete f (code "j"))
     (ℕ-discrete f (code "k"))
+    (ℕ-discrete f (code "h"))
     (ℕ-discrete f (code "d"))
   where
     go : Dec (f ≡ code "n") → Dec (f ≡ code "w") → Dec (f ≡ code "s") → Dec (f ≡ code "t") → Dec (f ≡ code "u") → Dec (f ≡ code "a") → Dec (f ≡ code "z") → Dec (f ≡ code "m")
         → Dec (f ≡ code "j")
         → Dec (f ≡ code "k")
+        → Dec (f ≡ code "h")
         → Dec (f ≡ code "d")
         → Letter f
-    go (yes e) b c d g h i j k l m = rw e a-number
-    go (no a) (yes e) c d g h i j k l m = rw e a-wide
-    go (no a) (no b) (yes e) d g h i j k l m = rw e a-step
-    go (no a) (no b) (no c) (yes e) g h i j k l m = rw e a-prompt
-    go (no a) (no b) (no c) (no d) (yes e) h i j k l m = rw e a-text
-    go (no a) (no b) (no c) (no d) (no g) (yes e) i j k l m = rw e a-name
-    go (no a) (no b) (no c) (no d) (no g) (no h) (yes e) j k l m = rw e a-star
-    go (no a) (no b) (no c) (no d) (no g) (no h) (no i) (yes e) k l m = rw e a-mode
-    go (no a) (no b) (no c) (no d) (no g) (no h) (no i) (no j) (yes e) l m = rw e a-side
-    go (no a) (no b) (no c) (no d) (no g) (no h) (no i) (no j) (no k) (yes e) m = rw e a-type
-    go (no a) (no b) (no c) (no d) (no g) (no h) (no i) (no j) (no k) (no l) (yes e) = rw e some-data
-    go (no a) (no b) (no c) (no d) (no g) (no h) (no i) (no j) (no k) (no l) (no m) =
+    go (yes e) b c d g h i j k l m n = rw e a-number
+    go (no a) (yes e) c d g h i j k l m n = rw e a-wide
+    go (no a) (no b) (yes e) d g h i j k l m n = rw e a-step
+    go (no a) (no b) (no c) (yes e) g h i j k l m n = rw e a-prompt
+    go (no a) (no b) (no c) (no d) (yes e) h i j k l m n = rw e a-text
+    go (no a) (no b) (no c) (no d) (no g) (yes e) i j k l m n = rw e a-name
+    go (no a) (no b) (no c) (no d) (no g) (no h) (yes e) j k l m n = rw e a-star
+    go (no a) (no b) (no c) (no d) (no g) (no h) (no i) (yes e) k l m n = rw e a-mode
+    go (no a) (no b) (no c) (no d) (no g) (no h) (no i) (no j) (yes e) l m n = rw e a-side
+    go (no a) (no b) (no c) (no d) (no g) (no h) (no i) (no j) (no k) (yes e) m n = rw e a-type
+    go (no a) (no b) (no c) (no d) (no g) (no h) (no i) (no j) (no k) (no l) (yes e) n = rw e a-word
+    go (no a) (no b) (no c) (no d) (no g) (no h) (no i) (no j) (no k) (no l) (no m) (yes e) = rw e some-data
+    go (no a) (no b) (no c) (no d) (no g) (no h) (no i) (no j) (no k) (no l) (no m) (no n) =
         itself
         (record {
           no-n = ne-eqb f (code "n") a;
@@ -95,8 +100,13 @@ letter-of f =
           no-m = ne-eqb f (code "m") j;
           no-j = ne-eqb f (code "j") k;
           no-k = ne-eqb f (code "k") l;
-          no-d = ne-eqb f (code "d") m;
+          no-h = ne-eqb f (code "h") m;
+          no-d = ne-eqb f (code "d") n;
         })
+
+-- whether bytes start with a place between two commas
+abbrev pub placeAhead : List ℕ → Bool
+placeAhead rest = eqb (getD rest 0 0) (code ",") && (isPlace (getD rest 1 0) && eqb (getD rest 2 0) (code ","))
 
 -- what a field asks of the bytes after it
 abbrev pub After : {f : ℕ} → Letter f → List ℕ → Type 0
@@ -110,6 +120,7 @@ After a-star rest = Unit {0}
 After a-mode rest = Unit {0}
 After a-side rest = Unit {0}
 After a-type rest = Unit {0}
+After a-word rest = (getD rest 0 0 ≡ code ",") × (placeAhead rest ≡ false)
 After some-data rest = rest ≡ []
 After (itself p) rest = Unit {0}
 
@@ -229,17 +240,15 @@ pub data TypeFits (s : List ℕ) (at : ℕ) : ℕ → Type 0 where
 kept-one : (s : List ℕ) (p b : ℕ) → 0 < b → getD s p 0 ≡ b → kept s p 1 ≡ b ∷ []
 kept-one s p b k z = let l : p < length s = inside s p (omega arith) in rw (drop-cons s p 0 l, z)
 
-kept-three : (s : List ℕ) (p : ℕ) → getD s p 0 ≡ code "E" → getD s (p + 1) 0 ≡ code "3" → getD s (p + 2) 0 ≡ code "0" → kept s p 3 ≡ code "E" ∷ (code "3" ∷ (code "0" ∷ []))
-kept-three s p a b c =
-    let i : p < length s = inside s p (omega arith) in
-    let j : p + 1 < length s = inside s (p + 1) (omega arith) in
-    let k : p + 2 < length s = inside s (p + 2) (omega arith) in
-    let x : drop p s ≡ code "E" ∷ drop (suc p) s = drop-cons s p 0 i ∙ rw a in
-    let y : drop (suc p) s ≡ code "3" ∷ drop (suc (suc p)) s =
-    (let q : p + 1 ≡ suc p = omega arith in let b′ = rw q at b in drop-cons s (suc p) 0 (omega arith) ∙ rw b′) in
-    let z : drop (suc (suc p)) s ≡ code "0" ∷ drop (suc (suc (suc p))) s =
-    (let q : p + 2 ≡ suc (suc p) = omega arith in let c′ = rw q at c in drop-cons s (suc (suc p)) 0 (omega arith) ∙ rw c′) in
-    rw (x, y, z)
+kept-three : (s : List ℕ) (p a b c : ℕ) → 0 < a → 0 < b → 0 < c → getD s p 0 ≡ a → getD s (p + 1) 0 ≡ b → getD s (p + 2) 0 ≡ c → kept s p 3 ≡ a ∷ (b ∷ (c ∷ []))
+kept-three s p a b c i j k x y z =
+    let l : p + 2 < length s = inside s (p + 2) (omega arith) in
+    let y′ : getD s (suc p) 0 ≡ b = (let q : p + 1 ≡ suc p = omega arith in rw q at y) in
+    let z′ : getD s (suc (suc p)) 0 ≡ c = (let q : p + 2 ≡ suc (suc p) = omega arith in rw q at z) in
+    let d : drop p s ≡ a ∷ drop (suc p) s = drop-cons s p 0 (omega arith) ∙ rw x in
+    let e : drop (suc p) s ≡ b ∷ drop (suc (suc p)) s = drop-cons s (suc p) 0 (omega arith) ∙ rw y′ in
+    let f : drop (suc (suc p)) s ≡ c ∷ drop (suc (suc (suc p))) s = drop-cons s (suc (suc p)) 0 (omega arith) ∙ rw z′ in
+    rw (d, e, f)
 
 pub type-fits : (s : List ℕ) (at v e : ℕ) → typeAt s at ≡ Is v e → TypeFits s at v
 unfolding typeAt
@@ -265,7 +274,7 @@ type-fits s at v e h =
     go false false false true true true p q r t u w k =
         let x : 30 ≡ v = cc in
         rw (← x)
-        (ean (kept-three s at (eqb-true (getD s at 0) (code "E") t) (eqb-true (getD s (at + 1) 0) (code "3") u) (eqb-true (getD s (at + 2) 0) (code "0") w)))
+        (ean (kept-three s at (code "E") (code "3") (code "0") (omega arith) (omega arith) (omega arith) (eqb-true (getD s at 0) (code "E") t) (eqb-true (getD s (at + 1) 0) (code "3") u) (eqb-true (getD s (at + 2) 0) (code "0") w)))
     go false false false true true false p q r t u w k = absurd (let z : _≡_ {A = ℕ} 0 1 = cc in omega arith)
     go false false false true false g p q r t u w k = absurd (let z : _≡_ {A = ℕ} 0 1 = cc in omega arith)
     go false false false false f g p q r t u w k = absurd (let z : _≡_ {A = ℕ} 0 1 = cc in omega arith)
@@ -333,15 +342,94 @@ type-moved s at v pre rest (ean k) =
       content = refl;
     }
 
+-- ---- what stands under bars
+pub data Word : ℕ → Type 0 where
+  nothing : Word (code "N")
+  left : Word (code "B")
+  centre : Word (code "C")
+  right : Word (code "R")
+
+-- a word that was read: its last letter, where it ends, and that it stays as it was written
+pub record WordFits (s : List ℕ) (at v e : ℕ) : Type 0 where
+  pub letter : Word v
+  pub ends : e ≡ at + length (wordWritten v)
+  pub stays : kept s at (length (wordWritten v)) ≡ wordWritten v
+
+module _ (s : List ℕ) (at : ℕ) where
+  nothing-fits : getD s at 0 ≡ code "N" → WordFits s at (code "N") (at + 1)
+  unfolding wordWritten
+  nothing-fits x = record { letter = nothing; ends = refl; stays = kept-one s at (code "N") (omega arith) x }
+
+  left-fits : getD s at 0 ≡ code "B" → WordFits s at (code "B") (at + 1)
+  unfolding wordWritten
+  left-fits x = record { letter = left; ends = refl; stays = kept-one s at (code "B") (omega arith) x }
+
+  placed-fits : (b : ℕ) → getD s at 0 ≡ code "B" → getD s (at + 1) 0 ≡ code "," → getD s (at + 2) 0 ≡ b → isPlace b ≡ true → WordFits s at b (at + 3)
+  placed-fits b x y z h = go (ℕ-discrete b (code "C")) (ℕ-discrete b (code "R"))
+    where
+      word : (c : ℕ) → 0 < c → b ≡ c → kept s at 3 ≡ code "B" ∷ (code "," ∷ (c ∷ []))
+      word c l e = kept-three s at (code "B") (code ",") c (omega arith) (omega arith) l x y (z ∙ e)
+
+      go : Dec (b ≡ code "C") → Dec (b ≡ code "R") → WordFits s at b (at + 3)
+      go (yes c) r = rw c (unfold wordWritten in record { letter = centre; ends = refl; stays = word (code "C") (omega arith) c })
+      go (no c) (yes r) = rw r (unfold wordWritten in record { letter = right; ends = refl; stays = word (code "R") (omega arith) r })
+      go (no c) (no r) = absurd (false≢true (rw (ne-eqb b (code "C") c, ne-eqb b (code "R") r) at h))
+
+  pub word-fits : (v e : ℕ) → underAt s at ≡ Is v e → WordFits s at v e
+  unfolding underAt
+  word-fits v e h =
+      go (eqb (getD s at 0) (code "N")) (eqb (getD s at 0) (code "B")) (eqb (getD s (at + 1) 0) (code ",")) (isPlace (getD s (at + 2) 0)) (eqb (getD s (at + 3) 0) (code ","))
+      refl
+      refl
+      refl
+      refl
+      h
+    where
+      line : eqb (getD s at 0) (code "B") ≡ true → Is (code "B") (at + 1) ≡ Is v e → WordFits s at v e
+      line p k = let x : code "B" ≡ v = cc in let y : at + 1 ≡ e = cc in rw (← x, ← y) (left-fits (eqb-true (getD s at 0) (code "B") p))
+
+      go : (a b c d g : Bool) → eqb (getD s at 0) (code "N") ≡ a → eqb (getD s at 0) (code "B") ≡ b → eqb (getD s (at + 1) 0) (code ",") ≡ c
+          → isPlace (getD s (at + 2) 0) ≡ d
+          → cond a (Is (code "N") (at + 1)) (cond b (cond (c && (d && g)) (Is (getD s (at + 2) 0) (at + 3)) (Is (code "B") (at + 1))) (Not at)) ≡ Is v e
+          → WordFits s at v e
+      go true b c d g m n o p k =
+          let x : code "N" ≡ v = cc in
+          let y : at + 1 ≡ e = cc in
+          rw (← x, ← y) (nothing-fits (eqb-true (getD s at 0) (code "N") m))
+      go false true true true true m n o p k =
+          let x : getD s (at + 2) 0 ≡ v = cc in
+          let y : at + 3 ≡ e = cc in
+          rw (← x, ← y)
+          (placed-fits (getD s (at + 2) 0) (eqb-true (getD s at 0) (code "B") n) (eqb-true (getD s (at + 1) 0) (code ",") o) refl p)
+      go false true true true false m n o p k = line n k
+      go false true true false g m n o p k = line n k
+      go false true false d g m n o p k = line n k
+      go false false c d g m n o p k = absurd (let z : _≡_ {A = ℕ} 0 1 = cc in omega arith)
+
+-- a word, written, is read back where a comma follows and no place between commas
+word-back : (pre rest : List ℕ) (v : ℕ) → Word v → After a-word rest
+    → underAt (pre ++ (wordWritten v ++ rest)) (length pre) ≡ Is v (length pre + length (wordWritten v))
+unfolding underAt wordWritten
+word-back pre rest v nothing a = rw (getD-append-seam pre (code "N") rest 0)
+word-back pre rest v left a =
+    let w : List ℕ = code "B" ∷ rest in
+    rw (getD-append-seam pre (code "B") rest 0, getD-append-add pre w 1 0, getD-append-add pre w 2 0, getD-append-add pre w 3 0, a .1)
+word-back pre rest v centre a =
+    let w : List ℕ = code "B" ∷ (code "," ∷ (code "C" ∷ rest)) in
+    rw (getD-append-seam pre (code "B") (code "," ∷ (code "C" ∷ rest)) 0, getD-append-add pre w 1 0, getD-append-add pre w 2 0, getD-append-add pre w 3 0, a .0)
+word-back pre rest v right a =
+    let w : List ℕ = code "B" ∷ (code "," ∷ (code "R" ∷ rest)) in
+    rw (getD-append-seam pre (code "B") (code "," ∷ (code "R" ∷ rest)) 0, getD-append-add pre w 1 0, getD-append-add pre w 2 0, getD-append-add pre w 3 0, a .0)
+
 -- ---- a byte that stands for itself
 module _ {f : ℕ} (p : Plain f) where
   pub plain-field : (s : List ℕ) (at : ℕ) → fieldAt f s at ≡ byteAt f s at
   unfolding fieldAt
-  plain-field s at = simp (p .no-n, p .no-w, p .no-s, p .no-t, p .no-u, p .no-a, p .no-z, p .no-m, p .no-j, p .no-k, p .no-d)
+  plain-field s at = simp (p .no-n, p .no-w, p .no-s, p .no-t, p .no-u, p .no-a, p .no-z, p .no-m, p .no-j, p .no-k, p .no-h, p .no-d)
 
   pub plain-written : (s : List ℕ) (v q : ℕ) → writtenField f s v q ≡ f ∷ []
   unfolding writtenField
-  plain-written s v q = simp (p .no-n, p .no-w, p .no-s, p .no-t, p .no-u, p .no-a, p .no-z, p .no-m, p .no-j, p .no-k, p .no-d)
+  plain-written s v q = simp (p .no-n, p .no-w, p .no-s, p .no-t, p .no-u, p .no-a, p .no-z, p .no-m, p .no-j, p .no-k, p .no-h, p .no-d)
 
   plain-limits : (l : ℕ × ℕ) (s : List ℕ) (u v q : ℕ) → fieldLimits f l s u v q ≡ Within
   unfolding fieldLimits
@@ -447,6 +535,13 @@ field-moved a-side s at v e pre rest h a =
       content = refl;
     }
 field-moved a-type s at v e pre rest h a = type-moved s at v pre rest (type-fits s at v e h)
+field-moved a-word s at v e pre rest h a =
+    record {
+      read = word-back pre rest v (word-fits s at v e h .letter) a;
+      again = refl;
+      limit = λ l u k. refl;
+      content = refl;
+    }
 field-moved some-data s at v e pre rest h a =
     let i = data-inside s at v e h in
     let c = chain-of s at v e h in

@@ -1,7 +1,7 @@
 -- Reading the normal form of a line gives the same command with the same contents, and its normal form is itself.
 use mathlib.Core.Path.{_≡_, _∙_, refl, sym, ap}
 use mathlib.Core.Bool.{Bool, true, false, cond, _&&_, _||_, not, true≢false, false≢true}
-use mathlib.Core.List.{List, [], _∷_, _++_, append-assoc}
+use mathlib.Core.List.{List, [], _∷_, _++_, append-assoc, append-nil}
 use Prim.Native.Nat.{ℕ, zero, suc, _+_, _<_}
 use Prim.Native.Char.{code}
 use native.Mathlib.Nat.{zero-add}
@@ -13,6 +13,8 @@ use Rattle.kinds.specs.Bytes.{between}
 use Rattle.classes.specs.Bytes.{inClass}
 use Rattle.classes.specs.declared.Class.the-variants.{Digit}
 use Rattle.classes.proofs.Laws.{and-T}
+use Rattle.elements.specs.Elements.{elements}
+use Rattle.reader.specs.Letters.{fieldAt}
 use Rattle.data_field.specs.declared.Limits.{Limits}
 use Rattle.data_field.specs.declared.Limits.the-variants.{Within, Outside}
 use Rattle.grammar.specs.Forms.{Form, forms, none, rowOf, boundsOf, free, isNumber, spread, inOrder, commandOf}
@@ -28,12 +30,13 @@ use Rattle.heads.specs.declared.Head.{Head}
 use Rattle.heads.specs.declared.Head.the-variants.{Row, Unknown}
 use Rattle.grammar.proofs.Rows.{_&_, Each, each-row}
 use Rattle.row_fields.proofs.Rows.{Split, fields-split}
-use Rattle.normal.specs.Written.{writtenField, writtenFrom, writtenOf, headWritten, normal}
+use Rattle.normal.specs.Written.{dataWritten, writtenField, writtenFrom, writtenOf, headWritten, normal}
 use Rattle.normal.specs.Contents.{unplaced, heldBy, contentsOf, headContents, contents}
 use Rattle.normal.specs.Promise.{Normal}
 use Rattle.normal.proofs.Back.{T-true}
-use Rattle.normal.proofs.Fields.{Letter, letter-of, a-number, a-wide, a-step, a-prompt, a-text, a-name, a-star, a-mode, a-side, a-type, some-data, itself, After, Moved, field-moved, Plain, plain-written}
-use Rattle.normal.proofs.Starts.{starts, every, every-among, written-split, start-of}
+use Rattle.normal.proofs.Fields.{Letter, letter-of, a-number, a-wide, a-step, a-prompt, a-text, a-name, a-star, a-mode, a-side, a-type, a-word, some-data, itself, After, Moved, field-moved, Plain, plain-written}
+use Rattle.normal.proofs.Data.{chain-of, data-inside}
+use Rattle.normal.proofs.Starts.{starts, every, every-among, written-split, start-of, data-placeless}
 
 -- ---- forms in which each field can be told from what follows
 
@@ -46,8 +49,14 @@ abbrev isEnd : List ℕ → Bool
 isEnd [] = true
 isEnd (f ∷ fs) = false
 
+-- a comma and data stand behind what is said of the line under bars
+abbrev isData : List ℕ → Bool
+isData [] = false
+isData (f ∷ []) = false
+isData (f ∷ (g ∷ fs)) = eqb f (code ",") && (eqb g (code "d") && isEnd fs)
+
 abbrev ends : ℕ → List ℕ → Bool
-ends f fs = cond (eqb f (code "d")) (isEnd fs) true
+ends f fs = cond (eqb f (code "d")) (isEnd fs) (cond (eqb f (code "h")) (isData fs) true)
 
 unfoldable sound : List ℕ → Bool
 sound [] = true
@@ -62,20 +71,44 @@ unfolding writtenFrom
 end-after [] s vs ps h = refl
 end-after (f ∷ fs) s vs ps h = absurd h
 
-after-of : {f : ℕ} (x : Letter f) (fs s vs ps : List ℕ) → T (follows f (getD (writtenFrom fs s vs ps) 0 0)) → T (ends f fs)
-    → After x (writtenFrom fs s vs ps)
-after-of a-number fs s vs ps h k = not-T (inClass Digit (getD (writtenFrom fs s vs ps) 0 0)) h
-after-of a-wide fs s vs ps h k = not-T (inClass Digit (getD (writtenFrom fs s vs ps) 0 0)) h
-after-of a-step fs s vs ps h k = not-T (inClass Digit (getD (writtenFrom fs s vs ps) 0 0)) h
-after-of a-prompt fs s vs ps h k = tt
-after-of a-text fs s vs ps h k = tt
-after-of a-name fs s vs ps h k = tt
-after-of a-star fs s vs ps h k = tt
-after-of a-mode fs s vs ps h k = tt
-after-of a-side fs s vs ps h k = tt
-after-of a-type fs s vs ps h k = tt
-after-of some-data fs s vs ps h k = end-after fs s vs ps k
-after-of (itself p) fs s vs ps h k = tt
+-- a comma stands behind a word, and behind it data, which starts with no place
+data-after : (fs s : List ℕ) (at : ℕ) (vs ps : List ℕ) → T (isEnd fs) → fieldsFrom (code "," ∷ (code "d" ∷ fs)) s at ≡ good vs ps
+    → After a-word (writtenFrom (code "," ∷ (code "d" ∷ fs)) s vs ps)
+unfolding fieldAt writtenField
+data-after fs s at vs ps e r =
+    let x = fields-split (code ",") (code "d" ∷ fs) s at vs ps r in
+    let y = fields-split (code "d") fs s (x .e) (x .vs) (x .ps) (x .others) in
+    let d : List ℕ = dataWritten s (elements s (x .e)) in
+    let w : writtenFrom (code "d" ∷ fs) s (x .vs) (x .ps) ≡ d =
+    written-split (code "d") fs s (x .vs) (x .ps) (y .v) (x .e) (y .vs) (y .ps) (y .values) (y .places) ∙ rw (end-after fs s (y .vs) (y .ps) e) (append-nil d) in
+    rw (written-split (code ",") (code "d" ∷ fs) s vs ps (x .v) at (x .vs) (x .ps) (x .values) (x .places), w)
+    (refl, data-placeless (chain-of s (x .e) (y .v) (y .e) (y .first)) (data-inside s (x .e) (y .v) (y .e) (y .first) .1))
+
+word-after : (fs s : List ℕ) (at : ℕ) (vs ps : List ℕ) → T (isData fs) → fieldsFrom fs s at ≡ good vs ps → After a-word (writtenFrom fs s vs ps)
+word-after [] s at vs ps h o = absurd h
+word-after (f ∷ []) s at vs ps h o = absurd h
+word-after (f ∷ (g ∷ fs)) s at vs ps h o =
+    let a = and-T (eqb f (code ",")) (eqb g (code "d") && isEnd fs) h in
+    let b = and-T (eqb g (code "d")) (isEnd fs) (a .1) in
+    let x : f ≡ code "," = eqb-true f (code ",") (T-true (eqb f (code ",")) (a .0)) in
+    let y : g ≡ code "d" = eqb-true g (code "d") (T-true (eqb g (code "d")) (b .0)) in
+    rw (x, y) (data-after fs s at vs ps (b .1) (rw (x, y) at o))
+
+after-of : {f : ℕ} (x : Letter f) (fs s : List ℕ) (at : ℕ) (vs ps : List ℕ) → fieldsFrom fs s at ≡ good vs ps
+    → T (follows f (getD (writtenFrom fs s vs ps) 0 0)) → T (ends f fs) → After x (writtenFrom fs s vs ps)
+after-of a-number fs s at vs ps o h k = not-T (inClass Digit (getD (writtenFrom fs s vs ps) 0 0)) h
+after-of a-wide fs s at vs ps o h k = not-T (inClass Digit (getD (writtenFrom fs s vs ps) 0 0)) h
+after-of a-step fs s at vs ps o h k = not-T (inClass Digit (getD (writtenFrom fs s vs ps) 0 0)) h
+after-of a-prompt fs s at vs ps o h k = tt
+after-of a-text fs s at vs ps o h k = tt
+after-of a-name fs s at vs ps o h k = tt
+after-of a-star fs s at vs ps o h k = tt
+after-of a-mode fs s at vs ps o h k = tt
+after-of a-side fs s at vs ps o h k = tt
+after-of a-type fs s at vs ps o h k = tt
+after-of a-word fs s at vs ps o h k = word-after fs s at vs ps k o
+after-of some-data fs s at vs ps o h k = end-after fs s vs ps k
+after-of (itself p) fs s at vs ps o h k = tt
 
 -- ---- the fields of a form, after pre
 pub record Kept (fs s vs ps w : List ℕ) (q : ℕ) : Type 0 where
@@ -144,7 +177,7 @@ fields-kept (f ∷ fs) s at vs ps pre h k =
     let w : List ℕ = writtenField f s (x .v) at in
     let rest : List ℕ = writtenFrom fs s (x .vs) (x .ps) in
     let g = every-among (follows f) (getD rest 0 0) (starts fs) (o .0) (start-of fs s (x .e) (x .vs) (x .ps) (x .others)) in
-    let m = field-moved (letter-of f) s at (x .v) (x .e) pre rest (x .first) (after-of (letter-of f) fs s (x .vs) (x .ps) g (o′ .0)) in
+    let m = field-moved (letter-of f) s at (x .v) (x .e) pre rest (x .first) (after-of (letter-of f) fs s (x .e) (x .vs) (x .ps) (x .others) g (o′ .0)) in
     let r = fields-kept fs s (x .e) (x .vs) (x .ps) (pre ++ w) (o′ .1) (x .others) in
     let r′ : Kept fs s (x .vs) (x .ps) (pre ++ (w ++ rest)) (length pre + length w) = rw (append-assoc pre w rest, length-append pre w) at r in
     kept-same (f ∷ fs) s (x .v ∷ x .vs) (at ∷ x .ps) vs ps pre (x .values) (x .places) (kept-cons f fs s at (x .v) (x .vs) (x .ps) pre m r′)
@@ -208,6 +241,7 @@ head-plain a-star h = absurd h
 head-plain a-mode h = absurd h
 head-plain a-side h = absurd h
 head-plain a-type h = absurd h
+head-plain a-word h = absurd h
 head-plain some-data h = absurd h
 head-plain (itself p) h = p
 

@@ -43,7 +43,7 @@ use Rattle.writing.specs.Writing.{decimal, signed, kept, cased}
 use Rattle.normal.specs.Written.{partWritten, whatWritten, elementWritten, dataWritten, writtenField, writtenFrom, normal}
 use Rattle.writing.proofs.Writes.{digits-last}
 use Rattle.normal.proofs.Back.{T-true, digits-count, number-fits, signed-fits, text-fits, cased-length}
-use Rattle.normal.proofs.Fields.{Letter, letter-of, a-number, a-wide, a-step, a-prompt, a-text, a-name, a-star, a-mode, a-side, a-type, some-data, itself, plain-field, plain-written}
+use Rattle.normal.proofs.Fields.{Letter, letter-of, a-number, a-wide, a-step, a-prompt, a-text, a-name, a-star, a-mode, a-side, a-type, a-word, some-data, itself, plain-field, plain-written, word-fits}
 use Rattle.normal.proofs.Round.{normal-is, item-parted}
 
 -- ---- a number
@@ -288,6 +288,7 @@ field-length a-star s at v e h = text-length true s at v e h
 field-length a-mode s at v e h = let q = letter-end Mode s at v e h in let l = kept-length false s at 1 in omega arith
 field-length a-side s at v e h = let q = letter-end Side s at v e h in let l = kept-length false s at 1 in omega arith
 field-length a-type s at v e h = let q = type-end s at v e h in let l = kept-length false s at (cond (eqb v 30) 3 1) in omega arith
+field-length a-word s at v e h = let q = word-fits s at v e h .ends in omega arith
 field-length some-data s at v e h = let l = data-shorter s at v e h in omega arith
 field-length {f} (itself p) s at v e h =
     let q = byte-end f s at v e (sym (plain-field p s at) ∙ h) in
@@ -326,7 +327,7 @@ fields-length (f ∷ fs) s at vs ps h =
 
 -- letters of no more bytes than `widest`
 abbrev narrow : ℕ → Bool
-narrow f = not (eqb f (code "a") || (eqb f (code "z") || (eqb f (code "u") || (eqb f (code "k") || eqb f (code "d")))))
+narrow f = not (eqb f (code "a") || (eqb f (code "z") || (eqb f (code "u") || (eqb f (code "k") || (eqb f (code "h") || eqb f (code "d"))))))
 
 abbrev widest : ℕ → ℕ × ℕ → ℕ
 widest f l = cond (isNumber f) 9 (cond (eqb f (code "s")) 10 (cond (eqb f (code "t")) (l .1 + 2) 1))
@@ -368,6 +369,7 @@ field-narrow a-star s at v e l u t h k = absurd t
 field-narrow a-mode s at v e l u t h k = kept-length false s at 1
 field-narrow a-side s at v e l u t h k = kept-length false s at 1
 field-narrow a-type s at v e l u t h k = absurd t
+field-narrow a-word s at v e l u t h k = absurd t
 field-narrow some-data s at v e l u t h k = absurd t
 field-narrow (itself p) s at v e l u t h k = rw (plain-written p s v at, p .no-n, p .no-w, p .no-s, p .no-t) (omega arith)
 

@@ -22,12 +22,12 @@ use Rattle.elements.specs.declared.Element.{Element}
 use Rattle.reader.specs.Letters.{fieldAt}
 use Rattle.row_fields.specs.Reading.{fieldsFrom, good}
 use Rattle.row_fields.proofs.Rows.{fields-split}
-use Rattle.writing.specs.Writing.{decimal, signed, kept, cased}
-use Rattle.normal.specs.Written.{whatWritten, dataWritten, writtenField, writtenFrom}
-use Rattle.writing.proofs.Writes.{cased-kept}
+use Rattle.writing.specs.Writing.{digitByte, decimal, signed, kept, cased}
+use Rattle.normal.specs.Written.{whatWritten, dataWritten, wordWritten, writtenField, writtenFrom}
+use Rattle.writing.proofs.Writes.{cased-kept, digits-last}
 use Rattle.normal.proofs.Back.{allIn, T-true, holds-at, number-fits, digits-class, digits-count, letter-fits, text-fits, cased-quotes}
 use Rattle.normal.proofs.Data.{a-text as is-text, a-variable as is-variable, a-counter as is-counter, Chain, ended, then, chain-of, data-inside}
-use Rattle.normal.proofs.Fields.{Letter, letter-of, a-number, a-wide, a-step, a-prompt, a-text, a-name, a-star, a-mode, a-side, a-type, some-data, itself, Plain, plain-written, TypeFits, one, two, three, ean, type-fits}
+use Rattle.normal.proofs.Fields.{Letter, letter-of, a-number, a-wide, a-step, a-prompt, a-text, a-name, a-star, a-mode, a-side, a-type, a-word, some-data, itself, Plain, plain-written, TypeFits, one, two, three, ean, type-fits, Word, nothing, left, centre, right, word-fits, placeAhead}
 
 -- ---- the bytes that may stand first, by the letters of the grammar
 
@@ -40,8 +40,9 @@ startsOf f next =
     (cond (eqb f (code "m")) (bytes "NR")
     (cond (eqb f (code "j")) (bytes "LRCNZ")
     (cond (eqb f (code "k")) (bytes "123E")
+    (cond (eqb f (code "h")) (bytes "NB")
     (cond (eqb f (code "d")) (bytes "\"VC")
-    (f ∷ [])))))))
+    (f ∷ []))))))))
 
 -- in the fields of a form; past the last stands nothing
 unfoldable pub starts : List ℕ → List ℕ
@@ -132,6 +133,13 @@ type-starts s at v rest (two k) = rw (cased-kept (kept s at 1), k) tt
 type-starts s at v rest (three k) = rw (cased-kept (kept s at 1), k) tt
 type-starts s at v rest (ean k) = rw (cased-kept (kept s at 3), k) tt
 
+word-starts : (v : ℕ) (rest : List ℕ) → Word v → T (among (getD (wordWritten v ++ rest) 0 0) (bytes "NB"))
+unfolding wordWritten
+word-starts v rest nothing = tt
+word-starts v rest left = tt
+word-starts v rest centre = tt
+word-starts v rest right = tt
+
 data-starts : {s : List ℕ} {at : ℕ} {es : List Element} (rest : List ℕ) → Chain s at es → at < length s
     → T (among (getD (dataWritten s es ++ rest) 0 0) (bytes "\"VC"))
 unfolding dataWritten whatWritten
@@ -140,10 +148,18 @@ data-starts {s} {at} rest (then (is-text n d h) c) l = rw (text-fits s at n d h 
 data-starts rest (then (is-variable k p n h f) c) l = tt
 data-starts rest (then (is-counter k p n h f) c) l = tt
 
+-- behind a comma data is no place with another comma: the C of a counter has its digit behind it
+pub data-placeless : {s : List ℕ} {at : ℕ} {es : List Element} → Chain s at es → at < length s → placeAhead (code "," ∷ dataWritten s es) ≡ false
+unfolding dataWritten whatWritten
+data-placeless (ended h) l = absurd (omega arith)
+data-placeless {s} {at} (then (is-text n d h) c) l = rw (text-fits s at n d h .whole)
+data-placeless (then (is-variable k p n h f) c) l = refl
+data-placeless (then (is-counter k p n h f) c) l = rw (digits-last 19 k [] (omega arith)) (ne-eqb (digitByte k) (code ",") (λ e. omega arith))
+
 plain-starts : {f : ℕ} (p : Plain f) (s : List ℕ) (v q : ℕ) (rest next : List ℕ) → T (among (getD (writtenField f s v q ++ rest) 0 0) (startsOf f next))
 plain-starts {f} p s v q rest next =
     let e : startsOf f next ≡ f ∷ [] =
-    simp (p .no-n, p .no-w, p .no-s, p .no-t, p .no-u, p .no-a, p .no-z, p .no-m, p .no-j, p .no-k, p .no-d) in
+    simp (p .no-n, p .no-w, p .no-s, p .no-t, p .no-u, p .no-a, p .no-z, p .no-m, p .no-j, p .no-k, p .no-h, p .no-d) in
     rw (plain-written p s v q, e, eq-eqb f f refl) tt
 
 pub field-starts : {f : ℕ} (x : Letter f) (s : List ℕ) (at v e : ℕ) (rest next : List ℕ) → fieldAt f s at ≡ Is v e → T (among (getD rest 0 0) next)
@@ -159,6 +175,7 @@ field-starts a-star s at v e rest next h k = text-starts true s at v e rest h
 field-starts a-mode s at v e rest next h k = let q = letter-fits Mode s at v e h in letter-starts s at v rest (bytes "NR") (q .1) (mode-among v (q .0))
 field-starts a-side s at v e rest next h k = let q = letter-fits Side s at v e h in letter-starts s at v rest (bytes "LRCNZ") (q .1) (side-among v (q .0))
 field-starts a-type s at v e rest next h k = type-starts s at v rest (type-fits s at v e h)
+field-starts a-word s at v e rest next h k = word-starts v rest (word-fits s at v e h .letter)
 field-starts some-data s at v e rest next h k = data-starts rest (chain-of s at v e h) (data-inside s at v e h .1)
 field-starts (itself p) s at v e rest next h k = plain-starts p s v at rest next
 

@@ -26,7 +26,7 @@ unplaced (Origin o) = Origin o
 unplaced (Variable x) = Variable (record { n = x .n; m = x .m; j = x .j; at = 0; length = x .length })
 unplaced (Counter x) = Counter (record { n = x .n; w = x .w; minus = x .minus; step = x .step; at = 0; length = x .length })
 unplaced (Text x) = Text (record { x = x .x; y = x .y; r = x .r; h = x .h; v = x .v; reverse = x .reverse; at = 0 })
-unplaced (Bars x) = Bars (record { x = x .x; y = x .y; r = x .r; kind = x .kind; e = x .e; f = x .f; g = x .g; at = 0 })
+unplaced (Bars x) = Bars (record { x = x .x; y = x .y; r = x .r; kind = x .kind; e = x .e; f = x .f; g = x .g; under = x .under; at = 0 })
 unplaced (Box b) = Box b
 unplaced (Frame f) = Frame f
 unplaced (Picture x) = Picture (record { a = x .a; b = x .b; at = 0; length = x .length })

@@ -7,6 +7,7 @@ use mathlib.Core.Bool.{Bool, true, false, cond, _||_, _&&_}
 use mathlib.Core.List.{List, [], _∷_, _++_}
 use lib.ListN.{length, getD, drop}
 use lib.Dec.{leb, eqb}
+use Rattle.kinds.specs.Text.{bytes}
 use Rattle.elements.specs.Elements.{elements}
 use Rattle.elements.specs.declared.Part.{Part}
 use Rattle.elements.specs.declared.Part.the-variants.{Whole, First, Last, Middle}
@@ -45,6 +46,15 @@ unfoldable pub dataWritten : List ℕ → List Element → List ℕ
 dataWritten s [] = []
 dataWritten s (e ∷ es) = elementWritten s e ++ dataWritten s es
 
+-- a line under bars and its place
+abbrev pub placedWritten : ℕ → List ℕ
+placedWritten place = bytes "B," ++ (place ∷ [])
+
+-- what stands under bars, by the last letter of its word: `N`, `B`, `B,C` and `B,R` stay as they were written
+unfoldable pub wordWritten : ℕ → List ℕ
+wordWritten v =
+    cond (eqb v (code "N")) (bytes "N") (cond (eqb v (code "B")) (bytes "B") (cond (eqb v (code "C")) (placedWritten (code "C")) (placedWritten (code "R"))))
+
 -- the field of value v at p that a byte of a form stands for
 unfoldable pub writtenField : ℕ → List ℕ → ℕ → ℕ → List ℕ
 writtenField f s v p =
@@ -54,8 +64,9 @@ writtenField f s v p =
     (cond (eqb f (code "s")) (signed v)
     (cond (eqb f (code "m") || eqb f (code "j")) (cased false (kept s p 1))
     (cond (eqb f (code "k")) (cased false (kept s p (cond (eqb v 30) 3 1)))
+    (cond (eqb f (code "h")) (wordWritten v)
     (cond (eqb f (code "d")) (dataWritten s (elements s p))
-    (f ∷ [])))))))
+    (f ∷ []))))))))
 
 -- the fields of a form, with their values and places
 unfoldable pub writtenFrom : List ℕ → List ℕ → List ℕ → List ℕ → List ℕ

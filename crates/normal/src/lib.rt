@@ -12,11 +12,12 @@ ghost use lib.Dec.{eqb};
 ghost use Rattle.elements.specs.Elements.{elements};
 ghost use Rattle.grammar.specs.Forms.{rowOf, Form};
 ghost use Rattle.writing.specs.Writing.{Wrote, decimal, cased, kept};
-ghost use Rattle.normal.specs.Written.{partWritten, whatWritten, dataWritten, writtenField, writtenFrom, normal};
+ghost use Rattle.normal.specs.Written.{partWritten, whatWritten, dataWritten, placedWritten, wordWritten, writtenField, writtenFrom, normal};
 use elements::Part;
 use elements::Step;
 use elements::What;
 use elements::element_at;
+use fields::word;
 use grammar::table::line_up;
 use heads::Head;
 use heads::head_of;
@@ -118,6 +119,29 @@ fn type_length(t: usize) -> usize
     if t == 30 { 3 } else { 1 }
 }
 
+// Writes `B`, a comma and a place.
+fn put_placed(place: u8, out: &mut [u8], at: usize) -> usize
+    requires { ⌜ at ≤ length (now out) ⌝ }
+    ensures { λ r. ⌜ Wrote (now (out .entry)) at (placedWritten place) r (now (out .exit)) ⌝ }
+{
+    let comma = put(out, at, b'B');
+    let next = put(out, comma, b',');
+    put(out, next, place)
+}
+
+// Writes the word of which v is the last letter.
+fn put_word(v: usize, out: &mut [u8], at: usize) -> usize
+    requires { ⌜ at ≤ length (now out) ⌝ }
+    ensures { λ r. ⌜ Wrote (now (out .entry)) at (wordWritten v) r (now (out .exit)) ⌝ }
+{
+    match v {
+        word::NOTHING => put(out, at, b'N'),
+        word::LINE => put(out, at, b'B'),
+        word::CENTRE => put_placed(b'C', out, at),
+        _ => put_placed(b'R', out, at),
+    }
+}
+
 // Writes the field of value v at p that a byte of a form stands for.
 fn put_field(line: &[u8], f: u8, v: usize, p: usize, out: &mut [u8], at: usize) -> usize
     requires { ⌜ at ≤ length (now out) ⌝ }
@@ -134,6 +158,7 @@ fn put_field(line: &[u8], f: u8, v: usize, p: usize, out: &mut [u8], at: usize) 
         b'm' => copy(first(rest(line, p), 1), false, out, at),
         b'j' => copy(first(rest(line, p), 1), false, out, at),
         b'k' => copy(first(rest(line, p), type_length(v)), false, out, at),
+        b'h' => put_word(v, out, at),
         b'd' => put_data(line, p, out, at),
         _ => put(out, at, f),
     }

@@ -4,10 +4,12 @@ use mathlib.Core.Path.{_≡_, refl}
 use mathlib.Core.Bool.{true, false}
 use Rattle.kinds.specs.Bytes.{between}
 use Rattle.kinds.specs.declared.Kind.the-variants.{Ean13}
+use Rattle.kinds.specs.declared.Place.the-variants.{Left, Centre, Right}
+use Rattle.kinds.specs.declared.Under.the-variants.{Nothing, Line}
 use Rattle.kinds.specs.Text.{bytes}
 use Rattle.classes.specs.Bytes.{run}
 use Rattle.numbers.specs.Number.{valueFrom, numberAt, signedAt}
-use Rattle.fields.specs.Field.{textAt, byteAt, typeAt, kindFrom}
+use Rattle.fields.specs.Field.{textAt, byteAt, typeAt, kindFrom, underAt, underFrom}
 use Rattle.elements.specs.Elements.{modifierAt, heldAt, elementAt, elementsFrom, elements}
 use Rattle.data_field.specs.Data.{total, dataAt, limits}
 use Rattle.reader.specs.Letters.{fieldAt}
@@ -57,13 +59,46 @@ rows = refl
 
 -- "wide f 2..10 and above e, else 7"
 wide : readOf 240 (bytes "B0,0,0,E30,3,3,50,N,V0L2") ≡ Refused (Limit 13)
-unfolding readOf headed judged headOf headBy find fieldsFrom fieldAt limitsFrom fieldLimits meets spread inOrder numberAt byteAt typeAt dataAt total limits elements elementsFrom elementAt heldAt modifierAt run between valueFrom
+unfolding readOf headed judged headOf headBy find fieldsFrom fieldAt limitsFrom fieldLimits meets spread inOrder numberAt byteAt typeAt underAt dataAt total limits elements elementsFrom elementAt heldAt modifierAt run between valueFrom
 wide = refl
 
 bars : readOf 240 (bytes "B0,0,0,E30,2,3,50,N,V0L2")
-    ≡ Taken (item (Bars (record { x = 0; y = 0; r = 0; kind = Ean13; e = 2; f = 3; g = 50; at = 20 })))
-unfolding readOf headed judged headOf headBy find fieldsFrom fieldAt limitsFrom fieldLimits meets spread inOrder numberAt byteAt typeAt kindFrom dataAt total limits elements elementsFrom elementAt heldAt modifierAt run between valueFrom
+    ≡ Taken (item (Bars (record { x = 0; y = 0; r = 0; kind = Ean13; e = 2; f = 3; g = 50; under = Nothing; at = 20 })))
+unfolding readOf headed judged headOf headBy find fieldsFrom fieldAt limitsFrom fieldLimits meets spread inOrder numberAt byteAt typeAt kindFrom underAt underFrom dataAt total limits elements elementsFrom elementAt heldAt modifierAt run between valueFrom
 bars = refl
+
+-- paper 02, §1: "B is to take `B` where 01 takes only `N`, and after it an optional `,C` or `,R`"; `B,C0` is the data `C0`
+line : readOf 240 (bytes "B0,0,0,E30,2,3,50,B,C0")
+    ≡ Taken (item (Bars (record { x = 0; y = 0; r = 0; kind = Ean13; e = 2; f = 3; g = 50; under = Line Left; at = 20 })))
+unfolding readOf headed judged headOf headBy find fieldsFrom fieldAt limitsFrom fieldLimits meets spread inOrder numberAt byteAt typeAt kindFrom underAt underFrom dataAt total limits elements elementsFrom elementAt heldAt modifierAt run between valueFrom
+line = refl
+
+centred : readOf 240 (bytes "B0,0,0,E30,2,3,50,B,C,C0")
+    ≡ Taken (item (Bars (record { x = 0; y = 0; r = 0; kind = Ean13; e = 2; f = 3; g = 50; under = Line Centre; at = 22 })))
+unfolding readOf headed judged headOf headBy find fieldsFrom fieldAt limitsFrom fieldLimits meets spread inOrder numberAt byteAt typeAt kindFrom underAt underFrom dataAt total limits elements elementsFrom elementAt heldAt modifierAt run between valueFrom
+centred = refl
+
+right : readOf 240 (bytes "B0,0,0,E30,2,3,50,B,R,V1")
+    ≡ Taken (item (Bars (record { x = 0; y = 0; r = 0; kind = Ean13; e = 2; f = 3; g = 50; under = Line Right; at = 22 })))
+unfolding readOf headed judged headOf headBy find fieldsFrom fieldAt limitsFrom fieldLimits meets spread inOrder numberAt byteAt typeAt kindFrom underAt underFrom dataAt total limits elements elementsFrom elementAt heldAt modifierAt run between valueFrom
+right = refl
+
+-- "letters other than these stay 6": no comma behind the `B`, a place that is none, a place behind `N`, nothing behind the comma
+joined : readOf 240 (bytes "B0,0,0,E30,2,3,50,BC,C0") ≡ Refused (form 19)
+unfolding readOf headed judged headOf headBy find fieldsFrom fieldAt numberAt byteAt typeAt underAt dataAt total elements elementsFrom elementAt heldAt modifierAt run between valueFrom
+joined = refl
+
+other-place : readOf 240 (bytes "B0,0,0,E30,2,3,50,B,L,C0") ≡ Refused (form 20)
+unfolding readOf headed judged headOf headBy find fieldsFrom fieldAt numberAt byteAt typeAt underAt dataAt total elements elementsFrom elementAt heldAt modifierAt run between valueFrom
+other-place = refl
+
+place-of-none : readOf 240 (bytes "B0,0,0,E30,2,3,50,N,C,C0") ≡ Refused (form 20)
+unfolding readOf headed judged headOf headBy find fieldsFrom fieldAt numberAt byteAt typeAt underAt dataAt total elements elementsFrom elementAt heldAt modifierAt run between valueFrom
+place-of-none = refl
+
+no-data : readOf 240 (bytes "B0,0,0,E30,2,3,50,B,") ≡ Refused (form 20)
+unfolding readOf headed judged headOf headBy find fieldsFrom fieldAt numberAt byteAt typeAt underAt dataAt total elements elementsFrom elementAt heldAt modifierAt run between valueFrom
+no-data = refl
 
 -- "`"*"` erases all", and is no name for FS
 all-forms : readOf 240 (bytes "FK\"*\"") ≡ Taken (Forms (EraseForm (record { at = 2; length = 1; all = true })))

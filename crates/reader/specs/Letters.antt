@@ -6,13 +6,13 @@ use mathlib.Core.Bool.{cond, _||_}
 use mathlib.Core.List.{List}
 use lib.Dec.{eqb}
 use Rattle.numbers.specs.Number.{numberAt, signedAt}
-use Rattle.fields.specs.Field.{textAt, byteAt, letterAt, typeAt}
+use Rattle.fields.specs.Field.{textAt, byteAt, letterAt, typeAt, underAt}
 use Rattle.data_field.specs.Data.{dataAt}
 use Rattle.classes.specs.declared.Class.the-variants.{Mode, Side}
 use Rattle.fields.specs.declared.Field.{Field}
 
 -- n and w stand for a number, t, a, z and u for a quoted text, s for a number with or without sign, m and j for one letter (mode,
--- justification), k for a bar type and d for data; any other byte stands for itself. A letter for a piece that may be absent would answer a field
+-- justification), k for a bar type, h for what stands under bars and d for data; any other byte stands for itself. A letter for a piece that may be absent would answer a field
 -- that ends where it starts
 unfoldable pub fieldAt : ℕ → List ℕ → ℕ → Field
 fieldAt f s at =
@@ -22,5 +22,6 @@ fieldAt f s at =
     (cond (eqb f (code "m")) (letterAt Mode s at)
     (cond (eqb f (code "j")) (letterAt Side s at)
     (cond (eqb f (code "k")) (typeAt s at)
+    (cond (eqb f (code "h")) (underAt s at)
     (cond (eqb f (code "d")) (dataAt s at)
-    (byteAt f s at)))))))
+    (byteAt f s at))))))))

@@ -29,6 +29,7 @@ fn field_at(line: &[u8], f: u8, at: usize) -> Field
         b'm' => fields::letter(line, Class::Mode, at),
         b'j' => fields::letter(line, Class::Side, at),
         b'k' => fields::bar_type(line, at),
+        b'h' => fields::under(line, at),
         b'd' => data_field::data_form(line, at),
         _ => fields::literal(line, f, at),
     }

@@ -6,7 +6,6 @@ ghost use lib.Seq.{sets};
 ghost use Rattle.symbols.specs.Tables.{rowsSet};
 ghost use Rattle.symbols.specs.Elements.{digitOf, checkDigit, checked, patternRow, patterns, elementsEan};
 ghost use Rattle.symbols.specs.Laid.{mostElements, Put};
-ghost use Rattle.kinds.specs.Fit.{mostData};
 use crate::row::put;
 use crate::row::wide;
 use code128::above;
@@ -53,14 +52,14 @@ fn row_of_sets(b: u8) -> u32
     SETS[v]
 }
 
-fn check_digit(s: &[u8]) -> u8
-    requires { ⌜ length (now s) ≤ mostData ⌝ }
+// The check digit of any number of digits: what is summed stays below ten and one digit's weight.
+pub fn check_digit(s: &[u8]) -> u8
     ensures { λ r. ⌜ r ≡ checkDigit (now (s .entry)) ⌝ }
 {
     let mut sum: usize = 0;
     let mut i = 0;
     while i < s.len() {
-        sum += (3 - 2 * ((s.len() - i - 1) % 2)) * above(s[i], b'0');
+        sum = sum % 10 + (3 - 2 * ((s.len() - i - 1) % 2)) * above(s[i], b'0');
         i += 1;
     }
     ((10 - sum % 10) % 10) as u8

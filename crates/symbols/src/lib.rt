@@ -2,7 +2,8 @@
 //
 // Paper 01 has four types of bars: Code 39 (3), Interleaved 2 of 5 (2), EAN-13 (E30) and Code 128 in set B alone (1), after ISO/IEC 16388,
 // 16390, 15420 and 15417. `elements` writes the widths of a symbol's elements as specs/Elements.antt makes them from the tables, for any bytes; what is
-// unfit has none. Which bytes are fit stands in crate `kinds`, the table of Code 128 and its check symbol in `code128`, bars drawn in `bars`.
+// unfit has none. `check_digit` is the check digit of any digits, which EAN-13 has behind its twelve. Which bytes are fit stands in crate `kinds`, the
+// table of Code 128 and its check symbol in `code128`, bars drawn in `bars`.
 // The modules are private. Where one of their functions asks for room in a list or for fit data, `elements` below meets it.
 mod code39;
 mod ean;
@@ -17,6 +18,7 @@ ghost use Rattle.kinds.specs.Fit.{fit};
 ghost use Rattle.symbols.specs.Elements as Elements;
 ghost use Rattle.symbols.specs.Elements.{elementsIn};
 ghost use Rattle.symbols.specs.Laid.{mostElements, Put};
+pub use ean::check_digit;
 use kinds::Kind;
 
 // Code 39 has the most elements: 128 bytes, start and stop of nine each, and gaps between them.

@@ -47,7 +47,7 @@ returns : tie.Need-returns
 returns c =
     let a = c .before .before .before .before .before .before .before .before .before .before .before .before .before .before .args in
     strokes-drawn (a .width) (a .length) (a .x) (a .y) (a .r) (a .g) _ _ _ _ _ _ _ _ _ _ (a .page .now) _ refl refl (c .before .before .before .before .before .before .before .before .before .elements .ensures .0) (c .before .before .before .before .before .before .before .before .before .elements .ensures .1) (c .before .before .before .before .before .before .before .before .before .before .before .before .before .before .pre .2)
-    (c .before .before .before .before .before .total .ensures) (c .before .before .strokes .ensures)
+    (c .before .before .before .before .before .total .ensures .0) (c .before .before .strokes .ensures)
 
 pub place-spec : {M : Type 1} → statement M
 place-spec =

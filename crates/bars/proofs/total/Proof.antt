@@ -34,7 +34,11 @@ loop-again : tie.Need-loop-again Inv-loop μ-loop
 loop-again c = adding-step _ _ _ _ _ (length-map (c .before .before .before .before .args .ws .now) (dotsOf (c .before .before .before .before .args .kind) (c .before .before .before .before .args .e) (c .before .before .before .before .args .f))) (c .before .loop-test .taken) (c .before .before .loop .inv) (c .width-at .ensures .0) (c .width-at .ensures .1)
 
 returns : tie.Need-returns Inv-loop μ-loop
-returns c = adding-done _ _ _ _ (length-map (c .before .before .before .args .ws .now) (dotsOf (c .before .before .before .args .kind) (c .before .before .before .args .e) (c .before .before .before .args .f))) (c .loop-test .left) (c .before .loop .inv)
+returns c =
+    let a = c .before .before .before .args in
+    let n = length-map (a .ws .now) (dotsOf (a .kind) (a .e) (a .f)) in
+    let i = c .before .loop .inv in
+    (adding-done _ _ _ _ n (c .loop-test .left) i, omega (arith, n, i .small, i .below))
 
 pub total-spec : {M : Type 1} → statement M
 total-spec =

@@ -1,6 +1,6 @@
 use mathlib.Core.Path.{refl, _∙_}
 use denote.Ref.{now}
-use Rattle.bars.specs.Drawing.{barsDrawn}
+use Rattle.lined.specs.Lined.{barsWith}
 use Rattle.elements.specs.Elements.{elements}
 use Rattle.pieces.specs.Data.{assembled, valuesIn}
 use Rattle.item_drawing.proofs.Showing.{data-shown}
@@ -33,7 +33,16 @@ same-length : tie.Need-same-length
 same-length c = search needs
 
 returns : tie.Need-returns
-returns c = let a = c .before .before .before .before .before .before .before .before .before .before .before .before .before .before .args in c .before .before .draw .ensures ∙ (λ i. barsDrawn (a .width) (a .length) (c .before .before .before .before .before .before .before .far .ensures i) (c .before .before .before .before .before .before .far2 .ensures i) (a .s .r) (a .s .kind) (a .s .e) (a .s .f) (a .s .g) ((c .before .before .before .front .ensures ∙ data-shown (c .before .before .before .before .before .before .before .before .before .assemble .result) (assembled (now (a .line)) (a .d) (valuesIn (now (a .values)) (a .counters)) (elements (now (a .line)) (a .s .at))) _ _ refl (c .before .before .before .before .before .before .before .before .before .assemble .ensures)) i) (now (a .page)))
+returns c =
+    let a = c .before .before .before .before .before .before .before .before .before .before .before .before .before .before .before .args in
+    let n = c .before .before .before .before .before .before .before .before .before .assemble in
+    c .before .before .draw .ensures
+    ∙ (λ i.
+    barsWith (a .width) (a .length) (c .before .before .before .before .before .before .before .far .ensures i) (c .before .before .before .before .before .before .far2 .ensures i)
+    (a .s .r) (a .s .kind) (a .s .e) (a .s .f) (a .s .g) (a .s .under) (now (a .font))
+    ((c .before .before .before .front .ensures
+    ∙ data-shown (n .result) (assembled (now (a .line)) (a .d) (valuesIn (now (a .values)) (a .counters)) (elements (now (a .line)) (a .s .at))) _ _ refl (n .ensures)) i)
+    (now (a .page)))
 
 pub draw-bars-spec : {M : Type 1} → statement M
 draw-bars-spec = tie.close (tie.spec slice-aggregate-assemble assemble-requires far-requires far-requires-2 slice-aggregate-front front-requires draw-requires same-length returns)

@@ -61,6 +61,9 @@ first-requires-3 c κs = search needs
 copy-requires-3 : tie.Need-copy-requires-3
 copy-requires-3 c κs = search needs
 
+put-word-requires : tie.Need-put-word-requires
+put-word-requires c κs = search needs
+
 put-data-requires : tie.Need-put-data-requires
 put-data-requires c κs = search needs
 
@@ -142,14 +145,21 @@ same-length-11 c = search needs
 
 returns-11 : tie.Need-returns-11
 unfolding writtenField
-returns-11 c = rw (c .before .before .before .before .match .keys11) (c .before .before .put-data .ensures)
+returns-11 c = rw (c .before .before .before .before .match .keys11) (c .before .before .put-word .ensures)
 
 same-length-12 : tie.Need-same-length-12
 same-length-12 c = search needs
 
 returns-12 : tie.Need-returns-12
 unfolding writtenField
-returns-12 c = let r = c .before .before .before .before .match .rest in simp (ne-eqb _ (code "n") (r .0 .0 .0 .0 .0 .0 .0 .0 .0 .0 .1), ne-eqb _ (code "w") (r .0 .0 .0 .0 .0 .0 .0 .0 .0 .1), ne-eqb _ (code "t") (r .0 .0 .0 .0 .0 .0 .0 .0 .1), ne-eqb _ (code "u") (r .0 .0 .0 .0 .0 .0 .0 .1), ne-eqb _ (code "a") (r .0 .0 .0 .0 .0 .0 .1), ne-eqb _ (code "z") (r .0 .0 .0 .0 .0 .1), ne-eqb _ (code "s") (r .0 .0 .0 .0 .1), ne-eqb _ (code "m") (r .0 .0 .0 .1), ne-eqb _ (code "j") (r .0 .0 .1), ne-eqb _ (code "k") (r .0 .1), ne-eqb _ (code "d") (r .1)) (c .before .before .put .ensures)
+returns-12 c = rw (c .before .before .before .before .match .keys12) (c .before .before .put-data .ensures)
+
+same-length-13 : tie.Need-same-length-13
+same-length-13 c = search needs
+
+returns-13 : tie.Need-returns-13
+unfolding writtenField
+returns-13 c = let r = c .before .before .before .before .match .rest in simp (ne-eqb _ (code "n") (r .0 .0 .0 .0 .0 .0 .0 .0 .0 .0 .0 .1), ne-eqb _ (code "w") (r .0 .0 .0 .0 .0 .0 .0 .0 .0 .0 .1), ne-eqb _ (code "t") (r .0 .0 .0 .0 .0 .0 .0 .0 .0 .1), ne-eqb _ (code "u") (r .0 .0 .0 .0 .0 .0 .0 .0 .1), ne-eqb _ (code "a") (r .0 .0 .0 .0 .0 .0 .0 .1), ne-eqb _ (code "z") (r .0 .0 .0 .0 .0 .0 .1), ne-eqb _ (code "s") (r .0 .0 .0 .0 .0 .1), ne-eqb _ (code "m") (r .0 .0 .0 .0 .1), ne-eqb _ (code "j") (r .0 .0 .0 .1), ne-eqb _ (code "k") (r .0 .0 .1), ne-eqb _ (code "h") (r .0 .1), ne-eqb _ (code "d") (r .1)) (c .before .before .put .ensures)
 
 pub put-field-spec : {M : Type 1} → statement M
 put-field-spec =
@@ -172,6 +182,7 @@ put-field-spec =
     type-length-requires
     first-requires-3
     copy-requires-3
+    put-word-requires
     put-data-requires
     put-requires
     same-length
@@ -197,4 +208,6 @@ put-field-spec =
     same-length-11
     returns-11
     same-length-12
-    returns-12)
+    returns-12
+    same-length-13
+    returns-13)

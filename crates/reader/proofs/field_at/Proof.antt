@@ -35,6 +35,9 @@ letter-requires-2 c κs = search needs
 bar-type-requires : tie.Need-bar-type-requires
 bar-type-requires c κs = search needs
 
+under-requires : tie.Need-under-requires
+under-requires c κs = search needs
+
 data-form-requires : tie.Need-data-form-requires
 data-form-requires c κs = search needs
 
@@ -83,11 +86,15 @@ returns-10 c = rw (c .before .match .keys10) (c .bar-type .ensures)
 
 returns-11 : tie.Need-returns-11
 unfolding fieldAt
-returns-11 c = rw (c .before .match .keys11) (c .data-form .ensures)
+returns-11 c = rw (c .before .match .keys11) (c .under .ensures)
 
 returns-12 : tie.Need-returns-12
 unfolding fieldAt
-returns-12 c = let r = c .before .match .rest in simp (ne-eqb _ (code "n") (r .0 .0 .0 .0 .0 .0 .0 .0 .0 .0 .1), ne-eqb _ (code "w") (r .0 .0 .0 .0 .0 .0 .0 .0 .0 .1), ne-eqb _ (code "t") (r .0 .0 .0 .0 .0 .0 .0 .0 .1), ne-eqb _ (code "a") (r .0 .0 .0 .0 .0 .0 .0 .1), ne-eqb _ (code "z") (r .0 .0 .0 .0 .0 .0 .1), ne-eqb _ (code "u") (r .0 .0 .0 .0 .0 .1), ne-eqb _ (code "s") (r .0 .0 .0 .0 .1), ne-eqb _ (code "m") (r .0 .0 .0 .1), ne-eqb _ (code "j") (r .0 .0 .1), ne-eqb _ (code "k") (r .0 .1), ne-eqb _ (code "d") (r .1), c .literal .ensures)
+returns-12 c = rw (c .before .match .keys12) (c .data-form .ensures)
+
+returns-13 : tie.Need-returns-13
+unfolding fieldAt
+returns-13 c = let r = c .before .match .rest in simp (ne-eqb _ (code "n") (r .0 .0 .0 .0 .0 .0 .0 .0 .0 .0 .0 .1), ne-eqb _ (code "w") (r .0 .0 .0 .0 .0 .0 .0 .0 .0 .0 .1), ne-eqb _ (code "t") (r .0 .0 .0 .0 .0 .0 .0 .0 .0 .1), ne-eqb _ (code "a") (r .0 .0 .0 .0 .0 .0 .0 .0 .1), ne-eqb _ (code "z") (r .0 .0 .0 .0 .0 .0 .0 .1), ne-eqb _ (code "u") (r .0 .0 .0 .0 .0 .0 .1), ne-eqb _ (code "s") (r .0 .0 .0 .0 .0 .1), ne-eqb _ (code "m") (r .0 .0 .0 .0 .1), ne-eqb _ (code "j") (r .0 .0 .0 .1), ne-eqb _ (code "k") (r .0 .0 .1), ne-eqb _ (code "h") (r .0 .1), ne-eqb _ (code "d") (r .1), c .literal .ensures)
 
 pub field-at-spec : {M : Type 1} → statement M
 field-at-spec =
@@ -103,6 +110,7 @@ field-at-spec =
     letter-requires
     letter-requires-2
     bar-type-requires
+    under-requires
     data-form-requires
     literal-requires
     returns
@@ -116,4 +124,5 @@ field-at-spec =
     returns-9
     returns-10
     returns-11
-    returns-12)
+    returns-12
+    returns-13)

@@ -1,6 +1,7 @@
-use mathlib.Core.Path.{_≡_, ap}
+use mathlib.Core.Path.{_≡_}
 use Prim.Native.Nat.{ℕ}
 use Rattle.kinds.specs.declared.Kind.{Kind}
+use Rattle.kinds.specs.declared.Under.{Under}
 use Rattle.grammar.specs.declared.Item.the-variants.{Bars}
 use Rattle.grammar.specs.declared.Command.{Command}
 use Rattle.grammar.specs.declared.Command.the-variants.{Item}
@@ -8,9 +9,6 @@ use borrow.Author.Needs.{needs}
 use Rattle.grammar.specs.Forms.{inOrder}
 use Rattle.grammar.proofs.makers.bars.Statement.{statement}
 use Rattle.grammar.proofs.makers.bars.Tie as tie
-use Rattle.grammar.proofs.makers.bars.Reads as reads
-use Rattle.grammar.proofs.makers.bars.Lts as lts
-use Rattle.fields.proofs.kind_from.Reads as kind-from-reads
 
 element-copy-out-t5 : tie.Need-element-copy-out-t5
 element-copy-out-t5 c = search needs
@@ -36,20 +34,26 @@ element-copy-out-t21 c = search needs
 element-copy-out-t24 : tie.Need-element-copy-out-t24
 element-copy-out-t24 c = search needs
 
-element-copy-out-t27 : tie.Need-element-copy-out-t27
-element-copy-out-t27 c = search needs
+element-copy-out-under-from : tie.Need-element-copy-out-under-from
+element-copy-out-under-from c = search needs
 
--- with its type of bars read, the symbol is whole
+under-from-requires : tie.Need-under-from-requires
+under-from-requires c κs = search needs
+
+element-copy-out-t31 : tie.Need-element-copy-out-t31
+element-copy-out-t31 c = search needs
+
+-- with its type and what stands under it read, the symbol is whole
 module _ (x y r e f g at : ℕ) where
-  abbrev symbol : Kind → Command
-  symbol k = Item (Bars (record { x = x; y = y; r = r; kind = k; e = e; f = f; g = g; at = at }))
+  abbrev symbol : Kind → Under → Command
+  symbol k u = Item (Bars (record { x = x; y = y; r = r; kind = k; e = e; f = f; g = g; under = u; at = at }))
 
-  kind-read : (k l : Kind) → k ≡ l → symbol k ≡ symbol l
-  kind-read k l h = ap symbol h
+  both-read : (k l : Kind) (u v : Under) → k ≡ l → u ≡ v → symbol k u ≡ symbol l v
+  both-read k l u v h i = λ t. symbol (h t) (i t)
 
 returns : tie.Need-returns
 unfolding inOrder
-returns c = λ s. kind-read _ _ _ _ _ _ _ _ _ (c .before .before .before .before .kind-from .ensures)
+returns c = λ s. both-read _ _ _ _ _ _ _ _ _ _ _ (c .before .before .before .before .before .before .kind-from .ensures) (c .before .under-from .ensures)
 
 pub bars-spec : {M : Type 1} → statement M
 bars-spec =
@@ -63,5 +67,7 @@ bars-spec =
     element-copy-out-t18
     element-copy-out-t21
     element-copy-out-t24
-    element-copy-out-t27
+    element-copy-out-under-from
+    under-from-requires
+    element-copy-out-t31
     returns)

@@ -2,7 +2,7 @@
 use Prim.Native.Nat.{_-_}
 use native.Mathlib.Omega.{arith}
 use lib.ListN.{length}
-use Rattle.symbols.proofs.Checks.{Summing, Summed, summing-step, summing-done}
+use Rattle.symbols.proofs.Checks.{Summing, Summed, summing-start, summing-step, summing-done}
 use borrow.Author.Needs.{needs}
 use Rattle.symbols.proofs.ean.check_digit.Statement.{statement}
 use Rattle.symbols.proofs.ean.check_digit.Tie as tie
@@ -17,7 +17,7 @@ turn : (c : tie.After-above Inv-loop μ-loop) → Summed (c .before .before .bef
 turn c = summing-step _ _ _ _ (c .before .before .loop-test .taken) (c .before .before .before .loop .inv) (c .above .ensures .0) (c .above .ensures .1)
 
 loop-holds : tie.Need-loop-holds Inv-loop μ-loop
-loop-holds c = record { few = search needs; below = omega arith; small = omega arith; whole = omega arith }
+loop-holds c = summing-start _
 
 sub-sum : tie.Need-sub-sum Inv-loop μ-loop
 sub-sum c = omega arith
@@ -41,7 +41,7 @@ mul-sum-2 : tie.Need-mul-sum-2 Inv-loop μ-loop
 mul-sum-2 c = record { fits = omega (arith, turn c .term) }
 
 add-sum : tie.Need-add-sum Inv-loop μ-loop
-add-sum c = record { fits = omega (arith, turn c .term, c .before .before .before .loop .inv .small) }
+add-sum c = record { fits = omega (arith, turn c .term) }
 
 add-i : tie.Need-add-i Inv-loop μ-loop
 add-i c = omega arith
