@@ -1,7 +1,7 @@
 -- What drawing an item keeps: the background's length, and its white outside width by length.
 -- Assumes nothing.
 use mathlib.Core.Path.{_≡_, refl, _∙_}
-use mathlib.Core.Bool.{Bool, true, false, cond}
+use mathlib.Core.Bool.{Bool, true, false}
 use mathlib.Core.List.{List}
 use Prim.Native.Nat.{ℕ}
 use lib.ListN.{length}
@@ -10,7 +10,7 @@ use Rattle.dots.specs.Dots.{drawn, cut}
 use Rattle.dots.proofs.Pages.{length-drawn}
 use Rattle.outside.proofs.WhiteOutside.{white-outside-drawn}
 use Rattle.text.specs.Text.{textDrawn, inMode, spotOf, glyphs, drawable}
-use Rattle.lined.proofs.Keeping.{with-keeps}
+use Rattle.lined.proofs.Keeping.{picked, with-keeps}
 use Rattle.declarations.specs.declared.Declared.{Declared}
 use Rattle.grammar.specs.declared.Item.{Item}
 use Rattle.item_drawing.specs.Draw.{Setting, drawsItem}
@@ -19,10 +19,6 @@ use Rattle.item_drawing.proofs.Keeping.{TextKeeps, BarsKeep, Long, Clear, item-
 -- ---- whatever every drawing within width and length keeps, text and bars keep
 
 module _ (p : List ℕ → Type 0) (g : Setting) (dots : (ink : Ink) (s : ℕ → ℕ → Bool) (page : List ℕ) → p page → p (drawn ink (cut (g .width) (g .length) s) page)) where
-  picked : (b : Bool) (x y : List ℕ) → p x → p y → p (cond b x y)
-  picked true x y h k = h
-  picked false x y h k = k
-
   in-mode : (reverse : Bool) (x y r h v n : ℕ) (figure : ℕ → ℕ → Bool) (page : List ℕ) → p page
       → p (inMode reverse (spotOf (g .width) (g .length) x y r h v (g .font) n) figure page)
   unfolding inMode
@@ -32,7 +28,7 @@ module _ (p : List ℕ → Type 0) (g : Setting) (dots : (ink : Ink) (s : ℕ �
   pub text-keeps : TextKeeps p g
   unfolding textDrawn
   text-keeps x y r h v reverse s page k =
-      picked (drawable h v s) _ page (in-mode reverse x y r h v (length s) (glyphs (g .font) h v s) page k) k
+      picked p (drawable h v s) _ page (in-mode reverse x y r h v (length s) (glyphs (g .font) h v s) page k) k
 
   pub bars-keep : BarsKeep p g
   bars-keep x y r kind e f h under s page k = with-keeps p (g .width) (g .length) dots x y r kind e f h under (g .font) s page k

@@ -21,7 +21,8 @@ pub no-line : (W L x y r : ℕ) (kind : Kind) (e f g : ℕ) (font s page : List 
 unfolding barsWith
 no-line W L x y r kind e f g font s page = refl
 
-picked : (p : List ℕ → Type 0) (b : Bool) (x y : List ℕ) → p x → p y → p (cond b x y)
+-- what holds of two pages holds of the one that a test picks
+pub picked : (p : List ℕ → Type 0) (b : Bool) (x y : List ℕ) → p x → p y → p (cond b x y)
 picked p true x y h k = h
 picked p false x y h k = k
 
