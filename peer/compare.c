@@ -2,10 +2,12 @@
  *
  *   compare CALLS FIRST-SEED
  *
- * After each call the answer, the counts, the session and every lent byte must be the same, and so must the bytes beyond
- * what was lent. Of the peer alone it is also asked that a refusal changes nothing, that a call changes only what it may, and
- * that memory is sound after every taken call. The first difference is told with the seed of its session and ends the
- * run. At the end: how often each call gave each answer. With -DSELF the station is the peer again, which tries the generator and this program alone. */
+ * After each call the answer, the three counts, the session and every lent byte must be the same, and so must the bytes beyond
+ * what was lent. Of the peer alone it is also asked that a refusal changes nothing, that a call changes only what it may, that
+ * only 6, 7 and 12 to 15 point and none past the line's LF, and that memory is sound after every taken call. The first difference is
+ * told with the seed of its session and ends the run. At the end: how often each call gave each answer, and of the answers that
+ * point how many places they were seen to point to, how many of these more than nine times, and how often to the LF. With -DSELF
+ * the station is the peer again, which tries the generator and this program alone. */
 #include <inttypes.h>
 #include <stdio.h>
 #include <stdlib.h>
@@ -29,7 +31,10 @@ struct pair {
     struct desk station, peer, before;
 };
 
-static uint64_t reached[3][22], other;
+enum { ANSWERS = 22, PLACES = MOST_LINE + 1 };
+
+static uint64_t reached[3][ANSWERS], other;
+static uint64_t pointed[ANSWERS][PLACES], to_lf[ANSWERS];
 
 static void write_bytes(const uint8_t *bytes, size_t count)
 {
@@ -92,14 +97,48 @@ static void keep(struct pair *p)
             memcpy(p->before.bytes[s], p->peer.bytes[s], p->peer.room[s]);
 }
 
-/* A slice that the call may change with this answer. Counts are stored at every answer of a command. */
-static int may_change(enum call_kind call, unsigned answer, enum slice s)
+/* A slice that the call may change with this answer. Counts are stored at every answer of a command, if there are three. */
+static int may_change(const struct event *e, unsigned answer, enum slice s)
 {
-    switch (call) {
+    switch (e->call) {
     case OPEN: return s == SESSION || (answer == 0 && s != OUTPUT && s != COUNTS);
-    case COMMAND: return s == COUNTS || (answer == 0 && s != PAGE);
+    case COMMAND: return s == COUNTS ? e->length[COUNTS] == 3 : answer == 0 && s != PAGE;
     default: return answer == 0 && (s == SESSION || s == PAGE);
     }
+}
+
+static int points(unsigned answer)
+{
+    return answer == NOT_WRITTEN_SO || answer == OUTSIDE_LIMITS || (answer >= DECLARED_BEFORE && answer <= UNFIT_DATA);
+}
+
+static uint64_t count_of(const struct pair *p, unsigned i)
+{
+    uint64_t n;
+
+    memcpy(&n, p->peer.bytes[COUNTS] + 8 * i, 8);
+    return n;
+}
+
+/* "Other answers give place 0." Of those that point only 6 may mean the LF. */
+static int place_allowed(const struct pair *p, const struct event *e, unsigned answer)
+{
+    const uint8_t *lf = e->count ? memchr(e->bytes, '\n', e->count) : NULL;
+    uint64_t place = count_of(p, 2);
+
+    if (!points(answer))
+        return place == 0;
+    return lf && place < (uint64_t)(lf - e->bytes) + (answer == NOT_WRITTEN_SO);
+}
+
+static void note_place(const struct pair *p, const struct event *e, unsigned answer)
+{
+    uint64_t place = count_of(p, 2);
+
+    if (!points(answer))
+        return;
+    pointed[answer][place]++;
+    to_lf[answer] += e->bytes[place] == '\n';
 }
 
 static int is_sound(const struct pair *p, const struct event *e)
@@ -117,12 +156,17 @@ static int is_sound(const struct pair *p, const struct event *e)
 static void check_promises(const struct pair *p, const struct generator *g, const struct event *e, unsigned answer, uint64_t calls)
 {
     for (int s = 0; s < SLICES; s++)
-        if (s != FONT && s != INPUT && !may_change(e->call, answer, (enum slice)s)
+        if (s != FONT && s != INPUT && !may_change(e, answer, (enum slice)s)
             && memcmp(p->before.bytes[s], p->peer.bytes[s], p->peer.room[s]) != 0) {
             tell_difference(g, e, calls);
             printf("the peer answered %u and changed %s\n", answer, slice_names[s]);
             exit(1);
         }
+    if (e->call == COMMAND && e->length[COUNTS] == 3 && !place_allowed(p, e, answer)) {
+        tell_difference(g, e, calls);
+        printf("the peer answered %u with place %" PRIu64 "\n", answer, count_of(p, 2));
+        exit(1);
+    }
     if (answer == 0 && !is_sound(p, e)) {
         tell_difference(g, e, calls);
         printf("the peer took the call and left memory that is not sound\n");
@@ -147,7 +191,8 @@ static void make_call(struct pair *p, struct generator *g, const struct event *e
         exit(1);
     }
     check_promises(p, g, e, theirs, calls);
-    if (theirs < 22)
+    note_place(p, e, theirs);
+    if (theirs < ANSWERS)
         reached[e->call][theirs]++;
     else
         other++;
@@ -169,10 +214,24 @@ static void both_fonts(struct pair *p, const struct event *e)
 static void tell_reached(uint64_t calls)
 {
     printf("%" PRIu64 " calls, no difference\nanswer      open   command     label\n", calls);
-    for (int a = 0; a < 22; a++)
+    for (int a = 0; a < ANSWERS; a++)
         printf("%6d %9" PRIu64 " %9" PRIu64 " %9" PRIu64 "\n", a, reached[OPEN][a], reached[COMMAND][a], reached[LABEL][a]);
     if (other)
         printf("other answers: %" PRIu64 "\n", other);
+}
+
+static void tell_places(void)
+{
+    printf("points    places  over nine times    to LF\n");
+    for (unsigned a = 0; a < ANSWERS; a++) {
+        unsigned places = 0, often = 0;
+        for (unsigned place = 0; place < PLACES; place++) {
+            places += pointed[a][place] > 0;
+            often += pointed[a][place] > 9;
+        }
+        if (points(a))
+            printf("%6u %9u %16u %8" PRIu64 "\n", a, places, often, to_lf[a]);
+    }
 }
 
 int main(int argc, char **argv)
@@ -199,6 +258,7 @@ int main(int argc, char **argv)
         }
     }
     tell_reached(calls);
+    tell_places();
     clear_away(&p.station);
     clear_away(&p.peer);
     clear_away(&p.before);

@@ -100,49 +100,52 @@ static bool data_fits(const struct command *c, const struct declarations *d)
     return false;
 }
 
-static enum answer judge_data(const struct command *c, const struct declarations *d)
+static const struct verdict taken = {TAKEN, 0};
+
+/* [13] and [14] point to the leftmost such element, [15] to the first byte of the data. [13] anywhere comes before [14]. */
+static struct verdict judge_data(const struct command *c, const struct declarations *d)
 {
     for (unsigned i = 0; i < c->elements; i++)
         if (!is_declared(&c->element[i], d))
-            return NOT_DECLARED;
+            return (struct verdict){NOT_DECLARED, c->element[i].at};
     for (unsigned i = 0; i < c->elements; i++)
         if (reaches_past(&c->element[i], d))
-            return PAST_LENGTH;
-    return data_fits(c, d) ? TAKEN : UNFIT_DATA;
+            return (struct verdict){PAST_LENGTH, c->element[i].at};
+    return data_fits(c, d) ? taken : (struct verdict){UNFIT_DATA, c->element[0].at};
 }
 
-static enum answer declare_variable(const struct command *c, struct declarations *d)
+static struct verdict declare_variable(const struct command *c, struct declarations *d)
 {
     struct variable *v = &d->v[c->n[0]];
 
     if (v->declared)
-        return DECLARED_BEFORE;
+        return (struct verdict){DECLARED_BEFORE, c->n_at};
     v->declared = true;
     v->length = (uint8_t)c->n[1];
     v->justify = c->letter;
-    return TAKEN;
+    return taken;
 }
 
-static enum answer declare_counter(const struct command *c, struct declarations *d)
+static struct verdict declare_counter(const struct command *c, struct declarations *d)
 {
     struct declared_counter *k = &d->c[c->n[0]];
 
     if (k->declared)
-        return DECLARED_BEFORE;
+        return (struct verdict){DECLARED_BEFORE, c->n_at};
     k->declared = true;
     k->digits = (uint8_t)c->n[1];
     k->step = c->minus ? -(int32_t)c->n[2] : (int32_t)c->n[2];
-    return TAKEN;
+    return taken;
 }
 
-enum answer judge_line(const struct command *c, struct declarations *d)
+struct verdict judge_line(const struct command *c, struct declarations *d)
 {
     switch (c->word) {
     case W_V: return declare_variable(c, d);
     case W_C: return declare_counter(c, d);
     case W_A:
     case W_B: return judge_data(c, d);
-    default: return TAKEN;
+    default: return taken;
     }
 }
 

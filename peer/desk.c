@@ -67,7 +67,7 @@ void usual_lengths(size_t length[SLICES], unsigned rows, unsigned portions, unsi
 {
     memset(length, 0, SLICES * sizeof length[0]);
     length[SESSION] = IMAGE;
-    length[COUNTS] = 2;
+    length[COUNTS] = 3;
     length[PAGE] = length[BACKGROUND] = (size_t)rows * ROW_BYTES;
     length[STORE] = (size_t)portions * PORTION;
     length[LINKS] = portions;

@@ -74,8 +74,8 @@ static void draw_labels(const char *prefix)
 /* The command at the front of the input, whose bytes read are the result. */
 static size_t run_command(const char *file, unsigned line, const uint8_t *at, size_t length)
 {
-    uint64_t counts[2] = {0, 0};
-    unsigned answer = peer_command(image, IMAGE, counts, 2, font, font_length, background, PAGE, store, STORE, links,
+    uint64_t counts[3] = {0, 0, 0};
+    unsigned answer = peer_command(image, IMAGE, counts, 3, font, font_length, background, PAGE, store, STORE, links,
                                    MOST_PORTIONS, directory, DIRECTORY, values, VALUES, output, ROOM, at, length);
 
     if (answer != TAKEN) {

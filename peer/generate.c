@@ -151,9 +151,68 @@ static void put_words(struct generator *g, const char *text)
         put(g, (uint8_t)*text++);
 }
 
+/* These bytes at a place of the line, what stood there behind them. */
+static void put_in(struct generator *g, size_t at, const char *bytes, size_t count)
+{
+    struct line *l = &g->line;
+
+    memmove(l->bytes + at + count, l->bytes + at, l->length - at);
+    memcpy(l->bytes + at, bytes, count);
+    l->length += count;
+}
+
 static bool spoilt(struct generator *g)
 {
-    return g->spoil-- == 0;
+    bool now = g->spoil & 1;
+
+    g->spoil >>= 1;
+    return now;
+}
+
+/* One field, and now and then the next or another too: the leftmost of them must be told. */
+static unsigned choose_spoil(struct generator *g)
+{
+    unsigned fields = 1u << below(g, 8);
+
+    if (chance(g, 30))
+        fields |= chance(g, 60) ? fields << 1 : 1u << below(g, 8);
+    return fields;
+}
+
+/* A faulty line may end here, in the middle of something. */
+static void may_end(struct generator *g, unsigned in_hundred)
+{
+    if (g->faulty && g->end == 0 && chance(g, in_hundred))
+        g->end = g->line.length;
+}
+
+/* Near the word: its last byte doubled or missing, something put before or behind it; or quite another. */
+static void put_other_word(struct generator *g, const char *word)
+{
+    static const char *const others[] = {"", "3C", "4", "31", "NN", "n", "BN", "X", "\"N\"", "C0", "1.", "\x7f", "123"};
+    size_t length = strlen(word);
+
+    switch (below(g, 8)) {
+    case 0:
+    case 1: put_words(g, word); put(g, (uint8_t)word[length - 1]); break;
+    case 2: put(g, (uint8_t)"0 \"N"[below(g, 4)]); put_words(g, word); break;
+    case 3: put_words(g, word); put(g, (uint8_t)"0 \"NC\x01"[below(g, 6)]); break;
+    case 4: put(g, (uint8_t)(word[0] | 32)); put_words(g, word + 1); break;
+    case 5: put_in(g, g->line.length, word, length - 1); break;
+    default: put_words(g, others[below(g, sizeof others / sizeof others[0])]); break;
+    }
+}
+
+/* A word of the line; in a faulty one now and then another. */
+static void put_word(struct generator *g, const char *word)
+{
+    bool wrong = g->faulty && chance(g, 25);
+
+    if (wrong)
+        put_other_word(g, word);
+    else
+        put_words(g, word);
+    may_end(g, wrong ? 50 : 5);
 }
 
 static void put_digits(struct generator *g, unsigned value)
@@ -168,7 +227,7 @@ static void put_outside(struct generator *g, unsigned least, unsigned most)
 {
     switch (below(g, least > 0 ? 5 : 4)) {
     case 0: put_words(g, "999999999"); break;
-    case 1: put_words(g, chance(g, 20) ? "0000000001" : "100000"); break;
+    case 1: put_words(g, !chance(g, 20) ? "100000" : chance(g, 50) ? "0000000001" : "123456789012"); break;
     case 4: put_digits(g, least - 1); break;
     default: put_digits(g, most + 1); break;
     }
@@ -208,6 +267,7 @@ static void put_y(struct generator *g, unsigned most)
 static void put_comma(struct generator *g)
 {
     put(g, ',');
+    may_end(g, 1);
 }
 
 static const char *const name_pool[] = {"A", "TEST", "a", "Test", "LOGO1", "X Y", " ", "12345678", "A ", "b", "C", "D", "e~", "zA@", "`{["};
@@ -273,15 +333,15 @@ static void put_prompt(struct generator *g)
 static unsigned put_modifier(struct generator *g, unsigned length)
 {
     unsigned n = between(g, 1, length), place = 1;
-    bool past = chance(g, 6);
+    bool past = chance(g, g->faulty ? 30 : 6);
 
     if (chance(g, 50))
         return length;
     if (past)
         n = between(g, length + 1, length + 3);
     switch (below(g, 3)) {
-    case 0: put(g, 'L'); break;
-    case 1: put(g, 'R'); break;
+    case 0: put(g, 'L'); may_end(g, 5); break;
+    case 1: put(g, 'R'); may_end(g, 5); break;
     default:
         place = past ? between(g, 1, 5) : between(g, 1, length - n + 1);
         put(g, 'M');
@@ -289,7 +349,9 @@ static unsigned put_modifier(struct generator *g, unsigned length)
             put_outside(g, 1, 32);
         else
             put_digits(g, place);
+        may_end(g, 10);
         put(g, '.');
+        may_end(g, 10);
     }
     if (spoilt(g))
         put_outside(g, 1, 32);
@@ -323,6 +385,7 @@ static void put_quoted(struct generator *g, unsigned length)
 {
     put(g, '"');
     put_text(g, length);
+    may_end(g, 3);
     put(g, '"');
 }
 
@@ -347,9 +410,44 @@ static void put_stray(struct generator *g)
     put_modifier(g, between(g, 1, 32));
 }
 
+/* What looks like an element and is none, in itself or with what follows it. */
+static void put_wrong_element(struct generator *g)
+{
+    static const char *const wrong[] = {"V", "C", "Vx", "V,", "CC", "V0L", "V0Lx", "C0R,", "V0M", "V0M1", "V0M1.", "V0M1,1", "V0M.1", "V0M1.x",
+                                        "C0Mx.1", "V0L1234567890", "C0M1.0000000001", "V0M1234567890.1", "C0R12345678901", "V01", "C0L1R1",
+                                        "V0l1", "C0L1.2", "V0M1.2.3", "v0", "c1", "L1", "R", ",", " ", "\"", "x", ".", "1", "-", "\x01", "\x80",
+                                        "\"\x1f\"", "\"a\x7f\"", "\"ab\xff", "V\"0\"", "C0L\"1\""};
+
+    put_words(g, wrong[below(g, sizeof wrong / sizeof wrong[0])]);
+    may_end(g, 40);
+}
+
+/* Several elements of which some are declared and some not, some reach too far, some have modifiers outside their limits. */
+static void put_faulty_data(struct generator *g, const struct declared *d)
+{
+    unsigned count = between(g, 1, 6), share = below(g, 30);
+    bool strays = chance(g, 40);
+
+    while (count--) {
+        if (chance(g, share / 2))
+            put_wrong_element(g);
+        else if (strays && chance(g, 35))
+            put_stray(g);
+        else
+            put_any_element(g, d);
+        if (chance(g, share / 2))
+            g->spoil |= 1u << below(g, 3);
+    }
+}
+
 static void put_any_data(struct generator *g, const struct declared *d)
 {
     unsigned count = between(g, 1, chance(g, 10) ? 9 : 3);
+
+    if (g->faulty && chance(g, 60)) {
+        put_faulty_data(g, d);
+        return;
+    }
 
     while (count--)
         put_any_element(g, d);
@@ -374,6 +472,10 @@ static void put_digit_data(struct generator *g, const struct declared *d, char t
 {
     unsigned total = 0, fill, tries = below(g, 4);
 
+    if (g->faulty && chance(g, 40)) {
+        put_faulty_data(g, d);
+        return;
+    }
     while (tries-- && total < 12)
         total += put_value(g, d, true);
     fill = usual_fill(g, type, total);
@@ -432,11 +534,15 @@ static void put_corner(struct generator *g, char word, unsigned usual)
     put_comma(g);
 }
 
-/* Elements of no bytes until the line is as long as a line may be, or a little longer. */
+/* Elements of no bytes until the line is as long as a line may be, or a little longer; in a faulty one a text without its end. */
 static void pad_data(struct generator *g)
 {
     size_t to = between(g, chance(g, 40) ? 253 : 235, 257);
 
+    if (g->faulty && chance(g, 50)) {
+        put(g, '"');
+        put_text(g, to > g->line.length ? (unsigned)(to - g->line.length) : 0);
+    }
     while (g->line.length + 2 <= to)
         put_words(g, "\"\"");
 }
@@ -447,9 +553,11 @@ static void put_text_line(struct generator *g, const struct declared *d)
     put_number(g, 1, 6, 2);
     put_comma(g);
     put_number(g, 1, 9, 2);
-    put_words(g, chance(g, 70) ? ",N," : ",R,");
+    put_comma(g);
+    put_word(g, chance(g, 70) ? "N" : "R");
+    put_comma(g);
     put_any_data(g, d);
-    if (chance(g, g->plain ? 12 : 5))
+    if (chance(g, g->plain || g->faulty ? 12 : 5))
         pad_data(g);
 }
 
@@ -458,16 +566,17 @@ static void put_bar_sizes(struct generator *g, char type)
 {
     unsigned narrow = chance(g, 80) ? between(g, 1, 2) : between(g, 1, 6);
 
-    put_words(g, type == 'E' ? "E30" : (const char[]){type, 0});
+    put_word(g, type == 'E' ? "E30" : (const char[]){type, 0});
     put_comma(g);
     if (spoilt(g))
         put_outside(g, 1, 6);
     else
         put_digits(g, narrow);
     put_comma(g);
-    if (spoilt(g))
-        put_digits(g, chance(g, 50) ? between(g, 0, narrow) : 11);
-    else
+    if (spoilt(g) || (g->faulty && chance(g, 10))) {
+        put_digits(g, chance(g, 70) ? between(g, 0, narrow) : 11);
+        g->spoil |= chance(g, 30);  /* the height too */
+    } else
         put_digits(g, between(g, narrow + 1, chance(g, 80) ? narrow + 2 : 10));
     put_comma(g);
     put_number(g, 24, 1000, chance(g, 50) ? 28 : 40);
@@ -478,11 +587,12 @@ static void put_bar_sizes(struct generator *g, char type)
 static void put_wrong_word(struct generator *g, bool *ends)
 {
     static const char *const before_data[] = {"BC,", "BR,", "B,L,", "N,C,", "N,R,", "BB,", "b,", "B,C", "B,R", "B,C,C,", "B,R,C,", "B,,",
-                                              "B,c,", "BN,", "C,", "B", "N", ""};
-    static const char *const at_end[] = {"B,", "B,C,", "B,R,", "B,C", "B,R", "B", "N,", "N"};
+                                              "B,c,", "BN,", "C,", "B", "N", "", "B,C0,", "B,Rx,", "B,R,R,", "B,CR,", "N,,", "NN,"};
+    static const char *const at_end[] = {"B,", "B,C,", "B,R,", "B,C", "B,R", "B", "N,", "N", "N,R", "N,C", "BC", "B,Rx", "B,Cx", "B,RR",
+                                         "B,L", "B,R,R", "B,C,C", "B,C,V", ""};
 
     *ends = chance(g, 35);
-    put_words(g, *ends ? at_end[below(g, 8)] : before_data[below(g, sizeof before_data / sizeof before_data[0])]);
+    put_words(g, *ends ? at_end[below(g, sizeof at_end / sizeof at_end[0])] : before_data[below(g, sizeof before_data / sizeof before_data[0])]);
 }
 
 /* Half of them ask for a line under the bars, and more of them stand in the upper rows, where there is room for it. */
@@ -495,7 +605,7 @@ static void put_bars_line(struct generator *g, const struct declared *d)
 
     put_corner(g, 'B', chance(g, 70) ? g->rows / 3 : usual_y(g));
     put_bar_sizes(g, type);
-    if (chance(g, 4))
+    if (chance(g, g->faulty ? 25 : 4))
         put_wrong_word(g, &ends);
     else
         put_words(g, words[below(g, 6)]);
@@ -540,7 +650,7 @@ static unsigned pick_number(struct generator *g, const bool *declared)
 
 static void put_variable(struct generator *g, const struct declared *d)
 {
-    static const char kinds[] = "LRCNZZZN";
+    static const char *const kinds[] = {"L", "R", "C", "N", "Z", "Z", "Z", "N"};
 
     put(g, 'V');
     if (spoilt(g))
@@ -550,13 +660,15 @@ static void put_variable(struct generator *g, const struct declared *d)
     put_comma(g);
     put_number(g, 1, 32, 6);
     put_comma(g);
-    put(g, (uint8_t)kinds[below(g, 8)]);
+    put_word(g, kinds[below(g, 8)]);
     put_comma(g);
     put_prompt(g);
 }
 
 static void put_counter(struct generator *g, const struct declared *d)
 {
+    static const char *const wrong[] = {"+", "-", "x", ",", " ", "000000000", "1234567890", "+1-", "\"", "."};  /* before the step's digits */
+
     put(g, 'C');
     if (spoilt(g))
         put_outside(g, 0, 9);
@@ -566,6 +678,11 @@ static void put_counter(struct generator *g, const struct declared *d)
     put_number(g, 1, 9, 3);
     put_comma(g);
     put_words(g, chance(g, g->plain ? 70 : 40) ? "+" : chance(g, g->plain ? 95 : 50) ? "-" : "");
+    may_end(g, 10);
+    if (g->faulty && chance(g, 30)) {
+        put_words(g, wrong[below(g, sizeof wrong / sizeof wrong[0])]);
+        may_end(g, 40);
+    }
     put_number(g, 0, 99999, chance(g, 70) ? 3 : 99999);
     put_comma(g);
     put_prompt(g);
@@ -773,6 +890,17 @@ static size_t damage_picture(struct generator *g, uint8_t *picture, size_t size)
     }
 }
 
+static void put_load_line(struct generator *g, unsigned size)
+{
+    put_words(g, "GM");
+    put_name(g, PICTURE, 10);
+    put_comma(g);
+    if (spoilt(g))
+        put_outside(g, 1, MOST_PICTURE);
+    else
+        put_digits(g, size);
+}
+
 /* GM with its bytes after the LF. */
 static void put_load(struct generator *g)
 {
@@ -786,13 +914,7 @@ static void put_load(struct generator *g)
     told = size;
     if (chance(g, 4))
         told = size + between(g, 1, 300);  /* bytes lack, unless more lines follow */
-    put_words(g, "GM");
-    put_name(g, PICTURE, 10);
-    put_comma(g);
-    if (spoilt(g))
-        put_outside(g, 1, MOST_PICTURE);
-    else
-        put_digits(g, (unsigned)told);
+    put_load_line(g, (unsigned)told);
     put(g, '\n');
     memcpy(g->line.bytes + g->line.length, picture, size);
     g->line.length += size;
@@ -857,10 +979,15 @@ static void put_strange(struct generator *g)
 {
     static const char *const words[] = {"D6", "S4", "I1", "j1", "M", "FA", "GW0,0,1,1", "TS1,1,1,1,1,1", "U", "FI\"A\"", "PC", "P2,3",
                                         "RESET", "LS0,0,1,5,5", "?", "Q240,B40-8", "N1", "V", "C", "A", "B", "X", "L", "F", "G", "Z",
-                                        "ZC", "FIX", "VC1", "GI ", " FI", "fi", "zT", "P", "P+1", "P-1", "q", "?V0", "?C0,-1",
+                                        "ZC", "ZTT", "FIX", "VC1", "VCC", "VX", "LX", "FX", "GX", "?X", "?VC", "GI ", "N ", "FS", "FEE", "NN", " FI", "fi", "zT", "P", "P+1", "P-1", "q", "?V0", "?C0,-1",
                                         "?V0,5", "?C0,\"5\"", "FK*", "FK\"", "GG1,1,A", "R1,2,3", "LO1,2,3", "LO1,2,3,4,5"};
 
-    put_words(g, words[below(g, sizeof words / sizeof words[0])]);
+    if (chance(g, 95)) {
+        put_words(g, words[below(g, sizeof words / sizeof words[0])]);
+        return;
+    }
+    put_words(g, "A0,0,0,1,1,N,\"");  /* as long as a line may be, and ends too soon */
+    put_text(g, between(g, 238, 242));
 }
 
 static void put_recording_line(struct generator *g, const struct view *v)
@@ -963,32 +1090,137 @@ static void put_idle_line(struct generator *g, const struct view *v)
         put_small_word(g);
 }
 
-/* One byte dropped, put in, changed or doubled; the result mostly has no written form. */
+/* ---- faults of form ---- */
+
+static bool in_set(uint8_t byte, const char *set)
+{
+    return byte != 0 && strchr(set, byte) != NULL;
+}
+
+/* The next place from there on, round the end, with a byte of the set; or that place itself. */
+static size_t next_of(const struct generator *g, size_t from, const char *set)
+{
+    for (size_t i = 0; i < g->line.length; i++)
+        if (in_set(g->line.bytes[(from + i) % g->line.length], set))
+            return (from + i) % g->line.length;
+    return from;
+}
+
+/* Any place of the line, or one near where a piece, a word or a modifier begins or ends. */
+static size_t some_place(struct generator *g)
+{
+    size_t at = below(g, (unsigned)g->line.length + 1);
+
+    if (chance(g, 60))
+        at = next_of(g, at, chance(g, 50) ? ",\"" : "VCELRMBN+-.") + below(g, 3);
+    return at < g->line.length ? at : g->line.length;
+}
+
+static char strange_byte(struct generator *g)
+{
+    static const char likely[] = ",,\"\"0129LRMVCN +-.;EAB*3ZTx";
+
+    if (chance(g, 85))
+        return likely[below(g, sizeof likely - 1)];
+    return (char)(chance(g, 40) ? below(g, 32) : chance(g, 50) ? between(g, 127, 255) : random_number(g));
+}
+
+/* So that a number has nine digits, ten or some more. */
+static void lengthen_number(struct generator *g, size_t at)
+{
+    put_in(g, next_of(g, at, "0123456789"), "000000000000", between(g, 6, 12));
+}
+
+static void spoil_quoted(struct generator *g, size_t at)
+{
+    static const char bad[] = {0, 1, 31, 127, (char)128, (char)255};
+    size_t quote = next_of(g, at, "\"");
+
+    if (quote < g->line.length)
+        put_in(g, quote + 1, &bad[below(g, 6)], 1);
+}
+
+static void lengthen_line(struct generator *g)
+{
+    static const char *const ends[] = {",", ",5", "x", " ", "0", "\"", "\"a\"", "V0", "C,", ",C", "L1", ".1", "\x01", "\r", ",\"\""};
+    const char *end = ends[below(g, sizeof ends / sizeof ends[0])];
+
+    put_in(g, g->line.length, end, strlen(end));
+}
+
+/* A byte dropped, put in, changed or doubled, the line cut or lengthened, and the like; the result mostly has no written form. */
 static void disturb(struct generator *g)
 {
-    static const char likely[] = ",,\"\"0129LRMVCN +-.;EAB*";
     struct line *l = &g->line;
-    size_t at = l->length ? below(g, (unsigned)l->length) : 0;
-    uint8_t byte = chance(g, 85) ? (uint8_t)likely[below(g, sizeof likely - 1)] : (uint8_t)random_number(g);
+    size_t at = some_place(g);
+    char byte = strange_byte(g);
 
-    switch (below(g, 4)) {
+    switch (below(g, 12)) {
     case 0:
-        if (l->length > 0)
+    case 1:
+        if (at < l->length)
             memmove(l->bytes + at, l->bytes + at + 1, --l->length - at);
         break;
-    case 1:
-        memmove(l->bytes + at + 1, l->bytes + at, l->length - at);
-        l->bytes[at] = byte;
-        l->length++;
-        break;
     case 2:
-        if (l->length > 0)
-            l->bytes[at] = byte;
+    case 3: put_in(g, at, &byte, 1); break;
+    case 4:
+    case 5:
+        if (at < l->length)
+            l->bytes[at] = (uint8_t)byte;
         break;
-    default:
-        l->length = at;
+    case 6: lengthen_number(g, at); break;
+    case 7: spoil_quoted(g, at); break;
+    case 8: lengthen_line(g); break;
+    case 9:
+        byte = (char)l->bytes[at];
+        if (at < l->length)
+            put_in(g, at, &byte, 1);
         break;
+    default: l->length = at; break;
     }
+}
+
+/* A line of any command, whether it has a place now or not: 6 and 7 are judged before that. */
+static void put_any_line(struct generator *g, const struct view *v)
+{
+    static const char *const named[] = {"FS", "FR", "FK", "FP", "GK"};
+    const struct declared *d = v->recording != 65535 ? &v->of_recording : &v->of_active;
+
+    switch (below(g, 16)) {
+    case 0:
+    case 1: put_setting(g); break;
+    case 2: put_rectangle(g); break;
+    case 3: put_frame(g); break;
+    case 4: put_text_line(g, d); break;
+    case 5: put_picture_line(g); break;
+    case 6: put_named(g, named[below(g, 5)], FORM, 50); break;
+    case 7: put_load_line(g, between(g, 129, 400)); break;
+    case 8: put_variable(g, d); break;
+    case 9: put_counter(g, d); break;
+    case 10: put_ask(g, v); break;
+    case 11: put_print(g); break;
+    case 12: put_small_word(g); break;
+    default: put_bars_line(g, d); break;
+    }
+}
+
+static void end_there(struct generator *g)
+{
+    if (g->end > 0 && g->end < g->line.length)
+        g->line.length = g->end;
+    g->end = 0;
+}
+
+/* A line with a fault of form, mostly: a faulty one, or one disturbed once or more. */
+static void put_disturbed(struct generator *g, const struct view *v)
+{
+    bool due = chance(g, 50);
+
+    g->faulty = !due;
+    put_any_line(g, v);
+    end_there(g);
+    for (; due || chance(g, 30); due = false)
+        disturb(g);
 }
 
 /* A line of 256 bytes or more without an LF among them. */
@@ -1015,7 +1247,9 @@ static void make_input(struct generator *g)
 
     look(g, &v);
     g->line.length = 0;
-    g->spoil = chance(g, 7) ? (int)below(g, 6) : -1;
+    g->spoil = chance(g, 8) ? choose_spoil(g) : 0;
+    g->faulty = chance(g, 5);
+    g->end = 0;
     if (k < 8) {
         put_long(g);
         return;
@@ -1024,11 +1258,14 @@ static void make_input(struct generator *g)
         put_comment(g);
     else if (k < 58)
         put_strange(g);
+    else if (k < 98)
+        put_disturbed(g, &v);
     else if (v.recording != 65535)
         put_recording_line(g, &v);
     else
         put_idle_line(g, &v);
-    if (rarely(g, 40))
+    end_there(g);
+    if (rarely(g, 30))
         disturb(g);
     if (rarely(g, 10))
         return;  /* no LF, or a GM that lacks bytes */
@@ -1238,7 +1475,7 @@ static void forged_line(struct generator *g, const struct declared *d)
     unsigned k = below(g, 100);
 
     g->line.length = 0;
-    g->spoil = chance(g, 2) ? (int)below(g, 6) : -1;
+    g->spoil = chance(g, 2) ? 1u << below(g, 6) : 0;
     if (k < 6)
         put_words(g, strange[below(g, sizeof strange / sizeof strange[0])]);
     else if (k < 22)
@@ -1257,6 +1494,7 @@ static size_t forged_content(struct generator *g, uint8_t *content, size_t room)
 
     memset(&d, 0, sizeof d);
     g->plain = true;
+    g->faulty = false;
     while (lines--) {
         forged_line(g, &d);
         if (size + g->line.length + 1 > room)

@@ -61,7 +61,9 @@ struct generator {
 
     struct line line;
     bool plain;                      /* numbers without leading zeros, names in capitals, steps with their sign */
-    int spoil;                       /* which field of the line is put outside its limits; below zero none */
+    unsigned spoil;                  /* which fields of the line are put outside their limits: bit 0 the next one */
+    bool faulty;                     /* words and elements of the line are now and then not written so */
+    size_t end;                      /* where a faulty line ends too soon; 0 nowhere */
     bool opened;
     enum call_kind last_call;
     bool last_usual;                 /* the last call had the session's lengths */

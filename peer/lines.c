@@ -1,9 +1,19 @@
-/* lines.c: the written form of a line, the limits of its numbers, names and prompts, and its normal form.
+/* lines.c: the written form of a line, the limits of its numbers, names and prompts, its normal form, and the place of a fault.
  *
  * The reader goes once over the line and writes the normal form beside it as it goes: numbers lose leading zeros, the
  * step of C gets its sign, names become capitals, all else is copied. A line in normal form is one that this leaves
  * as it is. A fault of form [6] ends the reading; a number outside its limits [7] is noted and the reading goes on,
  * because a later fault of form is the lower answer.
+ *
+ * Every fault points to the piece at hand: the command's letters, a field, a comma, an element of data, or the bytes past the
+ * last field. Whoever reads a piece says where it begins; what is read inside it does not.
+ *
+ * "A line ends too soon exactly when some well-formed line (of any length) starts with it." The reader passes a byte only if
+ * some well-formed line starts with all the bytes passed so far: a piece that is begun rightly can be ended (a number by
+ * no more digits, a text by its quote, a word or modifier by its rest), and after each piece the others can follow. So a
+ * fault with bytes left means that no well-formed line starts so, and the piece is at fault; a fault with none left means
+ * that one does, and the place is the LF's. Two things must not be passed for this to hold: a tenth digit, and the C after
+ * `B,` as a place when no comma stands behind it.
  */
 #include <string.h>
 
@@ -12,16 +22,35 @@
 struct reader {
     const uint8_t *line;
     unsigned length, place;
+    unsigned piece;          /* where the piece at hand begins */
     struct normal_line *normal;
-    bool written;  /* no fault of form yet */
-    bool within;   /* nothing outside its limits yet */
+    struct verdict verdict;  /* so far */
 };
 
-/* After a fault of form nothing is left to read, so every later field fails as well. */
+static void begin(struct reader *r)
+{
+    r->piece = r->place;
+}
+
+static bool is_written_so(const struct reader *r)
+{
+    return r->verdict.answer != NOT_WRITTEN_SO;
+}
+
+/* After a fault of form nothing is left to read, so every later field fails as well; the first one is told. */
 static void fault(struct reader *r)
 {
-    r->written = false;
+    if (!is_written_so(r))
+        return;
+    r->verdict = (struct verdict){NOT_WRITTEN_SO, r->place < r->length ? r->piece : r->length};
     r->place = r->length;
+}
+
+/* [7] points to the leftmost, which is read first. */
+static void outside(struct reader *r)
+{
+    if (r->verdict.answer == TAKEN)
+        r->verdict = (struct verdict){OUTSIDE_LIMITS, r->piece};
 }
 
 static int next(const struct reader *r)
@@ -40,6 +69,7 @@ static void pass(struct reader *r)
     put(r, r->line[r->place++]);
 }
 
+/* This byte, inside the piece at hand. */
 static void expect(struct reader *r, char byte)
 {
     if (next(r) == (uint8_t)byte)
@@ -48,8 +78,10 @@ static void expect(struct reader *r, char byte)
         fault(r);
 }
 
+/* A comma is a piece by itself: "What follows it must be a comma; if not, the place is that byte". */
 static void comma(struct reader *r)
 {
+    begin(r);
     expect(r, ',');
 }
 
@@ -58,15 +90,15 @@ static bool is_digit(int byte)
     return byte >= '0' && byte <= '9';
 }
 
-/* "Numbers are 1 to 9 digits, leading zeros allowed." */
-static uint32_t number(struct reader *r, uint32_t least, uint32_t most)
+/* "Numbers are 1 to 9 digits, leading zeros allowed." Inside the piece at hand. */
+static uint32_t digits(struct reader *r, uint32_t least, uint32_t most)
 {
-    unsigned digits = 0, first = r->normal->length;
+    unsigned count = 0, first = r->normal->length;
     uint32_t value = 0;
 
     while (is_digit(next(r))) {
-        if (++digits > 9) {
-            fault(r);
+        if (++count > 9) {
+            fault(r);  /* with the tenth digit not passed, so never the LF's place */
             return 0;
         }
         if (value == 0)
@@ -74,11 +106,18 @@ static uint32_t number(struct reader *r, uint32_t least, uint32_t most)
         value = value * 10 + (uint32_t)(next(r) - '0');
         pass(r);
     }
-    if (digits == 0)
+    if (count == 0)
         fault(r);
     if (value < least || value > most)
-        r->within = false;
+        outside(r);
     return value;
+}
+
+/* A field that is a number. */
+static uint32_t number(struct reader *r, uint32_t least, uint32_t most)
+{
+    begin(r);
+    return digits(r, least, most);
 }
 
 /* Numbers with commas between them, each with its limits. */
@@ -91,11 +130,13 @@ static void numbers(struct reader *r, uint32_t *n, unsigned count, const uint32_
     }
 }
 
-/* Quoted text: 32 to 126, no quote. Handed back as a part of the line. */
+/* Quoted text: 32 to 126, no quote. Handed back as a part of the line. It begins with its first quote, as a field or as
+ * an element, and "a bad byte inside points to the first quote". */
 static const uint8_t *quoted(struct reader *r, unsigned *length)
 {
     const uint8_t *start;
 
+    begin(r);
     expect(r, '"');
     start = r->line + r->place;
     while (next(r) >= 32 && next(r) <= 126 && next(r) != '"')
@@ -117,7 +158,7 @@ static void name(struct reader *r, struct name *out, bool *every)
     const uint8_t *text = quoted(r, &length);
 
     memset(out, 0, sizeof *out);
-    if (!r->written)
+    if (!is_written_so(r))
         return;
     for (unsigned i = 0; i < length; i++)
         r->normal->bytes[first + i] = capital(text[i]);
@@ -126,7 +167,7 @@ static void name(struct reader *r, struct name *out, bool *every)
         return;
     }
     if (length < 1 || length > 8 || memchr(text, '*', length)) {
-        r->within = false;
+        outside(r);
         return;
     }
     out->bytes[0] = (uint8_t)length;
@@ -139,10 +180,10 @@ static void prompt(struct reader *r)
 
     quoted(r, &length);
     if (length > 24)
-        r->within = false;
+        outside(r);
 }
 
-/* One of certain letters, else [6]. */
+/* One of certain letters, else [6]. Inside the piece at hand. */
 static char letter(struct reader *r, const char *allowed)
 {
     int byte = next(r);
@@ -155,6 +196,17 @@ static char letter(struct reader *r, const char *allowed)
     return (char)byte;
 }
 
+/* A word of one letter and its comma. "A word runs to the next comma", so what stands where its comma should is a part of it. */
+static char word(struct reader *r, const char *allowed)
+{
+    char byte;
+
+    begin(r);
+    byte = letter(r, allowed);
+    expect(r, ',');
+    return byte;
+}
+
 static void modifier(struct reader *r, struct element *e)
 {
     int byte = next(r);
@@ -165,16 +217,19 @@ static void modifier(struct reader *r, struct element *e)
     e->modifier = (char)byte;
     pass(r);
     if (byte == 'M') {
-        e->place = number(r, 1, 32);
+        e->place = digits(r, 1, 32);
         expect(r, '.');
     }
-    e->n = number(r, 1, 32);
+    e->n = digits(r, 1, 32);
 }
 
+/* "An element of data is one piece with its modifier." What follows a whole element is where the next should start. */
 static void element(struct reader *r, struct element *e)
 {
     int byte = next(r);
 
+    begin(r);
+    e->at = r->place;
     if (byte == '"') {
         e->kind = '"';
         e->text = quoted(r, &e->length);
@@ -197,40 +252,35 @@ static void data(struct reader *r, struct command *c)
     while (r->place < r->length);
 }
 
-/* s with or without sign, -99999 to +99999; the normal form has the sign, and zero is +0. */
+/* s with or without sign, -99999 to +99999; the normal form has the sign, and zero is +0. The field begins with its sign. */
 static void step(struct reader *r, struct command *c)
 {
     unsigned at = r->normal->length;
 
+    begin(r);
     put(r, '+');
     if (next(r) == '+' || next(r) == '-') {
         c->minus = next(r) == '-';
         r->place++;
     }
-    c->n[2] = number(r, 0, 99999);
+    c->n[2] = digits(r, 0, 99999);
     if (c->n[2] == 0)
         c->minus = false;
     if (c->minus)
         r->normal->bytes[at] = '-';
 }
 
+/* One of four words and its comma. */
 static void bar_type(struct reader *r, struct command *c)
 {
-    static const struct {
-        const char *word;
-        enum bar_type type;
-    } types[] = {{"3,", CODE_39}, {"2,", INTERLEAVED}, {"E30,", EAN_13}, {"1,", CODE_128}};
-
-    for (unsigned i = 0; i < 4; i++) {
-        size_t length = strlen(types[i].word);
-        if (r->length - r->place >= length && memcmp(r->line + r->place, types[i].word, length) == 0) {
-            c->type = types[i].type;
-            while (length--)
-                pass(r);
-            return;
-        }
+    begin(r);
+    switch (letter(r, "32E1")) {
+    case '3': c->type = CODE_39; break;
+    case '2': c->type = INTERLEAVED; break;
+    case 'E': c->type = EAN_13; expect(r, '3'); expect(r, '0'); break;
+    case '1': c->type = CODE_128; break;
     }
-    fault(r);
+    expect(r, ',');
 }
 
 /* ---- one function for each group of commands ---- */
@@ -258,44 +308,46 @@ static void text_line(struct reader *r, struct command *c)
     c->word = W_A;
     numbers(r, c->n, 5, limits);
     comma(r);
-    c->letter = letter(r, "NR");
-    comma(r);
+    c->letter = word(r, "NR");
     data(r, c);
 }
 
-/* After `B,` a place is C or R with its own comma. A C that no comma follows begins the data: `B,C0` is the data C0. */
+/* After `B,` an R can only be a place, and a C is one if its own comma follows. Any other C begins the data: `B,C0` is the
+ * data C0, and a C that ends the line may still become either. */
 static bool place_follows(const struct reader *r)
 {
-    return r->length - r->place >= 2 && (next(r) == 'C' || next(r) == 'R') && r->line[r->place + 1] == ',';
+    return next(r) == 'R' || (next(r) == 'C' && r->length - r->place >= 2 && r->line[r->place + 1] == ',');
 }
 
 /* `N`, `B`, `B,C` or `B,R`, and the comma before the data. Gives N, or the place: L, C or R. */
 static char line_under_bars(struct reader *r)
 {
-    char place = letter(r, "NB");
+    char place = word(r, "NB");
 
-    comma(r);
     if (place != 'B')
         return place;
-    if (!place_follows(r))
-        return 'L';
-    place = letter(r, "CR");
+    return place_follows(r) ? word(r, "CR") : 'L';
+}
+
+/* "wide f 2..10 and above e, else 7"; "f not above e: f". */
+static void bar_sizes(struct reader *r, uint32_t *n)
+{
+    n[0] = number(r, 1, 6);
     comma(r);
-    return place;
+    n[1] = number(r, n[0] < 1 ? 2 : n[0] + 1, 10);
+    comma(r);
+    n[2] = number(r, 24, 1000);
 }
 
 static void bars_line(struct reader *r, struct command *c)
 {
     static const uint32_t corner[3][2] = {{0, 2047}, {0, 4095}, {0, 3}};
-    static const uint32_t sizes[3][2] = {{1, 6}, {2, 10}, {24, 1000}};
 
     c->word = W_B;
     numbers(r, c->n, 3, corner);
     comma(r);
-    bar_type(r, c);  /* with its comma */
-    numbers(r, c->n + 3, 3, sizes);
-    if (c->n[4] <= c->n[3])
-        r->within = false;  /* "wide f 2..10 and above e, else 7" */
+    bar_type(r, c);
+    bar_sizes(r, c->n + 3);
     comma(r);
     c->letter = line_under_bars(r);
     data(r, c);
@@ -311,24 +363,29 @@ static void picture_line(struct reader *r, struct command *c)
     name(r, &c->name, NULL);
 }
 
+/* The n of V, C and `?`, to which 12 and 13 point. */
+static void which(struct reader *r, struct command *c)
+{
+    c->n_at = r->place;
+    c->n[0] = number(r, 0, 9);
+    comma(r);
+}
+
 static void variable_line(struct reader *r, struct command *c)
 {
-    static const uint32_t limits[2][2] = {{0, 9}, {1, 32}};
-
     c->word = W_V;
-    numbers(r, c->n, 2, limits);
+    which(r, c);
+    c->n[1] = number(r, 1, 32);
     comma(r);
-    c->letter = letter(r, "LRCNZ");
-    comma(r);
+    c->letter = word(r, "LRCNZ");
     prompt(r);
 }
 
 static void counter_line(struct reader *r, struct command *c)
 {
-    static const uint32_t limits[2][2] = {{0, 9}, {1, 9}};
-
     c->word = W_C;
-    numbers(r, c->n, 2, limits);
+    which(r, c);
+    c->n[1] = number(r, 1, 9);
     comma(r);
     step(r, c);
     comma(r);
@@ -337,17 +394,12 @@ static void counter_line(struct reader *r, struct command *c)
 
 static void ask_line(struct reader *r, struct command *c)
 {
-    char which = letter(r, "VC");
-
-    c->n[0] = number(r, 0, 9);
-    comma(r);
-    if (which == 'V') {
-        c->word = W_ASK_V;
+    c->word = letter(r, "VC") == 'V' ? W_ASK_V : W_ASK_C;
+    which(r, c);
+    if (c->word == W_ASK_V)
         c->text = quoted(r, &c->text_length);
-    } else {
-        c->word = W_ASK_C;
+    else
         c->n[1] = number(r, 0, 999999999);
-    }
 }
 
 static void load_picture(struct reader *r, struct command *c)
@@ -421,7 +473,8 @@ static void one_number(struct reader *r, struct command *c, enum word word, uint
     c->n[0] = number(r, least, most);
 }
 
-/* The first letter decides, then the second. */
+/* The first letter decides, then the second. All letters of a command are one piece, which begins the line. "The command's
+ * letters are the longest that match": after V a C is VC, so what follows it is past the last field. */
 static void whole_line(struct reader *r, struct command *c, unsigned rows)
 {
     switch (letter(r, "QqNRZLXABFGVC?P")) {
@@ -443,18 +496,18 @@ static void whole_line(struct reader *r, struct command *c, unsigned rows)
     }
 }
 
-enum answer read_line(const uint8_t *line, unsigned length, unsigned rows, struct command *c, struct normal_line *normal)
+struct verdict read_line(const uint8_t *line, unsigned length, unsigned rows, struct command *c, struct normal_line *normal)
 {
-    struct reader r = {line, length, 0, normal, true, true};
+    struct reader r = {line, length, 0, 0, normal, {TAKEN, 0}};
 
     normal->length = 0;
     memset(c->n, 0, sizeof c->n);
     c->minus = c->every = false;
     c->elements = 0;
     whole_line(&r, c, rows);
-    if (r.place < r.length)
-        fault(&r);  /* bytes past the last field */
-    if (!r.written)
-        return NOT_WRITTEN_SO;
-    return r.within ? TAKEN : OUTSIDE_LIMITS;
+    if (r.place < r.length) {
+        begin(&r);  /* "Bytes past the last field: the first of them" */
+        fault(&r);
+    }
+    return r.verdict;
 }

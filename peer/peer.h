@@ -3,7 +3,7 @@
  * It stands beside the proved station so that both can be run on the same calls. The three calls at the end are
  * station.h's under the names peer_open, peer_command and peer_label. Numbers in square brackets are answers.
  *
- *   lines.c    the written form of a line, its limits, its normal form
+ *   lines.c    the written form of a line, its limits, its normal form, the place of a fault
  *   data.c     elements, declarations, fit data, the bytes that data shows
  *   store.c    portions, links, chains, directory entries, names, listings
  *   picture.c  legal pictures and their drawing
@@ -58,6 +58,13 @@ struct memory {
     uint8_t *values;
 };
 
+/* An answer and where it points: for 6, 7 and 12 to 15 the place in the line, from 0, of the first byte of the piece at fault, or
+ * of the LF when the line ends too soon; for all others 0. */
+struct verdict {
+    enum answer answer;
+    unsigned place;
+};
+
 /* ---- lines.c ---- */
 
 enum word {
@@ -69,6 +76,7 @@ enum bar_type { CODE_39, INTERLEAVED, EAN_13, CODE_128 };
 
 /* One element of data. text: a quoted part of the line; otherwise what names a variable or counter and its modifier. */
 struct element {
+    unsigned at;         /* its first byte in the line */
     char kind;           /* '"', 'V' or 'C' */
     uint8_t number;      /* which variable or counter */
     char modifier;       /* 0, 'L', 'R' or 'M' */
@@ -85,6 +93,7 @@ struct name {
 struct command {
     enum word word;
     uint32_t n[6];       /* the numbers of the line in their order */
+    unsigned n_at;       /* of V, C and `?`: where n stands in the line */
     bool minus;          /* the step of C is below zero */
     char letter;         /* T or B of Z, mode of A, justification of V; of B where the narrower of line and bars stands: L, C
                             or R, or N when there is no line */
@@ -103,7 +112,7 @@ struct normal_line {
 };
 
 /* Reads a line without its LF: 0, [6] or [7]. rows is the N of Q's limit. With [7] all numbers are there too. */
-enum answer read_line(const uint8_t *line, unsigned length, unsigned rows, struct command *c, struct normal_line *normal);
+struct verdict read_line(const uint8_t *line, unsigned length, unsigned rows, struct command *c, struct normal_line *normal);
 
 /* ---- data.c ---- */
 
@@ -127,7 +136,7 @@ struct declarations {
 uint32_t power_of_ten(unsigned digits);
 
 /* What 12 to 15 say of a line of a form, with d the declarations before it; a taken V or C is added to d. */
-enum answer judge_line(const struct command *c, struct declarations *d);
+struct verdict judge_line(const struct command *c, struct declarations *d);
 
 bool text_fits(const struct variable *v, const uint8_t *text, unsigned length);
 bool stored_value_fits(const struct variable *v, const uint8_t *field);

@@ -12,7 +12,7 @@
 #include "peer.h"
 
 static const enum slice told[] = {SESSION, COUNTS, PAGE, BACKGROUND, STORE, LINKS, DIRECTORY, VALUE, OUTPUT};
-static const size_t room[SLICES] = {[SESSION] = 67, [COUNTS] = 24, [FONT] = 65536, [PAGE] = 3192, [BACKGROUND] = 3192,
+static const size_t room[SLICES] = {[SESSION] = 67, [COUNTS] = 32, [FONT] = 65536, [PAGE] = 3192, [BACKGROUND] = 3192,
                                     [STORE] = 4608, [LINKS] = 36, [DIRECTORY] = 96, [VALUE] = 374, [OUTPUT] = 256,
                                     [INPUT] = 65536};
 
@@ -66,7 +66,7 @@ static void make_call(struct desk *d, enum call_kind kind, size_t font_length)
 {
     static unsigned calls;
     size_t length[SLICES] = {[FONT] = font_length};
-    uint64_t counts[2];
+    uint64_t counts[3];
     unsigned answer;
 
     for (unsigned i = 0; i < 9; i++)
@@ -77,7 +77,8 @@ static void make_call(struct desk *d, enum call_kind kind, size_t font_length)
     }
     answer = call_station(&peer_station, d, kind, length);
     memcpy(counts, d->bytes[COUNTS], sizeof counts);
-    printf("%u %u %" PRIu64 " %" PRIu64 " %08" PRIx32 "\n", ++calls, answer, counts[0], counts[1], digest_of(d));
+    printf("%u %u %" PRIu64 " %" PRIu64 " %" PRIu64 " %08" PRIx32 "\n", ++calls, answer, counts[0], counts[1], counts[2],
+           digest_of(d));
 }
 
 int main(int argc, char **argv)

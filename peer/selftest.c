@@ -1,5 +1,5 @@
 /* selftest.c: paper 01's sample session and its ten proof cases, as far as the three calls show them, paper 02's line under the
- * bars, and drawing dot by dot.
+ * bars and places of refusals, and drawing dot by dot.
  *
  *   selftest                   runs all of them
  *   selftest bars TYPE W DATA  writes the modules of one symbol, narrow 1 and wide W, as 1 (bar) and 0, for zint-check
@@ -11,6 +11,7 @@
 
 #include "desk.h"
 #include "peer.h"
+#include "pointing.h"
 
 static unsigned failures;
 
@@ -519,6 +520,219 @@ static void word_cases(void)
     clear_away(&b.desk);
 }
 
+/* ---- a refusal should point ---- */
+
+struct pointed {
+    const char *line;
+    unsigned answer, place;
+};
+
+/* True if each line gives its answer and place. */
+static int point_so(struct bench *b, const struct pointed *lines, unsigned number)
+{
+    unsigned wrong = 0;
+
+    for (unsigned i = 0; i < number; i++) {
+        unsigned answer = send(b, lines[i].line);
+        if (answer == lines[i].answer && count(b, 2) == lines[i].place)
+            continue;
+        printf("%s: %u at %u, not %u at %u\n", lines[i].line, answer, (unsigned)count(b, 2), lines[i].answer, lines[i].place);
+        wrong++;
+    }
+    return wrong == 0;
+}
+
+#define POINT_SO(b, lines) point_so(b, lines, sizeof lines / sizeof lines[0])
+
+/* The examples of the open points of paper 02, in their order. */
+static void ruled_cases(struct bench *b)
+{
+    static const struct pointed lines[] = {
+        {"LO1x2,3,4", 6, 3}, {"B0,0,0,3C,1,2,24,N,\"1\"", 6, 7}, {"B0,0,0,3C", 6, 7}, {"A0,0,0,1,1,NN,\"a\"", 6, 11}, {"A0,0,0,1,1,NN", 6, 11},
+        {"B0,0,0,3,1,2,24,NN,\"1\"", 6, 16}, {"A0,0,0,1,1,N,V0Lx", 6, 13}, {"A0,0,0,1,1,N,V0M1,1", 6, 13}, {"A0,0,0,1,1,N,Vx", 6, 13},
+        {"A0,0,0,1,1,N,\"a\"V0Lx", 6, 16}, {"A0,0,0,1,1,N,\"a\"V0M1,1", 6, 16}, {"A0,0,0,1,1,N,\"a\"Vx", 6, 16}, {"L", 6, 1}, {"B0,0,0,E3", 6, 9},
+        {"A0,0,0,1,1,N,\"ab", 6, 16}, {"C0,1,+", 6, 6}, {"LO1,2,3,4,5", 6, 9}, {"LO1,2,3,4x", 6, 9}, {"N ", 6, 1}};
+
+    check("each example of the rulings points as they say", POINT_SO(b, lines));
+}
+
+static void letter_cases(struct bench *b)
+{
+    static const struct pointed lines[] = {
+        {"x", 6, 0}, {" N", 6, 0}, {"F", 6, 1}, {"G", 6, 1}, {"Z", 6, 1}, {"?", 6, 1}, {"LX", 6, 0}, {"LS0,0,1,5,5", 6, 0}, {"FX\"A\"", 6, 0},
+        {"GX", 6, 0}, {"ZC", 6, 0}, {"?X0,1", 6, 0}, {"?", 6, 1}, {"?V", 6, 2}, {"V", 6, 1}, {"VC0", 6, 2}, {"VCC", 6, 2}, {"Vx", 6, 1}, {"V,", 6, 1},
+        {"CV", 6, 1}, {"RESET", 6, 1}, {"PC", 6, 1}, {"q", 6, 1}, {"ZTT", 6, 2}, {"FIX", 6, 2}, {"FI\"A\"", 6, 2}, {"FE ", 6, 2}, {"NN", 6, 1}, {"N,", 6, 1}};
+
+    check("the command's letters: 0, or LF if they are cut", POINT_SO(b, lines));
+}
+
+static void number_cases(struct bench *b)
+{
+    static const struct pointed lines[] = {
+        {"LO", 6, 2}, {"LO,2,3,4", 6, 2}, {"LO1", 6, 3}, {"LO1,", 6, 4}, {"LO1,,3,4", 6, 4}, {"LO1 ,2,3,4", 6, 3}, {"LO 1,2,3,4", 6, 2},
+        {"LO1,+2,3,4", 6, 4}, {"LO1,\r2,3,4", 6, 4}, {"LO123456789", 6, 11}, {"LO1234567890", 6, 2}, {"LO1234567890,2,3,4", 6, 2},
+        {"LO1,0000000002,3,4", 6, 4}, {"LO1,1234567890x", 6, 4}, {"LO1,2,3,1234567890", 6, 8}, {"LO1,2,3,4,", 6, 9}, {"LO1,2,3,4 ", 6, 9},
+        {"LO1,2,3", 6, 7}, {"q80,", 6, 3}, {"P1x", 6, 2}, {"P1234567890", 6, 1}, {"Q4,B3", 6, 3}, {"?C0,-1", 6, 4}, {"?C0,1,", 6, 5},
+        {"C0,1,x,\"\"", 6, 5}, {"C0,1,+x,\"\"", 6, 5}, {"C0,1,+,\"\"", 6, 5}, {"C0,1,+-1,\"\"", 6, 5}, {"C0,1,-1234567890,\"\"", 6, 5},
+        {"C0,1,-1234567890", 6, 5}, {"C0,1,1234567890", 6, 5}, {"C0,1,+1x", 6, 7}, {"C0,1,+1", 6, 7}, {"C0,1,+1,", 6, 8}, {"C0,1,+1+", 6, 7}};
+
+    check("numbers, and the step with its sign", POINT_SO(b, lines));
+}
+
+static void text_cases(struct bench *b)
+{
+    static const struct pointed lines[] = {
+        {"FS", 6, 2}, {"FSA", 6, 2}, {"FS\"", 6, 3}, {"FS\"AB", 6, 5}, {"FS\"A\x01\"", 6, 2}, {"FS\"A\x7f", 6, 2}, {"FS\"\xff\"x", 6, 2}, {"FS\"A\"x", 6, 5},
+        {"FS\"A\"\"", 6, 5}, {"FS\"A\"\x01", 6, 5}, {"GM\"A\"3", 6, 5}, {"GM\"A\"", 6, 5}, {"GM\"A\",", 6, 6}, {"GM\"A\",x", 6, 6},
+        {"GM\"A\",1234567890", 6, 6}, {"GG1,2,A", 6, 6}, {"GG1,2,\"A\x1f\"", 6, 6}, {"?V0,5", 6, 4}, {"?V0,\"5", 6, 6}, {"?V0,\"5\",", 6, 7},
+        {"V0,5,L,\"a", 6, 9}, {"V0,5,L,\"a\"b", 6, 10}};
+
+    check("a text points to its first quote", POINT_SO(b, lines));
+}
+
+static void cut_word_cases(struct bench *b)
+{
+    static const struct pointed lines[] = {
+        {"B0,0,0", 6, 6}, {"B0,0,0,", 6, 7}, {"B0,0,0,E", 6, 8}, {"B0,0,0,E30", 6, 10}, {"B0,0,0,E30,", 6, 11}, {"B0,0,0,E300", 6, 7},
+        {"B0,0,0,E31", 6, 7}, {"B0,0,0,E3,1", 6, 7}, {"B0,0,0,3", 6, 8}, {"B0,0,0,03", 6, 7}, {"B0,0,0,4", 6, 7}, {"B0,0,0,e30", 6, 7},
+        {"B0,0,0,,1", 6, 7}, {"B0,0,0,3 ,1", 6, 7}, {"B0,0,0,3\x01", 6, 7}, {"A0,0,0,1,1,", 6, 11}, {"A0,0,0,1,1,N", 6, 12}, {"A0,0,0,1,1,B,\"a\"", 6, 11},
+        {"A0,0,0,1,1,N\"a\"", 6, 11}, {"A0,0,0,1,1,N\"a,\"", 6, 11}, {"A0,0,0,1,1,,\"a\"", 6, 11}, {"V0,5,", 6, 5}, {"V0,5,L", 6, 6}, {"V0,5,LL,\"\"", 6, 5},
+        {"V0,5,X,\"\"", 6, 5}, {"V0,5,L\"\"", 6, 5}};
+
+    check("words run to the next comma or end too soon", POINT_SO(b, lines));
+}
+
+/* The eighteenth byte is where data, or the place before it, begins. */
+static void place_word_cases(struct bench *b)
+{
+    static const struct pointed ends[] = {
+        {"", 6, 16}, {"N", 6, 17}, {"B", 6, 17}, {"X", 6, 16}, {"BC", 6, 16}, {"BC,\"1\"", 6, 16}, {"N,", 6, 18}, {"B,", 6, 18}, {"B,C", 6, 19},
+        {"B,R", 6, 19}, {"B,C,", 6, 20}, {"B,R,", 6, 20}, {"N,C", 6, 19}, {"N,R", 6, 18}, {"N,R,\"1\"", 6, 18}, {"N,C,\"1\"", 6, 18}, {"B,Rx", 6, 18},
+        {"B,Cx", 6, 18}, {"B,R\"1\"", 6, 18}, {"B,C\"1\"", 6, 18}, {"B,RR,\"1\"", 6, 18}, {"B,CC0", 6, 18}, {"B,R0", 6, 18}, {"B,L,\"1\"", 6, 18},
+        {"B,c,\"1\"", 6, 18}, {"B,,\"1\"", 6, 18}, {"B,C0,", 6, 20}, {"B,C0,\"1\"", 6, 20}, {"B,C,R,\"1\"", 6, 20}, {"B,C,C,\"1\"", 6, 20},
+        {"B,C,C", 6, 21}, {"B,R,R", 6, 20}, {"B,R,,\"1\"", 6, 20}, {"\"1\"", 6, 16}};
+    unsigned wrong = 0;
+
+    for (unsigned i = 0; i < sizeof ends / sizeof ends[0]; i++) {
+        char line[64];
+        struct pointed p = {line, ends[i].answer, ends[i].place};
+        sprintf(line, "B0,0,0,3,1,2,24,%s", ends[i].line);
+        wrong += !point_so(b, &p, 1);
+    }
+    check("N or B, and C or R behind B,", wrong == 0);
+}
+
+static void element_cases(struct bench *b)
+{
+    static const struct pointed lines[] = {
+        {"A0,0,0,1,1,N,", 6, 13}, {"A0,0,0,1,1,N,x", 6, 13}, {"A0,0,0,1,1,N,,", 6, 13}, {"A0,0,0,1,1,N,\"a\",", 6, 16}, {"A0,0,0,1,1,N,\"a\" ", 6, 16},
+        {"A0,0,0,1,1,N,V", 6, 14}, {"A0,0,0,1,1,N,V0L", 6, 16}, {"A0,0,0,1,1,N,V0M", 6, 16}, {"A0,0,0,1,1,N,V0M1", 6, 17}, {"A0,0,0,1,1,N,V0M1.", 6, 18},
+        {"A0,0,0,1,1,N,V0M.1", 6, 13}, {"A0,0,0,1,1,N,V0M1.x", 6, 13}, {"A0,0,0,1,1,N,V0L1234567890", 6, 13}, {"A0,0,0,1,1,N,V0M1234567890", 6, 13},
+        {"A0,0,0,1,1,N,V0M1.1234567890", 6, 13}, {"A0,0,0,1,1,N,V0L,", 6, 13}, {"A0,0,0,1,1,N,V01", 6, 15}, {"A0,0,0,1,1,N,V0x", 6, 15},
+        {"A0,0,0,1,1,N,V0l1", 6, 15}, {"A0,0,0,1,1,N,V0L1R1", 6, 17}, {"A0,0,0,1,1,N,V0L1.2", 6, 17}, {"A0,0,0,1,1,N,V0M1.2.3", 6, 19},
+        {"A0,0,0,1,1,N,\"a\"\"b", 6, 18}, {"A0,0,0,1,1,N,\"a\"\"\x01", 6, 16}, {"A0,0,0,1,1,N,C0\"\x80\"x", 6, 15}, {"A0,0,0,1,1,N,V0C0Cx", 6, 17}};
+
+    check("an element is one piece with its modifier", POINT_SO(b, lines));
+}
+
+static void limit_places(struct bench *b)
+{
+    static const struct pointed lines[] = {
+        {"LO2048,1,1,1", 7, 2}, {"LO1,2048,0,1", 7, 4}, {"LO1,1,0,0", 7, 6}, {"LO2048,1,1,1x", 6, 12}, {"LO2048,", 6, 7}, {"Q41,241", 7, 1}, {"Q1,241", 7, 3},
+        {"B0,0,0,3,7,6,24,N,\"1\"", 7, 9}, {"B0,0,0,3,6,6,23,N,\"1\"", 7, 11}, {"B0,0,0,3,0,0,24,N,\"1\"", 7, 9}, {"B0,0,0,3,1,1,24,N,\"1\"", 7, 11},
+        {"B0,0,0,3,1,11,24,N,\"1\"", 7, 11}, {"B0,0,4,3,2,1,24,N,\"1\"", 7, 5}, {"B0,0,0,3,1,2,23,N,V0L33", 7, 13}, {"FS\"\"", 7, 2}, {"FK\"A*\"", 7, 2},
+        {"GG2048,0,\"123456789\"", 7, 2}, {"GG0,0,\"123456789\"", 7, 6}, {"V10,33,L,\"\"", 7, 1}, {"V0,33,L,\"1234567890123456789012345\"", 7, 3},
+        {"V0,3,L,\"1234567890123456789012345\"", 7, 7}, {"C0,1,+100000,\"\"", 7, 5}, {"C0,1,100000,\"1234567890123456789012345\"", 7, 5},
+        {"A0,0,0,1,1,N,\"a\"V0L33V0L0", 7, 16}, {"A0,0,0,1,1,N,C0V0M1.33", 7, 15}, {"A0,0,0,1,1,N,V0M0.99C0L0", 7, 13}, {"A0,0,0,7,1,N,V0L0", 7, 7},
+        {"?V10,\"\"", 7, 2}, {"?C10,1", 7, 2}, {"GM\"*\",0", 7, 2}, {"GM\"A\",0", 7, 6}, {"GM\"A\",32769", 7, 6}, {"GM\"*\",5", 4, 0}};
+
+    check("7 points to the leftmost outside its limits", POINT_SO(b, lines));
+    check("GM with a bad name: its quote, and the bytes are read",
+          send_bytes(b, "GM\"A*\",3\nabc", 12) == 7 && count(b, 2) == 2 && count(b, 0) == 12);
+}
+
+static void form_cases(struct bench *b)
+{
+    static const struct pointed lines[] = {
+        {"A0,0,0,1,1,N,\"V0\"V0", 13, 17}, {"A0,0,0,1,1,N,\"a\"C5L32V0", 13, 16}, {"?V3,\"\"", 13, 2}, {"?C03,1", 13, 2}, {"B0,0,0,3,1,2,24,N,\"a\"", 15, 18},
+        {"B0,0,0,2,1,2,24,B,R,\"1\"\"2\"\"3\"", 15, 20}, {"B10,0,0,E30,1,2,24,B,\"1\"", 15, 21}, {"FS\"F\"", 0, 0}, {"C0,2,+1,\"\"", 0, 0},
+        {"V1,3,L,\"\"", 0, 0}, {"C0,1,+1,\"\"", 12, 1}, {"C000,1,+1,\"\"", 12, 1}, {"V1,1,L,\"\"", 12, 1}, {"A0,0,0,1,1,N,C0V1C1V0", 13, 17},
+        {"A0,0,0,1,1,N,C0L3C1", 13, 17}, {"A0,0,0,1,1,N,\"a\"C0V1L4C0L3", 14, 18}, {"A0,0,0,1,1,N,V1M3.2", 14, 13}, {"B0,0,0,3,1,2,24,B,C,C0V1R4", 14, 22},
+        {"B0,0,0,3,1,2,24,B,C,C0V1", 15, 20}, {"B0,0,0,3,1,2,24,B,C0V1", 15, 18}, {"A0,0,0,1,1,N,C0L3C0L33", 7, 17}, {"?V1,\"\"", 9, 0}, {"ZT", 9, 0},
+        {"GG0,0,\"A\"", 11, 0}, {"A0,0,0,1,1,N,C0V1", 0, 0}, {";", 0, 0}, {"FE", 0, 0}, {"FS\"f\"", 10, 0}, {"FR\"G\"", 11, 0}, {"FR\"F\"", 0, 0},
+        {"?V1,\"1234\"", 17, 0}, {"?V0,\"1234\"", 13, 2}, {"P1", 18, 0}, {"FE", 9, 0}};
+
+    check("12 to 15 point, and no other answer", POINT_SO(b, lines));
+}
+
+static void owed_cases(struct bench *b)
+{
+    static const struct pointed lines[] = {{"?V1,\"123\"", 0, 0}, {"?C0,1", 0, 0}, {"P1", 0, 0}, {"LO1", 6, 3}, {"LO9999,0,0,1", 7, 2}, {"?V0,\"\"", 8, 0}, {"N", 8, 0}};
+
+    check("while labels are owed 6 and 7 point, 8 does not", POINT_SO(b, lines));
+}
+
+/* "counts holds read, written, place: length 3, another length is [1]", and it is left as it is. */
+static void counts_case(struct bench *b)
+{
+    unsigned wrong = 0;
+
+    for (unsigned length = 0; length <= 4; length++) {
+        uint64_t counts[4] = {7, 7, 7, 7};
+        size_t three = b->length[COUNTS];
+        uint8_t *there = b->desk.bytes[COUNTS];
+
+        b->desk.bytes[COUNTS] = (uint8_t *)counts;
+        b->length[COUNTS] = length;
+        wrong += send(b, "LO1x") != (length == 3 ? 6 : 1) || counts[3] != 7;
+        wrong += length == 3 ? counts[0] != 5 || counts[1] != 0 || counts[2] != 3 : counts[0] != 7 || counts[1] != 7 || counts[2] != 7;
+        b->desk.bytes[COUNTS] = there;
+        b->length[COUNTS] = three;
+    }
+    check("counts are three numbers, of another length 1", wrong == 0);
+}
+
+/* Lines of 255 bytes: "of any length" means that 255 is not the line's end. */
+static void longest_cases(struct bench *b)
+{
+    char line[256] = "A0,0,0,1,1,N,\"";
+
+    memset(line + 14, 'a', 241);
+    check("255 bytes that end too soon point to the LF at 255", send(b, line) == 6 && count(b, 2) == 255);
+    line[254] = 1;
+    check("255 bytes with the last one bad point to the quote", send(b, line) == 6 && count(b, 2) == 13);
+}
+
+static void tell_again(const char *what, struct told t)
+{
+    char text[80];
+
+    snprintf(text, sizeof text, "%s: %u lines, %u too soon", what, t.lines, t.soon);
+    check(text, t.wrong == 0);
+}
+
+static void pointing_cases(void)
+{
+    struct bench b;
+
+    open_bench(&b, 40, empty_font, sizeof empty_font);
+    ruled_cases(&b);
+    letter_cases(&b);
+    number_cases(&b);
+    text_cases(&b);
+    cut_word_cases(&b);
+    place_word_cases(&b);
+    element_cases(&b);
+    limit_places(&b);
+    counts_case(&b);
+    longest_cases(&b);
+    form_cases(&b);
+    owed_cases(&b);
+    clear_away(&b.desk);
+    tell_again("told again near samples", near_samples());
+    tell_again("told again with short tails", short_tails());
+}
+
 /* ---- rectangles, the turned page, a picture ---- */
 
 /* Rectangles in each ink, kept dot by dot in a second page. */
@@ -633,6 +847,7 @@ int main(int argc, char **argv)
     line_cases();
     line_in_form_case();
     word_cases();
+    pointing_cases();
     rectangle_cases();
     picture_case();
     return failures != 0;

@@ -168,8 +168,8 @@ static bool sound_form(const struct memory *m, const uint8_t *entry, struct decl
 
     while (at.left > 0) {
         const uint8_t *line = next_line(&at, room, &length);
-        if (!line || read_line(line, length, m->rows, &c, &normal) != TAKEN || !may_be_recorded(c.word)
-            || !is_normal(line, length, &normal) || judge_line(&c, d) != TAKEN)
+        if (!line || read_line(line, length, m->rows, &c, &normal).answer != TAKEN || !may_be_recorded(c.word)
+            || !is_normal(line, length, &normal) || judge_line(&c, d).answer != TAKEN)
             return false;
         if (pictures_exist && *pictures_exist && c.word == W_GG)
             *pictures_exist = find_entry(m, PICTURE, &c.name) != NOT_THERE;

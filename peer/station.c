@@ -115,8 +115,16 @@ struct call {
     uint8_t *output;
     size_t output_len;
     uint64_t written;
+    unsigned place;        /* where a refusal points */
     const uint8_t *after;  /* the bytes after the line, for GM */
 };
+
+/* A refusal that points. Only 6, 7 and 12 to 15 come this way; "Other answers give place 0". */
+static enum answer point(struct call *k, struct verdict v)
+{
+    k->place = v.place;
+    return v.answer;
+}
 
 static void whiten(struct call *k)
 {
@@ -142,12 +150,12 @@ static enum answer draw_now(struct call *k, const struct command *c)
     struct declarations none = nothing;
     struct run r = {&k->m, {k->m.background, k->s.width, k->s.length}, k->s.origin_x, k->s.origin_y, &k->font, &nothing,
                     k->s.counters};
-    enum answer a;
+    struct verdict v;
 
     if (c->word == W_GG && find_entry(&k->m, PICTURE, &c->name) == NOT_THERE)
         return NAME_NOT_FOUND;
-    if ((a = judge_line(c, &none)) != TAKEN)
-        return a;
+    if ((v = judge_line(c, &none)).answer != TAKEN)
+        return point(k, v);
     run_line(&r, c);
     k->s.origin_x = (uint16_t)r.origin_x;
     k->s.origin_y = (uint16_t)r.origin_y;
@@ -235,7 +243,7 @@ static enum answer set_variable(struct call *k, const struct command *c)
     const struct variable *v = &k->f.of_active.v[c->n[0]];
 
     if (!v->declared)
-        return NOT_DECLARED;
+        return point(k, (struct verdict){NOT_DECLARED, c->n_at});
     if (!text_fits(v, c->text, c->text_length))
         return VALUE_UNFIT;
     store_value(v, c->text, c->text_length, k->m.values + c->n[0] * FIELD);
@@ -247,7 +255,7 @@ static enum answer set_counter(struct call *k, const struct command *c)
     const struct declared_counter *d = &k->f.of_active.c[c->n[0]];
 
     if (!d->declared)
-        return NOT_DECLARED;
+        return point(k, (struct verdict){NOT_DECLARED, c->n_at});
     if (c->n[1] >= power_of_ten(d->digits))
         return VALUE_UNFIT;
     k->s.counters[c->n[0]] = (struct counter){1, c->n[1]};
@@ -278,7 +286,7 @@ static bool has_place(enum word word, bool recording)
 /* "A recorded line is checked and kept, not run." */
 static enum answer record(struct call *k, const struct command *c, struct normal_line *normal)
 {
-    enum answer a;
+    struct verdict v;
 
     if (c->word == W_FE) {
         entry_at(&k->m, k->f.recording)[0] = FORM;
@@ -286,8 +294,8 @@ static enum answer record(struct call *k, const struct command *c, struct normal
     }
     if (c->word == W_GG && find_entry(&k->m, PICTURE, &c->name) == NOT_THERE)
         return NAME_NOT_FOUND;
-    if ((a = judge_line(c, &k->f.of_recording)) != TAKEN)
-        return a;
+    if ((v = judge_line(c, &k->f.of_recording)).answer != TAKEN)
+        return point(k, v);
     normal->bytes[normal->length] = '\n';
     return append(&k->m, k->f.recording, normal->bytes, normal->length + 1);
 }
@@ -322,7 +330,7 @@ static enum answer read_command(struct call *k, const uint8_t *input, size_t len
     const uint8_t *lf = front ? memchr(input, '\n', front) : NULL;
     struct normal_line normal;
     struct command c;
-    enum answer a;
+    struct verdict v;
 
     if (!lf && length <= MOST_LINE)
         return NOT_ALL_THERE;
@@ -334,8 +342,8 @@ static enum answer read_command(struct call *k, const uint8_t *input, size_t len
     *read = (size_t)(lf - input) + 1;
     if (lf == input || input[0] == ';')
         return TAKEN;
-    a = read_line(input, (unsigned)(lf - input), k->m.rows, &c, &normal);
-    if (a != NOT_WRITTEN_SO && c.word == W_GM && c.n[0] >= 1 && c.n[0] <= MOST_PICTURE) {
+    v = read_line(input, (unsigned)(lf - input), k->m.rows, &c, &normal);
+    if (v.answer != NOT_WRITTEN_SO && c.word == W_GM && c.n[0] >= 1 && c.n[0] <= MOST_PICTURE) {
         if (length - *read < c.n[0]) {
             *read = 0;
             return NOT_ALL_THERE;
@@ -343,8 +351,8 @@ static enum answer read_command(struct call *k, const uint8_t *input, size_t len
         k->after = lf + 1;
         *read += c.n[0];  /* "taken or refused" */
     }
-    if (a != TAKEN)
-        return a;
+    if (v.answer != TAKEN)
+        return point(k, v);
     if (k->s.owed > 0)
         return LABELS_OWED;
     if (!has_place(c.word, k->f.recording != NOT_THERE))
@@ -361,9 +369,9 @@ uint8_t peer_command(uint8_t *session, size_t session_len, uint64_t *counts, siz
     size_t read = 0;
     enum answer a;
 
-    if (counts_len == 2)
-        counts[0] = counts[1] = 0;
-    if (session_len != IMAGE || counts_len != 2 || !rows_right(background_len)
+    if (counts_len == 3)
+        counts[0] = counts[1] = counts[2] = 0;
+    if (session_len != IMAGE || counts_len != 3 || !rows_right(background_len)
         || !store_right(store_len, links_len, directory_len, values_len))
         return BAD_LENGTH;
     if (!read_font(font, font_len, &k.font))
@@ -376,9 +384,11 @@ uint8_t peer_command(uint8_t *session, size_t session_len, uint64_t *counts, siz
     k.output = output;
     k.output_len = output_len;
     k.written = 0;
+    k.place = 0;
     a = read_command(&k, input, input_len, &read);
     counts[0] = read;
     counts[1] = k.written;
+    counts[2] = k.place;
     if (a == TAKEN)
         write_image(&k.s, session);
     return (uint8_t)a;

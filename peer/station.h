@@ -19,7 +19,20 @@
  *   font        tagged fields; any length, judged by answer 2
  *   output      where FI, GI and FP write; any length
  *   input       the bytes not read yet; any length
- *   counts      2 numbers, stored at every answer: bytes read from the input, bytes written to the output
+ *   counts      3 numbers, stored at every answer: bytes read from the input, bytes written to the output, place of the fault
+ *
+ * The place tells where in the line a refusal points. The first byte of the line is 0. Answers 6, 7 and 12 to 15 point to the
+ * first byte of the field or element at fault, the leftmost if there are several:
+ *
+ *   6   the first piece, read from the left, that is not what must stand there: the command's letters, a field, a comma, an
+ *       element of data, or the bytes past the last field. A line that ends too soon points to its LF
+ *   7   the field or element outside its limits; names and prompts at their first quote
+ *   12  the number of the variable or counter
+ *   13  the element that is not declared; after `?` the number
+ *   14  the element that reaches too far
+ *   15  the first byte of the data
+ *
+ * All other answers give place 0. If counts has another length than 3, the answer is 1 and counts is left as it is.
  *
  * The result of each call is its answer: 0 taken, 1 to 21 refused (paper 01's table). After a refusal the session and
  * all lent memory are as before; only the counts are stored. A refused opening leaves the session image all zero.

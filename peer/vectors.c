@@ -2,8 +2,9 @@
  *
  *   vectors INPUT-FILE LINES-FILE [FIRST-SEED [SESSIONS]]
  *
- * Without a seed it writes what is kept in peer/vectors: eight sessions by chance, which give each of the 22 answers, and behind
- * them a ninth that is written here and draws every word of the line under the bars.
+ * Without a seed it writes what is kept in peer/vectors: eight sessions by chance, which give each of the 22 answers, behind
+ * them a ninth that is written here and draws every word of the line under the bars, and a tenth of lines that are refused, in which
+ * every kind of piece is once at fault.
  *
  * INPUT-FILE is a row of records, all numbers low byte first. A record starts with its letter:
  *
@@ -16,11 +17,11 @@
  *   L lengths                 station_label
  *
  * lengths is nine numbers of 2 bytes, in elements, of session, counts, page, background, store, links, directory, values,
- * output. The font is always lent whole. A desk has room for more than a call is lent: session 67, counts 3, page and
+ * output. The font is always lent whole. A desk has room for more than a call is lent: session 67, counts 4, page and
  * background 3,192 each, store 4,608, links 18, directory 96, values 374, output 256 elements.
  *
- * LINES-FILE has one line for each O, C and L: the number of the call from 1, the answer, the two counts as they stand on the
- * desk, and in eight hexadecimal digits the FNV-1a digest (32 bits: start 2166136261, for each byte exclusive or, then
+ * LINES-FILE has one line for each O, C and L: the number of the call from 1, the answer, the first three counts as they stand on
+ * the desk (read, written, place), and in eight hexadecimal digits the FNV-1a digest (32 bits: start 2166136261, for each byte exclusive or, then
  * times 16777619) of all bytes of session, page, background, store, links, directory, values, output in this order, the
  * room beyond what was lent included. */
 #include <inttypes.h>
@@ -66,10 +67,11 @@ static void write_call(FILE *f, const struct event *e)
 
 static void write_line(FILE *f, const struct desk *d, unsigned calls, unsigned answer)
 {
-    uint64_t counts[2];
+    uint64_t counts[3];
 
     memcpy(counts, d->bytes[COUNTS], sizeof counts);
-    fprintf(f, "%u %u %" PRIu64 " %" PRIu64 " %08" PRIx32 "\n", calls, answer, counts[0], counts[1], digest_of(d));
+    fprintf(f, "%u %u %" PRIu64 " %" PRIu64 " %" PRIu64 " %08" PRIx32 "\n", calls, answer, counts[0], counts[1], counts[2],
+            digest_of(d));
 }
 
 /* ---- an event, made and written down ---- */
@@ -78,6 +80,7 @@ struct record {
     FILE *input, *lines;
     struct desk desk;
     unsigned calls, reached[22];
+    bool pointed[22][MOST_LINE + 1];
 };
 
 static void set_up(struct record *r, const struct event *e)
@@ -114,6 +117,8 @@ static unsigned make_call(struct record *r, const struct event *e)
     answer = call_station(&peer_station, &r->desk, e->call, e->length);
     write_line(r->lines, &r->desk, ++r->calls, answer);
     r->reached[answer]++;
+    if (e->call == COMMAND && e->length[COUNTS] == 3)
+        r->pointed[answer][r->desk.bytes[COUNTS][16]] = true;
     return answer;
 }
 
@@ -181,7 +186,7 @@ static const char *const recorded[] = {
 
 static void send_lines(struct record *r, struct event *e, const char *const *lines, unsigned count)
 {
-    char line[128];
+    char line[300];
 
     e->call = COMMAND;
     for (unsigned i = 0; i < count; i++) {
@@ -216,6 +221,77 @@ static void lined_session(struct record *r, struct event e)
     draw_label(r, &e);
 }
 
+/* ---- refusals that point ---- */
+
+/* 6 and 7 with every kind of piece at fault, 13 where nothing is declared. */
+static const char *const refused_outside[] = {
+    "L", "LX", "F", "FX", "GX", "Z", "ZC", "ZTx", "?", "?X", "?V", "V", "VC0", "Vx", "RESET", "N ", "FIX", ",", "LO1x2,3,4", "LO1 ,2,3,4", "LO1,2,3,4,5", "LO1,2,3,4x", "LO,2,3,4",
+    "LO1,2", "LO1,2,", "LO1,1234567890,3,4", "LO1,2,3,0000000004", "LO2047,2048,0,1", "X9999,0,99,0,0", "Q41,241", "q79", "P0", "FSx", "FS\"A",
+    "FS\"A\"x", "FS\"A\x01\"", "FS\"A\x7f", "FS\"A*\"", "GK\"123456789\"", "GM\"A\"300", "GM\"A\",", "GM\"*\",0", "GM\"A\",32769", "GM\"A*\",5", "GG0,0,A",
+    "GG0,0,\"A\"", "GG0,5000,\"\"", "?V10,\"\"", "?V0,5", "?C0,", "?C3,1", "?V3,\"x\"", "V0,5,LL,\"\"", "V0,5,L\"\"", "V0,5,Z", "V0,33,L,\"\"",
+    "V0,5,L,\"1234567890123456789012345\"", "C0,1,+", "C0,1,+x,\"\"", "C0,1,-1234567890,\"\"", "C0,1,+100000,\"\"", "C0,1,1\"\"",
+    "A0,0,0,1,1,", "A0,0,0,1,1,NN,\"a\"", "A0,0,0,1,1,N\"a,\"", "A0,0,0,1,1,N,", "A0,0,0,1,1,N,\"ab", "A0,0,0,1,1,N,\"a\"x",
+    "A0,0,0,1,1,N,\"a\"V0Lx", "A0,0,0,1,1,N,\"a\"V0L", "A0,0,0,1,1,N,V0M1,1", "A0,0,0,1,1,N,V0M1", "A0,0,0,1,1,N,V0M1.", "A0,0,0,1,1,N,C0Vx", "A0,0,0,1,1,N,V01",
+    "A0,0,0,1,1,N,V0L1R1", "A0,0,0,1,1,N,V0L1234567890", "A0,0,0,1,1,N,\"\"C0R33V0L0", "A0,0,0,1,1,N,\"C0\"V9\"\"C0", "A0,0,0,0,0,N,V0L0",
+    "B0,0,0,", "B0,0,0,3", "B0,0,0,33", "B0,0,0,E", "B0,0,0,E3", "B0,0,0,E30", "B0,0,0,E300", "B0,0,0,E31,", "B0,0,0,3C,1,2,24,N,\"1\"", "B0,0,0,,1,2,24,N,\"1\"", "B0,0,0,3,6,6,9,N,\"1\"", "B0,0,0,3,7,7,9,N,\"1\"",
+    "B0,0,0,3,1,2,24,", "B0,0,0,3,1,2,24,B", "B0,0,0,3,1,2,24,BC", "B0,0,0,3,1,2,24,B,", "B0,0,0,3,1,2,24,B,C", "B0,0,0,3,1,2,24,B,R", "B0,0,0,3,1,2,24,B,C,",
+    "B0,0,0,3,1,2,24,B,Rx,", "B0,0,0,3,1,2,24,B,C0,", "B0,0,0,3,1,2,24,B,C,R,\"1\"", "B0,0,0,3,1,2,24,B,R,R", "B0,0,0,3,1,2,24,B,C,C,\"1\"", "B0,0,0,3,1,2,24,N,R",
+    "B0,0,0,3,1,2,24,N,C", "B0,0,0,E30,1,2,24,B,R,\"1\""};
+/* 12 to 15, with and without others beside them. */
+static const char *const refused_in_form[] = {
+    "FS\"FORM\"", "C0,2,+1,\"\"", "V1,3,L,\"\"", "C0,3,-1,\"\"", "V01,1,Z,\"\"", "A0,0,0,1,1,N,C0V1C1V2", "A10,0,0,1,1,N,\"V2\"C0L3V2",
+    "A0,0,0,1,1,N,\"ab\"C0L3V1M3.2", "A10,0,0,1,1,N,V1C0M2.2C0L3", "B0,0,0,1,1,2,24,B,C,V1R3V1R4", "B0,0,0,2,1,2,24,N,C0\"1\"",
+    "B0,0,0,3,1,2,24,B,C,\"1\"V1", "B10,0,0,E30,1,2,24,B,C0\"123456789\"", "A0,0,0,1,1,N,\"1234567890123456789012345678901234567890\""
+    "\"1234567890123456789012345678901234567890\"\"1234567890123456789012345678901234567890\"C0C0C0C0V1", "ZT", "FE"};
+
+/* As long as a line may be, with a text that is not ended, and the same with its last byte bad. */
+static void longest_lines(struct record *r, struct event *e)
+{
+    char text[MOST_LINE + 1] = "A0,0,0,1,1,N,\"";
+    const char *line[] = {text};
+
+    memset(text + 14, 'a', MOST_LINE - 14);
+    send_lines(r, e, line, 1);
+    text[MOST_LINE - 1] = 127;
+    send_lines(r, e, line, 1);
+}
+
+/* "counts holds read, written, place: length 3, another length is [1]." */
+static void wrong_counts(struct record *r, struct event *e)
+{
+    static const char *const line[] = {"LO1"};
+    size_t three = e->length[COUNTS];
+
+    for (e->length[COUNTS] = 0; e->length[COUNTS] <= 4; e->length[COUNTS]++)
+        send_lines(r, e, line, 1);
+    e->length[COUNTS] = three;
+}
+
+static void pointing_session(struct record *r, struct event e)
+{
+    set_up(r, &e);
+    usual_lengths(e.length, 40, 16, 4, 256);
+    lend_digits(r, &e, 3, 2);
+    e.call = OPEN;
+    e.count = 0;
+    make_call(r, &e);
+    send_lines(r, &e, refused_outside, sizeof refused_outside / sizeof refused_outside[0]);
+    longest_lines(r, &e);
+    send_lines(r, &e, refused_in_form, sizeof refused_in_form / sizeof refused_in_form[0]);
+    wrong_counts(r, &e);
+}
+
+static void tell_places(const struct record *r)
+{
+    for (unsigned a = 0; a < 22; a++) {
+        unsigned places = 0;
+        for (unsigned p = 0; p <= MOST_LINE; p++)
+            places += r->pointed[a][p];
+        if (places > 1 || (places == 1 && !r->pointed[a][0]))
+            fprintf(stderr, "answer %u points to %u places\n", a, places);
+    }
+}
+
 static FILE *open_file(const char *path)
 {
     FILE *f = fopen(path, "wb");
@@ -230,8 +306,9 @@ static FILE *open_file(const char *path)
 int main(int argc, char **argv)
 {
     static struct record r;
-    uint64_t seed = argc > 3 ? strtoull(argv[3], NULL, 10) : 3168;
+    uint64_t seed = argc > 3 ? strtoull(argv[3], NULL, 10) : 4420;
     unsigned missing = 0;
+    struct event room;
 
     if (argc < 3) {
         fprintf(stderr, "vectors INPUT-FILE LINES-FILE [FIRST-SEED [SESSIONS]]\n");
@@ -239,10 +316,13 @@ int main(int argc, char **argv)
     }
     r.input = open_file(argv[1]);
     r.lines = open_file(argv[2]);
-    lined_session(&r, chance_sessions(&r, seed, argc > 4 ? (unsigned)atoi(argv[4]) : 8));
+    room = chance_sessions(&r, seed, argc > 4 ? (unsigned)atoi(argv[4]) : 8);
+    lined_session(&r, room);
+    pointing_session(&r, room);
     for (unsigned a = 0; a < 22; a++)
         missing += r.reached[a] == 0;
     fprintf(stderr, "%u calls, %ld bytes, %u of the 22 answers not reached\n", r.calls, ftell(r.input), missing);
+    tell_places(&r);
     fclose(r.input);
     fclose(r.lines);
     clear_away(&r.desk);

@@ -1,9 +1,9 @@
 -- Paper 01's table: "No. | Given exactly when".
 -- Assumes nothing.
 use Prim.Native.Nat.{ℕ}
-use mathlib.Core.Bool.{Bool, true, false, cond}
+use mathlib.Core.Bool.{Bool, true, false, cond, _&&_, _||_}
 use mathlib.Core.List.{List, [], _∷_}
-use lib.Dec.{eqb}
+use lib.Dec.{eqb, leb}
 use Rattle.answers.specs.declared.Answer.{Answer}
 use Rattle.answers.specs.declared.Answer.the-variants.{
   Taken,
@@ -38,22 +38,54 @@ numberOf Font = 2
 numberOf Unsound = 3
 numberOf Unended = 4
 numberOf Long = 5
-numberOf Unwritten = 6
-numberOf Limits = 7
+numberOf (Unwritten p) = 6
+numberOf (Limits p) = 7
 numberOf Owing = 8
 numberOf Misplaced = 9
 numberOf InUse = 10
 numberOf Missing = 11
-numberOf Again = 12
-numberOf Undeclared = 13
-numberOf Past = 14
-numberOf Unfit = 15
+numberOf (Again p) = 12
+numberOf (Undeclared p) = 13
+numberOf (Past p) = 14
+numberOf (Unfit p) = 15
 numberOf Illegal = 16
 numberOf Misfit = 17
 numberOf Unset = 18
 numberOf Full = 19
 numberOf Overlong = 20
 numberOf NoneOwed = 21
+
+-- paper 02, §2: "For 6, 7 and 12 to 15 the answer also gives the place in the line, from 0 .. Other answers give place 0"
+unfoldable pub placeOf : Answer → ℕ
+placeOf Taken = 0
+placeOf Lengths = 0
+placeOf Font = 0
+placeOf Unsound = 0
+placeOf Unended = 0
+placeOf Long = 0
+placeOf (Unwritten p) = p
+placeOf (Limits p) = p
+placeOf Owing = 0
+placeOf Misplaced = 0
+placeOf InUse = 0
+placeOf Missing = 0
+placeOf (Again p) = p
+placeOf (Undeclared p) = p
+placeOf (Past p) = p
+placeOf (Unfit p) = p
+placeOf Illegal = 0
+placeOf Misfit = 0
+placeOf Unset = 0
+placeOf Full = 0
+placeOf Overlong = 0
+placeOf NoneOwed = 0
+
+-- an answer that points to a place in the line: "6, 7 and 12 to 15"
+abbrev pub pointing : ℕ → Bool
+pointing n = eqb n 6 || (eqb n 7 || (leb 12 n && leb n 15))
+
+unfoldable pub points : Answer → Bool
+points a = pointing (numberOf a)
 
 -- 0: "taken"
 unfoldable pub isTaken : Answer → Bool

@@ -3,9 +3,9 @@
 // "The lowest number that applies is given", and 0 where none does. Each call's rows stand where they are decided, in the table's order; the enum here is what all
 // of them answer with, so that no number is written twice. specs/Answers.antt gives each answer's number and says which row of a table is the answer.
 ghost use mathlib.Core.Path.{_≡_};
-ghost use Rattle.answers.specs.Answers.{numberOf, isTaken};
+ghost use Rattle.answers.specs.Answers.{numberOf, placeOf, points, isTaken};
 
-// One case a row of paper 01's table, in its order.
+// One case a row of paper 01's table, in its order; 6, 7 and 12 to 15 with the place in the line that they point to (paper 02, §2).
 pub enum Answer {
     Taken,
     Lengths,
@@ -13,16 +13,16 @@ pub enum Answer {
     Unsound,
     Unended,
     Long,
-    Unwritten,
-    Limits,
+    Unwritten(usize),
+    Limits(usize),
     Owing,
     Misplaced,
     InUse,
     Missing,
-    Again,
-    Undeclared,
-    Past,
-    Unfit,
+    Again(usize),
+    Undeclared(usize),
+    Past(usize),
+    Unfit(usize),
     Illegal,
     Misfit,
     Unset,
@@ -42,22 +42,48 @@ pub fn number(a: Answer) -> u8
         Answer::Unsound => 3,
         Answer::Unended => 4,
         Answer::Long => 5,
-        Answer::Unwritten => 6,
-        Answer::Limits => 7,
+        Answer::Unwritten(_) => 6,
+        Answer::Limits(_) => 7,
         Answer::Owing => 8,
         Answer::Misplaced => 9,
         Answer::InUse => 10,
         Answer::Missing => 11,
-        Answer::Again => 12,
-        Answer::Undeclared => 13,
-        Answer::Past => 14,
-        Answer::Unfit => 15,
+        Answer::Again(_) => 12,
+        Answer::Undeclared(_) => 13,
+        Answer::Past(_) => 14,
+        Answer::Unfit(_) => 15,
         Answer::Illegal => 16,
         Answer::Misfit => 17,
         Answer::Unset => 18,
         Answer::Full => 19,
         Answer::Overlong => 20,
         Answer::NoneOwed => 21,
+    }
+}
+
+// The place in the line that an answer points to, from 0; 0 of an answer that points to none.
+pub fn place(a: Answer) -> usize
+    ensures { λ r. ⌜ r ≡ placeOf a ⌝ }
+{
+    match a {
+        Answer::Unwritten(p) => p,
+        Answer::Limits(p) => p,
+        Answer::Again(p) => p,
+        Answer::Undeclared(p) => p,
+        Answer::Past(p) => p,
+        Answer::Unfit(p) => p,
+        _ => 0,
+    }
+}
+
+// Whether an answer points to a place in the line.
+pub fn points(a: Answer) -> bool
+    ensures { λ r. ⌜ r ≡ points a ⌝ }
+{
+    match number(a) {
+        6 | 7 => true,
+        12..=15 => true,
+        _ => false,
     }
 }
 

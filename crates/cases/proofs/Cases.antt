@@ -20,7 +20,7 @@ q80 = answer-of s0 w0 (replicate 18240 0) (bytes "q80\n") _ opening (answered s0
 
 q79 : calls 1 (bytes "q79\n") start .answers ≡ 7 ∷ []
 unfolding computed w0
-q79 = answer-of s0 w0 (replicate 18240 0) (bytes "q79\n") _ opening (answered s0 w0 (bytes "q79\n") Limits refl legal-font sound-0 refl)
+q79 = answer-of s0 w0 (replicate 18240 0) (bytes "q79\n") _ opening (answered s0 w0 (bytes "q79\n") (Limits 1) refl legal-font sound-0 refl)
 
 short : calls 1 (replicate 255 65) start .answers ≡ 4 ∷ []
 unfolding computed w0

@@ -67,10 +67,10 @@ abbrev pub placedRows : World → Session → List ℕ → List ℕ → ℕ → 
 placedRows w s line more room c (At i) = recordRows w line i c
 placedRows w s line more room c Nothing = runRows w s line more room c
 
--- [6] "the line has not the written form", [7] "a number, name or prompt outside its limits"
+-- [6] "the line has not the written form", [7] "a number, name or prompt outside its limits", each with the place that reading found
 abbrev pub faultAnswer : Fault → Answer
-faultAnswer (form p) = Unwritten
-faultAnswer (Limit p) = Limits
+faultAnswer (form p) = Unwritten p
+faultAnswer (Limit p) = Limits p
 
 -- ---- 6, 7, 8: a line that is read. more are the bytes of a well-formed GM
 abbrev pub lineRows : World → Session → List ℕ → List ℕ → ℕ → Read → List Row

@@ -16,13 +16,13 @@ use results::Done;
 use results::answered;
 use session::Session;
 
-// [6] or [7].
+// [6] or [7], at the place that reading found.
 fn fault_answer(fault: Fault) -> Answer
     ensures { λ r. ⌜ r ≡ faultAnswer fault ⌝ }
 {
     match fault {
-        Fault::Form(_) => Answer::Unwritten,
-        Fault::Limit(_) => Answer::Limits,
+        Fault::Form(p) => Answer::Unwritten(p),
+        Fault::Limit(p) => Answer::Limits(p),
     }
 }
 

@@ -28,7 +28,7 @@ abbrev pub stopped : ℕ → Step → ℕ
 stopped at (Next e) = at
 stopped at (Stop p) = p
 
--- one or more elements to the end of the line. As a field data has no value (0)
+-- one or more elements to the end of the line. As a field data has no value (0). Where it goes wrong the first piece that is no element is at fault
 unfoldable pub dataAt : List ℕ → ℕ → Field
 dataAt s at =
     let e : ℕ = at + total (elements s at) in

@@ -9,13 +9,13 @@ use lib.Dec.{eqb}
 use lib.ListN.{length, getD}
 use Rattle.kinds.specs.Bytes.{between}
 use Rattle.classes.proofs.Laws.{inside, past}
-use Rattle.fields.specs.Field.{textAt, byteAt}
+use Rattle.fields.specs.Field.{textAt, byteAt, pointed}
 use Rattle.fields.specs.declared.Field.{Field}
 use Rattle.fields.specs.declared.Field.the-variants.{Is, Not}
 use Rattle.fields.proofs.Laws.{Ends, text-ends, byte-ends}
 use Rattle.numbers.specs.Number.{numberAt}
 use Rattle.numbers.proofs.Laws.{number-ends}
-use Rattle.elements.specs.Elements.{first, last, middle, middle-dot, middle-n, modifierAt, quotedFrom, modified, heldAt, elementAt, pointed, after, follow, elementsFrom, elements}
+use Rattle.elements.specs.Elements.{first, last, middle, middle-dot, middle-n, modifierAt, quotedFrom, modified, heldAt, elementAt, after, follow, elementsFrom, elements}
 use Rattle.elements.specs.declared.Part.the-variants.{Whole}
 use Rattle.elements.specs.declared.Element.{Element}
 use Rattle.elements.specs.declared.Step.{Step}

@@ -5,9 +5,9 @@ use Prim.Native.Char.{code}
 use mathlib.Core.Bool.{Bool, true, false, cond}
 use mathlib.Core.List.{List, [], _∷_}
 use lib.ListN.{length, getD}
-use lib.Dec.{eqb, ltb}
+use lib.Dec.{eqb}
 use Rattle.kinds.specs.Bytes.{between}
-use Rattle.fields.specs.Field.{textAt, byteAt}
+use Rattle.fields.specs.Field.{textAt, byteAt, pointed}
 use Rattle.fields.specs.declared.Field.{Field}
 use Rattle.fields.specs.declared.Field.the-variants.{Is, Not}
 use Rattle.numbers.specs.Number.{digitOf, numberAt}
@@ -52,10 +52,6 @@ modifierAt s at =
     (cond (eqb (getD s at 0) (code "M")) (middle s (at + 1) (numberAt s (at + 1)))
     (Takes Whole at)))
 
--- an element that goes wrong at q is at fault from its first byte on, or at the LF where the line ends too soon
-abbrev pub pointed : List ℕ → ℕ → ℕ → ℕ
-pointed s at q = cond (ltb q (length s)) at q
-
 abbrev pub quotedFrom : ℕ → Field → Step
 quotedFrom at (Is n e) = Next (record { what = Text; at = at; length = n + 2 })
 quotedFrom at (Not p) = Stop p
@@ -65,6 +61,7 @@ abbrev pub heldFrom : Bool → ℕ → Part → What
 heldFrom true digit p = Counter (digitOf digit) p
 heldFrom false digit p = Variable (digitOf digit) p
 
+-- an element is one piece with its modifier: where that goes wrong the element's first byte is at fault, or the LF
 abbrev pub modified : Bool → ℕ → List ℕ → ℕ → Modifier → Step
 modified counter digit s at (Takes p e) = Next (record { what = heldFrom counter digit p; at = at; length = e - at })
 modified counter digit s at (Wrong q) = Stop (pointed s at q)
@@ -76,7 +73,7 @@ heldAt counter s at =
     (modified counter (getD s (at + 1) 0) s at (modifierAt s (at + 2)))
     (Stop (pointed s at (at + 1)))
 
--- the element at a place, or none
+-- the element at a place, or none: bytes where an element should start are themselves at fault
 unfoldable pub elementAt : List ℕ → ℕ → Step
 elementAt s at =
     cond (eqb (getD s at 0) (code "\"")) (quotedFrom at (textAt s at))

@@ -7,9 +7,10 @@ ghost use Prim.Native.Nat.{_<_};
 ghost use lib.ListN.{length};
 ghost use Rattle.fields.specs.Field.{textAt};
 ghost use Rattle.numbers.specs.Number.{numberAt};
-ghost use Rattle.elements.specs.Elements.{modifierAt, middle, quotedFrom, heldFrom, heldAt, pointed, elementAt};
+ghost use Rattle.elements.specs.Elements.{modifierAt, middle, quotedFrom, heldFrom, heldAt, elementAt};
 use fields::Field;
 use fields::literal;
+use fields::point;
 use fields::text;
 use ground::byte;
 use numbers::digit;
@@ -86,12 +87,6 @@ fn middle_at(line: &[u8], at: usize) -> Modifier
         return Modifier::Wrong(next);
     };
     Modifier::Takes(Part::Middle(p, n), end)
-}
-
-fn point(line: &[u8], at: usize, fault: usize) -> usize
-    ensures { λ r. ⌜ r ≡ pointed (now (line .entry)) at fault ⌝ }
-{
-    if fault < line.len() { at } else { fault }
 }
 
 fn held(counter: bool, b: u8, part: Part) -> What

@@ -1,4 +1,4 @@
--- The counts stored: bytes read and bytes written.
+-- The counts stored: bytes read, bytes written and the place.
 -- Assumes nothing.
 use mathlib.Core.Path.{_≡_, refl}
 use mathlib.Core.List.{List, [], _∷_}
@@ -8,13 +8,14 @@ use lib.ListN.{length, set}
 use borrow.Author.Tests.{ne-eqb}
 use Rattle.exported.specs.Face.{countsSize, countsStored}
 
-pub counts-two : (l : List ℕ) (r w : ℕ) → length l ≡ countsSize → set (set l 0 r) 1 w ≡ countsStored l r w
+pub counts-three : (l : List ℕ) (r w p : ℕ) → length l ≡ countsSize → set (set (set l 0 r) 1 w) 2 p ≡ countsStored l r w p
 unfolding countsStored
-counts-two [] r w h = absurd (omega arith)
-counts-two (x ∷ []) r w h = absurd (omega arith)
-counts-two (x ∷ y ∷ []) r w h = refl
-counts-two (x ∷ y ∷ z ∷ l) r w h = absurd (omega arith)
+counts-three [] r w p h = absurd (omega arith)
+counts-three (x ∷ []) r w p h = absurd (omega arith)
+counts-three (x ∷ y ∷ []) r w p h = absurd (omega arith)
+counts-three (x ∷ y ∷ z ∷ []) r w p h = refl
+counts-three (x ∷ y ∷ z ∷ v ∷ l) r w p h = absurd (omega arith)
 
-pub counts-other : (l : List ℕ) (r w : ℕ) → (length l ≡ countsSize → ⊥) → l ≡ countsStored l r w
+pub counts-other : (l : List ℕ) (r w p : ℕ) → (length l ≡ countsSize → ⊥) → l ≡ countsStored l r w p
 unfolding countsStored
-counts-other l r w h = rw (ne-eqb (length l) countsSize h)
+counts-other l r w p h = rw (ne-eqb (length l) countsSize h)

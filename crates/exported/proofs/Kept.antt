@@ -53,10 +53,10 @@ command-same i cs o w c a s n k e q = rw (e, q)
 
 command-either : (t : Bool) (i cs o : List ℕ) (w : World) (c : After)
     → (t ≡ false → isTaken (c .outcome .answer) ≡ false → commandingOf cs c ≡ commanding (commandingOf cs c .answer) i (commandingOf cs c .counts) w o)
-    → eqb (cond t (commanding (numberOf Lengths) i (countsStored cs 0 0) w o) (commandingOf cs c) .answer) 0 ≡ false
-    → cond t (commanding (numberOf Lengths) i (countsStored cs 0 0) w o) (commandingOf cs c)
-    ≡ commanding (cond t (commanding (numberOf Lengths) i (countsStored cs 0 0) w o) (commandingOf cs c) .answer) i
-    (cond t (commanding (numberOf Lengths) i (countsStored cs 0 0) w o) (commandingOf cs c) .counts) w o
+    → eqb (cond t (commanding (numberOf Lengths) i (countsStored cs 0 0 0) w o) (commandingOf cs c) .answer) 0 ≡ false
+    → cond t (commanding (numberOf Lengths) i (countsStored cs 0 0 0) w o) (commandingOf cs c)
+    ≡ commanding (cond t (commanding (numberOf Lengths) i (countsStored cs 0 0 0) w o) (commandingOf cs c) .answer) i
+    (cond t (commanding (numberOf Lengths) i (countsStored cs 0 0 0) w o) (commandingOf cs c) .counts) w o
 unfolding isTaken
 command-either true i cs o w c k n = refl
 command-either false i cs o w c k n = k refl n

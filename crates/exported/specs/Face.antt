@@ -6,7 +6,7 @@ use mathlib.Core.List.{List, [], _∷_}
 use lib.ListN.{length}
 use lib.Dec.{eqb}
 use Rattle.answers.specs.declared.Answer.the-variants.{Lengths}
-use Rattle.answers.specs.Answers.{numberOf}
+use Rattle.answers.specs.Answers.{numberOf, placeOf}
 use Rattle.lent.specs.Lent.{World}
 use Rattle.calls.specs.Outcomes.{After, Drawn, Opened}
 use Rattle.calls.specs.Station.{opened, commanded, labelledBy}
@@ -16,9 +16,9 @@ use Rattle.image.specs.Image.{imageSize, sessionOf, imageOf}
 abbrev pub imageWrong : List ℕ → Bool
 imageWrong image = not (eqb (length image) imageSize)
 
--- bytes read, bytes written
+-- bytes read, bytes written, and the place in the line that the answer points to
 abbrev pub countsSize : ℕ
-countsSize = 2
+countsSize = 3
 
 abbrev pub countsWrong : List ℕ → Bool
 countsWrong counts = not (eqb (length counts) countsSize)
@@ -55,19 +55,20 @@ pub record CommandedFace : Type 0 where
 abbrev pub commanding : ℕ → List ℕ → List ℕ → World → List ℕ → CommandedFace
 commanding a i c w o = record { answer = a; image = i; counts = c; world = w; output = o }
 
--- bytes read, bytes written: stored at every answer; counts of another length are left as they are
-unfoldable pub countsStored : List ℕ → ℕ → ℕ → List ℕ
-countsStored counts read written = cond (countsWrong counts) counts (read ∷ written ∷ [])
+-- bytes read, bytes written, the place: stored at every answer; counts of another length are left as they are
+unfoldable pub countsStored : List ℕ → ℕ → ℕ → ℕ → List ℕ
+countsStored counts read written place = cond (countsWrong counts) counts (read ∷ written ∷ place ∷ [])
 
 abbrev pub commandingOf : List ℕ → After → CommandedFace
 commandingOf counts o =
-    commanding (numberOf (o .outcome .answer)) (imageOf (o .outcome .session)) (countsStored counts (o .outcome .read) (o .outcome .written)) (o .world)
+    commanding (numberOf (o .outcome .answer)) (imageOf (o .outcome .session)) (countsStored counts (o .outcome .read) (o .outcome .written) (placeOf (o .outcome .answer)))
+    (o .world)
     (o .output)
 
 unfoldable pub commandedFace : List ℕ → List ℕ → List ℕ → World → List ℕ → List ℕ → CommandedFace
 commandedFace image counts font w output input =
     cond (imageWrong image || countsWrong counts)
-    (commanding (numberOf Lengths) image (countsStored counts 0 0) w output)
+    (commanding (numberOf Lengths) image (countsStored counts 0 0 0) w output)
     (commandingOf counts (commanded (sessionOf image) font w output input))
 
 -- ---- a label

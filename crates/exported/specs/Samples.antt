@@ -19,11 +19,11 @@ zeros : openedFace (replicate 65 1) [] nothing ≡ opening 1 (replicate 65 0) []
 unfolding numberOf pageWrong lengthsWrong opened bytesOf counterBytes imageOf openedFace
 zeros = refl
 
--- bytes read, bytes written; three counts are left as they are
-stored : countsStored (9 ∷ 9 ∷ []) 7 3 ≡ 7 ∷ 3 ∷ []
+-- bytes read, bytes written, the place; two counts are left as they are
+stored : countsStored (9 ∷ 9 ∷ 9 ∷ []) 7 3 5 ≡ 7 ∷ 3 ∷ 5 ∷ []
 unfolding countsStored
 stored = refl
 
-left : countsStored (9 ∷ 9 ∷ 9 ∷ []) 7 3 ≡ 9 ∷ 9 ∷ 9 ∷ []
+left : countsStored (9 ∷ 9 ∷ []) 7 3 5 ≡ 9 ∷ 9 ∷ []
 unfolding countsStored
 left = refl

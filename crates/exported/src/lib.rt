@@ -6,15 +6,16 @@
 ghost use mathlib.Core.Path.{_≡_};
 ghost use Rattle.exported.specs.Face.{countsStored};
 
-// Bytes read, bytes written.
-pub const COUNTS: usize = 2;
+// Bytes read, bytes written, and the place in the line that the answer points to.
+pub const COUNTS: usize = 3;
 
-// Bytes read and bytes written, at every answer; counts of another length are left as they are.
-pub fn store_counts(counts: &mut [u64], read: usize, written: usize)
-    ensures { λ _. ⌜ now (counts .exit) ≡ countsStored (now (counts .entry)) read written ⌝ }
+// The three of them, at every answer; counts of another length are left as they are.
+pub fn store_counts(counts: &mut [u64], read: usize, written: usize, place: usize)
+    ensures { λ _. ⌜ now (counts .exit) ≡ countsStored (now (counts .entry)) read written place ⌝ }
 {
     if counts.len() == COUNTS {
         counts[0] = read as u64;
         counts[1] = written as u64;
+        counts[2] = place as u64;
     }
 }

@@ -9,7 +9,7 @@ use lib.Seq.{sets}
 use borrow.Author.Tests.{eq-eqb, ne-eqb, eqb-true, not-false}
 use Rattle.session.specs.declared.Session.{Session}
 use Rattle.answers.specs.declared.Answer.the-variants.{Lengths}
-use Rattle.answers.specs.Answers.{numberOf}
+use Rattle.answers.specs.Answers.{numberOf, placeOf}
 use Rattle.lent.specs.Lent.{World}
 use Rattle.calls.specs.declared.Outcome.{Outcome}
 use Rattle.session.specs.declared.Labelled.{Labelled}
@@ -41,15 +41,15 @@ module _ (i f : List ℕ) (w : World) (p : List ℕ) where
   label-done s o i' p' r h d e q n = rw (eq-eqb (length i) imageSize h, ← d, ← e, n, q, whole i (o .session) h)
 
 module _ (i cs f : List ℕ) (w : World) (out input : List ℕ) (wrong : Bool) (is : wrong ≡ (imageWrong i || countsWrong cs)) where
-  pub command-wrong : (cs' : List ℕ) (r : ℕ) → wrong ≡ true → cs' ≡ countsStored cs 0 0 → r ≡ numberOf Lengths
+  pub command-wrong : (cs' : List ℕ) (r : ℕ) → wrong ≡ true → cs' ≡ countsStored cs 0 0 0 → r ≡ numberOf Lengths
       → commanding r i cs' w out ≡ commandedFace i cs f w out input
   unfolding commandedFace
   command-wrong cs' r h d e = rw (← is, h, d, e)
 
-  pub command-done : (s : Session) (o : Outcome) (i' cs' : List ℕ) (w' : World) (out' : List ℕ) (r : ℕ) → wrong ≡ false → s ≡ sessionOf i
-      → after o w' out' ≡ commanded s f w out input → i' ≡ sets i 0 (imageOf (o .session)) → cs' ≡ countsStored cs (o .read) (o .written) → r ≡ numberOf (o .answer)
-      → commanding r i' cs' w' out' ≡ commandedFace i cs f w out input
+  pub command-done : (s : Session) (o : Outcome) (i' cs' : List ℕ) (w' : World) (out' : List ℕ) (r p : ℕ) → wrong ≡ false → s ≡ sessionOf i
+      → after o w' out' ≡ commanded s f w out input → i' ≡ sets i 0 (imageOf (o .session)) → cs' ≡ countsStored cs (o .read) (o .written) p
+      → p ≡ placeOf (o .answer) → r ≡ numberOf (o .answer) → commanding r i' cs' w' out' ≡ commandedFace i cs f w out input
   unfolding commandedFace
-  command-done s o i' cs' w' out' r h d e q k n =
+  command-done s o i' cs' w' out' r p h d e q k m n =
       let t : length i ≡ imageSize = eqb-true (length i) imageSize (not-false (eqb (length i) imageSize) (neither (imageWrong i) (countsWrong cs) (sym is ∙ h))) in
-      rw (← is, h, ← d, ← e, n, q, k, whole i (o .session) t)
+      rw (← is, h, ← d, ← e, n, q, k, m, whole i (o .session) t)

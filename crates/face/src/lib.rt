@@ -9,6 +9,7 @@ ghost use Rattle.lent.specs.Lent.{world};
 ghost use Rattle.exported.specs.Face.{opening, commanding, labelling, openedFace, commandedFace, labelledFace};
 use answers::Answer;
 use answers::number;
+use answers::place;
 pub use exported::COUNTS;
 use exported::store_counts;
 use ground::either;
@@ -54,7 +55,7 @@ pub extern "C" fn station_command(
     ensures { λ r. ⌜ commanding r (now (session .exit)) (now (counts .exit)) (world (now (background .exit)) (now (store .exit)) (now (links .exit)) (now (directory .exit)) (now (values .exit))) (now (output .exit)) ≡ commandedFace (now (session .entry)) (now (counts .entry)) (now (font .entry)) (world (now (background .entry)) (now (store .entry)) (now (links .entry)) (now (directory .entry)) (now (values .entry))) (now (output .entry)) (now (input .entry)) ⌝ }
 {
     if either(session.len() != IMAGE, counts.len() != COUNTS) {
-        store_counts(counts, 0, 0);
+        store_counts(counts, 0, 0, 0);
         return number(Answer::Lengths);
     }
     let before = decode(session);
@@ -71,8 +72,8 @@ pub extern "C" fn station_command(
     );
     let after = o.session;
     encode(after, session);
-    store_counts(counts, o.read, o.written);
     let answer = o.answer;
+    store_counts(counts, o.read, o.written, place(answer));
     number(answer)
 }
 

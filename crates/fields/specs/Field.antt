@@ -23,6 +23,22 @@ abbrev pub stopOf : Field → ℕ
 stopOf (Is v e) = e
 stopOf (Not p) = p
 
+-- ---- paper 02, §2: "the place .. of the first byte of the field or element at fault .. for a line that ends too soon, the place of its LF"
+
+-- a piece that starts at `at` and goes wrong at q: its first byte is pointed to, or the LF where the line ends within the piece
+abbrev pub pointed : List ℕ → ℕ → ℕ → ℕ
+pointed s at q = cond (ltb q (length s)) at q
+
+-- a word runs to the next comma: it ends at e where a comma stands there, or the line ends
+abbrev pub wordEnds : List ℕ → ℕ → Bool
+wordEnds s e = leb (length s) e || eqb (getD s e 0) (code ",")
+
+-- the word of value v from `at` to e; where more bytes stand before the comma it is another word, and its first byte is at fault
+abbrev pub wordTo : List ℕ → ℕ → ℕ → ℕ → Field
+wordTo s at v e = cond (wordEnds s e) (Is v e) (Not at)
+
+-- ---- the fields
+
 -- where a text that is none goes wrong: at its first byte, or at the LF where the line ends within it
 abbrev pub textFault : List ℕ → ℕ → ℕ
 textFault s at = cond (eqb (getD s at 0) (code "\"") && leb (length s) (at + 1 + runAt Quoted s (at + 1))) (length s) at
@@ -38,18 +54,23 @@ textAt s at =
 unfoldable pub byteAt : ℕ → List ℕ → ℕ → Field
 byteAt b s at = cond (ltb at (length s) && eqb (getD s at 0) b) (Is b (at + 1)) (Not at)
 
--- one letter of a class; its value is the letter
+-- a word of one letter of a class; its value is the letter
 unfoldable pub letterAt : Class → List ℕ → ℕ → Field
-letterAt k s at = cond (ltb at (length s) && inClass k (getD s at 0)) (Is (getD s at 0) (at + 1)) (Not at)
+letterAt k s at = cond (ltb at (length s) && inClass k (getD s at 0)) (wordTo s at (getD s at 0) (at + 1)) (Not at)
+
+-- where a bar type that is none goes wrong: at its first byte, or at the LF where the line ends within `E30`
+abbrev pub typeFault : List ℕ → ℕ → ℕ
+typeFault s at =
+    cond (eqb (getD s at 0) (code "E") && (eqb (length s) (at + 1) || (eqb (getD s (at + 1) 0) (code "3") && eqb (length s) (at + 2)))) (length s) at
 
 -- a bar type, one of the words `1`, `2`, `3`, `E30`; its value is 1, 2, 3 or 30
 unfoldable pub typeAt : List ℕ → ℕ → Field
 typeAt s at =
-    cond (eqb (getD s at 0) (code "1")) (Is 1 (at + 1))
-    (cond (eqb (getD s at 0) (code "2")) (Is 2 (at + 1))
-    (cond (eqb (getD s at 0) (code "3")) (Is 3 (at + 1))
-    (cond (eqb (getD s at 0) (code "E") && (eqb (getD s (at + 1) 0) (code "3") && eqb (getD s (at + 2) 0) (code "0"))) (Is 30 (at + 3))
-    (Not at))))
+    cond (eqb (getD s at 0) (code "1")) (wordTo s at 1 (at + 1))
+    (cond (eqb (getD s at 0) (code "2")) (wordTo s at 2 (at + 1))
+    (cond (eqb (getD s at 0) (code "3")) (wordTo s at 3 (at + 1))
+    (cond (eqb (getD s at 0) (code "E") && (eqb (getD s (at + 1) 0) (code "3") && eqb (getD s (at + 2) 0) (code "0"))) (wordTo s at 30 (at + 3))
+    (Not (typeFault s at)))))
 
 -- what a bar type's data is for
 unfoldable pub kindFrom : ℕ → Kind
@@ -64,13 +85,20 @@ isPlace b = eqb b (code "C") || eqb b (code "R")
 abbrev pub placeBehind : List ℕ → ℕ → Bool
 placeBehind s at = eqb (getD s (at + 1) 0) (code ",") && (isPlace (getD s (at + 2) 0) && eqb (getD s (at + 3) 0) (code ","))
 
+-- whether the line ends where a comma would make the byte before it a place: what would follow decides whether `C` is a place or begins the data, and `R` can
+-- be nothing but a place
+abbrev pub placeCut : List ℕ → ℕ → Bool
+placeCut s at = eqb (getD s (at + 1) 0) (code ",") && (isPlace (getD s (at + 2) 0) && eqb (length s) (at + 3))
+
 -- the word that starts with a `B`
 abbrev pub wordFrom : List ℕ → ℕ → Field
-wordFrom s at = cond (placeBehind s at) (Is (getD s (at + 2) 0) (at + 3)) (Is (code "B") (at + 1))
+wordFrom s at =
+    cond (placeBehind s at) (Is (getD s (at + 2) 0) (at + 3))
+    (cond (placeCut s at) (Not (length s)) (wordTo s at (code "B") (at + 1)))
 
 -- what stands under bars, one of the words `N`, `B`, `B,C`, `B,R`; its value is the word's last letter
 unfoldable pub underAt : List ℕ → ℕ → Field
-underAt s at = cond (eqb (getD s at 0) (code "N")) (Is (code "N") (at + 1)) (cond (eqb (getD s at 0) (code "B")) (wordFrom s at) (Not at))
+underAt s at = cond (eqb (getD s at 0) (code "N")) (wordTo s at (code "N") (at + 1)) (cond (eqb (getD s at 0) (code "B")) (wordFrom s at) (Not at))
 
 -- what a word says: nothing under the bars, or a line; "otherwise left"
 unfoldable pub underFrom : ℕ → Under

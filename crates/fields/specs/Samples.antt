@@ -5,7 +5,8 @@ use Prim.Native.Char.{code}
 use Rattle.kinds.specs.Bytes.{between}
 use Rattle.kinds.specs.Text.{bytes}
 use Rattle.classes.specs.Bytes.{run}
-use Rattle.fields.specs.Field.{textAt, typeAt, underAt}
+use Rattle.classes.specs.declared.Class.the-variants.{Mode}
+use Rattle.fields.specs.Field.{textAt, letterAt, typeAt, underAt}
 use Rattle.fields.specs.declared.Field.the-variants.{Is, Not}
 
 -- a quoted text may be empty; one that does not end is at fault at the LF
@@ -51,3 +52,33 @@ unplaced = refl
 small-letter : underAt (bytes "b,C0") 0 ≡ Not 0
 unfolding underAt
 small-letter = refl
+
+-- a word runs to the next comma: where it is another word, its first byte is at fault
+doubled : letterAt Mode (bytes ",NN,") 1 ≡ Not 1
+unfolding letterAt
+doubled = refl
+
+longer-type : typeAt (bytes ",3C,") 1 ≡ Not 1
+unfolding typeAt
+longer-type = refl
+
+shorter-type : typeAt (bytes ",E3,") 1 ≡ Not 1
+unfolding typeAt
+shorter-type = refl
+
+joined : underAt (bytes ",BC,") 1 ≡ Not 1
+unfolding underAt
+joined = refl
+
+-- the line ends within `E30`, and where a comma would make a place of `C` or `R`: the LF is at fault
+cut-type : typeAt (bytes ",E3") 1 ≡ Not 3
+unfolding typeAt
+cut-type = refl
+
+cut-centred : underAt (bytes ",B,C") 1 ≡ Not 4
+unfolding underAt
+cut-centred = refl
+
+cut-right : underAt (bytes ",B,R") 1 ≡ Not 4
+unfolding underAt
+cut-right = refl

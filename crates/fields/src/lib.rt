@@ -8,8 +8,8 @@ pub mod word; // the words that say what stands under bars
 
 ghost use mathlib.Core.Path.{_≡_};
 ghost use Prim.Native.Nat.{_<_};
-ghost use lib.ListN.{length};
-ghost use Rattle.fields.specs.Field.{textAt, letterAt, byteAt, typeAt, kindFrom, isPlace, placeBehind, wordFrom, underAt, underFrom, stopOf};
+ghost use lib.ListN.{length, getD};
+ghost use Rattle.fields.specs.Field.{textAt, letterAt, byteAt, typeAt, kindFrom, isPlace, placeBehind, placeCut, wordFrom, wordEnds, wordTo, pointed, underAt, underFrom, stopOf};
 use classes::Class;
 use classes::in_class;
 use classes::run_end;
@@ -33,6 +33,33 @@ pub fn stop(found: Field) -> usize
         Field::Is(_, end) => end,
         Field::Not(fault) => fault,
     }
+}
+
+// The place to point to where a piece that starts at a place goes wrong at another: its first byte, or the LF where the line ends within it.
+pub fn point(line: &[u8], at: usize, fault: usize) -> usize
+    ensures { λ r. ⌜ r ≡ pointed (now (line .entry)) at fault ⌝ }
+{
+    if fault < line.len() { at } else { fault }
+}
+
+// Whether a word ends at a place: a comma stands there, or the line ends.
+fn word_ends(line: &[u8], end: usize) -> bool
+    ensures { λ r. ⌜ r ≡ wordEnds (now (line .entry)) end ⌝ }
+{
+    if line.len() <= end {
+        return true;
+    }
+    line[end] == b','
+}
+
+// The word of a value from a place to another, where it ends.
+fn word_to(line: &[u8], start: usize, v: usize, end: usize) -> Field
+    ensures { λ r. ⌜ r ≡ wordTo (now (line .entry)) start v end ⌝ }
+{
+    if word_ends(line, end) {
+        return Field::Is(v, end);
+    }
+    Field::Not(start)
 }
 
 // Quoted text; its value is its length.
@@ -69,7 +96,7 @@ pub fn literal(line: &[u8], b: u8, at: usize) -> Field
     Field::Is(wide(b), at + 1)
 }
 
-// One letter of a class; its value is the letter.
+// A word of one letter of a class; its value is the letter.
 pub fn letter(line: &[u8], k: Class, at: usize) -> Field
     ensures { λ r. ⌜ r ≡ letterAt k (now (line .entry)) at ⌝ }
 {
@@ -78,10 +105,29 @@ pub fn letter(line: &[u8], k: Class, at: usize) -> Field
     }
     let b = line[at];
     if in_class(k, b) {
-        Field::Is(wide(b), at + 1)
-    } else {
-        Field::Not(at)
+        return word_to(line, at, wide(b), at + 1);
     }
+    Field::Not(at)
+}
+
+// The bar type that starts with the `E` at a place; the line may end within it.
+fn type_from(line: &[u8], at: usize) -> Field
+    requires { ⌜ getD (now line) at 0 ≡ 69 ⌝ }
+    ensures { λ r. ⌜ r ≡ typeAt (now (line .entry)) at ⌝ }
+{
+    if line.len() == at + 1 {
+        return Field::Not(line.len());
+    }
+    if byte(line, at + 1) != b'3' {
+        return Field::Not(at);
+    }
+    if line.len() == at + 2 {
+        return Field::Not(line.len());
+    }
+    if byte(line, at + 2) != b'0' {
+        return Field::Not(at);
+    }
+    word_to(line, at, 30, at + 3)
 }
 
 // A bar type: 1, 2, 3 or 30 for `1`, `2`, `3` or `E30`.
@@ -90,18 +136,10 @@ pub fn bar_type(line: &[u8], at: usize) -> Field
 {
     let b = byte(line, at);
     match b {
-        b'1' => Field::Is(1, at + 1),
-        b'2' => Field::Is(2, at + 1),
-        b'3' => Field::Is(3, at + 1),
-        b'E' => {
-            if byte(line, at + 1) != b'3' {
-                return Field::Not(at);
-            }
-            if byte(line, at + 2) != b'0' {
-                return Field::Not(at);
-            }
-            Field::Is(30, at + 3)
-        }
+        b'1' => word_to(line, at, 1, at + 1),
+        b'2' => word_to(line, at, 2, at + 1),
+        b'3' => word_to(line, at, 3, at + 1),
+        b'E' => type_from(line, at),
         _ => Field::Not(at),
     }
 }
@@ -142,6 +180,20 @@ fn place_behind(line: &[u8], at: usize) -> bool
     false
 }
 
+// Whether the line ends where a comma would make a place of the byte before it.
+fn place_cut(line: &[u8], at: usize) -> bool
+    requires { ⌜ at < length (now line) ⌝ }
+    ensures { λ r. ⌜ r ≡ placeCut (now (line .entry)) at ⌝ }
+{
+    if byte(line, at + 1) != b',' {
+        return false;
+    }
+    if is_place(byte(line, at + 2)) {
+        return line.len() == at + 3;
+    }
+    false
+}
+
 // The word that starts with the `B` at a place.
 fn word_from(line: &[u8], at: usize) -> Field
     requires { ⌜ at < length (now line) ⌝ }
@@ -150,7 +202,10 @@ fn word_from(line: &[u8], at: usize) -> Field
     if place_behind(line, at) {
         return Field::Is(wide(byte(line, at + 2)), at + 3);
     }
-    Field::Is(word::LINE, at + 1)
+    if place_cut(line, at) {
+        return Field::Not(line.len());
+    }
+    word_to(line, at, word::LINE, at + 1)
 }
 
 // What stands under bars; its value is the last letter of the word.
@@ -158,7 +213,7 @@ pub fn under(line: &[u8], at: usize) -> Field
     ensures { λ r. ⌜ r ≡ underAt (now (line .entry)) at ⌝ }
 {
     match byte(line, at) {
-        b'N' => Field::Is(word::NOTHING, at + 1),
+        b'N' => word_to(line, at, word::NOTHING, at + 1),
         b'B' => word_from(line, at),
         _ => Field::Not(at),
     }

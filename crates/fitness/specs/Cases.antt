@@ -52,6 +52,6 @@ judgementOf text = dataJudged (declared (code "L")) (bytes text) (elements (byte
 -- in Code 39 a text variable is unfit, which counts only where 13 and 14 do not apply
 case-lowest :
     judgementOf "C0" ∷ judgementOf "V0" ∷ judgementOf "V0L6" ∷ judgementOf "V0L6V1" ∷ []
-    ≡ Fit ∷ Unfit ∷ Reaches ∷ NotDeclared ∷ []
+    ≡ Fit ∷ Unfit ∷ Reaches 0 ∷ NotDeclared 4 ∷ []
 unfolding judgementOf judged inClass fitLength partLength dataAnswer undeclaredBy pastBy reachesPast declared withCounter withVariable nothing between run valueFrom numberAt textAt byteAt modifierAt heldAt elementAt elementsFrom elements
 case-lowest = refl

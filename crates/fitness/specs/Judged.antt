@@ -15,8 +15,8 @@ use Rattle.summary.specs.Summary.{judged}
 
 -- [15] "unfit data", where neither 13 nor 14 applies
 abbrev pub withFit : DataAnswer → Bool → Judgement
-withFit NotDeclared fit = Undeclared
-withFit Reaches fit = Past
+withFit (NotDeclared p) fit = Undeclared p
+withFit (Reaches p) fit = Past p
 withFit Good true = Fit
 withFit Good false = Unfit
 

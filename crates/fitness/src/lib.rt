@@ -10,11 +10,10 @@ ghost use Rattle.elements.specs.Elements.{elements};
 ghost use Rattle.fitness.specs.Judged.{withFit, dataJudged};
 use declarations::Declared;
 use elements::Step;
-use ground::either;
 use kinds::Kind;
 use reach::DataAnswer;
+use reach::first_past;
 use reach::past_by;
-use reach::past_or_good;
 use reach::undeclared_by;
 use summary::Summary;
 use summary::summary_of;
@@ -22,8 +21,8 @@ use summary::summary_of;
 // Fit, whatever permitted values it is shown with; 13 and 14 as in `DataAnswer`; 15 some permitted values make it unfit.
 pub enum Judgement {
     Fit,
-    Undeclared,
-    Past,
+    Undeclared(usize),
+    Past(usize),
     Unfit,
 }
 
@@ -38,8 +37,8 @@ fn with_fit(answer: DataAnswer, fit: bool) -> Judgement
                 Judgement::Unfit
             }
         }
-        DataAnswer::Undeclared => Judgement::Undeclared,
-        DataAnswer::Past => Judgement::Past,
+        DataAnswer::Undeclared(p) => Judgement::Undeclared(p),
+        DataAnswer::Past(p) => Judgement::Past(p),
     }
 }
 
@@ -47,7 +46,7 @@ fn with_fit(answer: DataAnswer, fit: bool) -> Judgement
 pub fn judge(line: &[u8], at: usize, d: Declared, kind: Kind) -> Judgement
     ensures { λ r. ⌜ r ≡ dataJudged d (now (line .entry)) (elements (now (line .entry)) at) kind ⌝ }
 {
-    let mut past = false;
+    let mut past = DataAnswer::Good;
     let mut s = Summary {
         least: 0,
         most: 0,
@@ -56,15 +55,15 @@ pub fn judge(line: &[u8], at: usize, d: Declared, kind: Kind) -> Judgement
     let mut i = at;
     while i < line.len() {
         let Step::Next(e) = elements::element_at(line, i) else {
-            return with_fit(past_or_good(past), s.decide(kind));
+            return with_fit(past, s.decide(kind));
         };
         let what = e.what;
         if undeclared_by(d, what) {
-            return Judgement::Undeclared;
+            return Judgement::Undeclared(e.at);
         }
-        past = either(past, past_by(d, what));
+        past = first_past(past, past_by(d, what), e.at);
         s = s.join(summary_of(line, d, kind, e));
         i = e.at + e.length;
     }
-    with_fit(past_or_good(past), s.decide(kind))
+    with_fit(past, s.decide(kind))
 }

@@ -91,11 +91,11 @@ unfolding lineUp
 no-line row h = rw (no-row row h, List·getD-eq-default codes [] h)
 
 -- what holds of each form and of none holds of each row
-every : (Form → Bool) → List Form → Bool
+unfoldable pub every : (Form → Bool) → List Form → Bool
 every p [] = true
 every p (f ∷ fs) = p f && every p fs
 
-every-at : (p : Form → Bool) (fs : List Form) → T (every p fs) → T (p none) → (row : ℕ) → T (p (getD fs row none))
+pub every-at : (p : Form → Bool) (fs : List Form) → T (every p fs) → T (p none) → (row : ℕ) → T (p (getD fs row none))
 unfolding every
 every-at p [] h k row = k
 every-at p (f ∷ fs) h k zero = and-T (p f) (every p fs) h .0

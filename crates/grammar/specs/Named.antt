@@ -85,3 +85,10 @@ PRINT = 26
 
 abbrev pub WHITE : ℕ
 WHITE = 27
+
+-- Where the number stands that names a variable or a counter: behind the one letter of V and C, and behind the two of ?V and ?C.
+abbrev pub DECLARED-AT : ℕ
+DECLARED-AT = 1
+
+abbrev pub ENTERED-AT : ℕ
+ENTERED-AT = 2

@@ -54,3 +54,8 @@ pub const SET_COUNTER: usize = 25;
 pub const PRINT: usize = 26;
 
 pub const WHITE: usize = 27;
+
+// Where the number stands that names a variable or a counter: behind the one letter of V and C, and behind the two of ?V and ?C.
+pub const DECLARED_AT: usize = 1;
+
+pub const ENTERED_AT: usize = 2;

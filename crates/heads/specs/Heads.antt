@@ -3,10 +3,10 @@
 use Prim.Native.Nat.{ℕ, suc}
 use Prim.Native.Char.{Char, code}
 use mathlib.Core.Path.{_≡_}
-use mathlib.Core.Bool.{Bool, true, false, cond, _&&_}
+use mathlib.Core.Bool.{Bool, true, false, cond, _&&_, _||_}
 use mathlib.Core.List.{List, [], _∷_}
 use lib.ListN.{length, getD}
-use lib.Dec.{leb, eqb}
+use lib.Dec.{leb, ltb, eqb}
 use Rattle.grammar.specs.Forms.{Form, forms}
 use Rattle.heads.specs.declared.Head.{Head}
 use Rattle.heads.specs.declared.Head.the-variants.{Row, Unknown}
@@ -42,6 +42,15 @@ headBy a b c =
 
 unfoldable pub headOf : List ℕ → Head
 headOf s = headBy (getD s 0 0) (getD s 1 0) (getD s 2 0)
+
+-- the line is a part of some command's letters, from the first on, and they go on behind it
+abbrev pub lettersCut : List Form → List ℕ → Bool
+lettersCut [] s = false
+lettersCut (f ∷ fs) s = (ltb (length s) (length (lettersOf (f .fields))) && begins s (lettersOf (f .fields))) || lettersCut fs s
+
+-- where a line that no command's letters match is at fault: at its first byte, or at the LF where it ends within the letters of a command
+unfoldable pub lettersFault : List ℕ → ℕ
+lettersFault s = cond (lettersCut forms s) (length s) 0
 
 -- the letters a and b alone decide; this serves the code, which looks at a third where a row has one
 abbrev pub Decided : ℕ → ℕ → Head → Type 0

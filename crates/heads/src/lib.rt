@@ -3,7 +3,7 @@
 // A command starts with its letters; where the letters of several commands match, the longest count: VC is not V. `head_of` answers the row of the
 // grammar that a line's letters name, by a decision over the first letter and then the second.
 ghost use mathlib.Core.Path.{_≡_};
-ghost use Rattle.heads.specs.Heads.{headOf, Decided, Behind};
+ghost use Rattle.heads.specs.Heads.{headOf, Decided, Behind, lettersFault};
 use grammar::row;
 use ground::byte;
 
@@ -18,6 +18,25 @@ pub fn head_of(line: &[u8]) -> Head
     ensures { λ r. ⌜ r ≡ headOf (now (line .entry)) ⌝ }
 {
     by_first(byte(line, 0), byte(line, 1))
+}
+
+// Where a line that no command's letters match is at fault: at its first byte, or at the LF where it ends within the letters of a command. No command has more
+// than two letters.
+pub fn letters_fault(line: &[u8]) -> usize
+    ensures { λ r. ⌜ r ≡ lettersFault (now (line .entry)) ⌝ }
+{
+    if line.len() != 1 {
+        return 0;
+    }
+    match byte(line, 0) {
+        b'Z' => 1,
+        b'L' => 1,
+        b'G' => 1,
+        b'F' => 1,
+        b'V' => 1,
+        b'?' => 1,
+        _ => 0,
+    }
 }
 
 fn by_first(a: u8, b: u8) -> Head

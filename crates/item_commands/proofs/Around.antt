@@ -7,6 +7,8 @@ use Prim.Native.Nat.{ℕ}
 use borrow.Author.Tests.{not-true, not-false}
 use Rattle.declarations.specs.declared.Declared.{Declared}
 use Rattle.declarations.specs.Declarations.{nothing}
+use Rattle.reach.specs.Answers.{undeclaredBy, pastBy}
+use Rattle.grammar.specs.Named.{DECLARED-AT}
 use Rattle.grammar.specs.declared.Item.{Item}
 use Rattle.recording.specs.Judged.{hasPicture}
 use Rattle.session.specs.declared.Session.{Session}
@@ -18,25 +20,31 @@ use Rattle.answers.proofs.Rows.{answer-skip, answer-stop}
 use Rattle.results.specs.Result.{done, ran, ranBy}
 use Rattle.results.proofs.Answers.{cond-map, cond-true, cond-false}
 use Rattle.results.proofs.Parts.{onBackground}
-use Rattle.item_commands.specs.Items.{declaredBefore, notDeclared, reachesPast, unfitData, shownBy, itemRows, basedBy, itemRuns, itemBy}
+use Rattle.item_commands.specs.Items.{declaredBefore, notDeclared, reachesPast, unfitData, shownBy, leftmostIn, dataPlace, itemRows, basedBy, itemRuns, itemBy}
 
 item-join :
-    (h a b c e : Bool) (rest : List Row) →
-    let rows : (List Row → List Row) = λ after. row Missing (not h) ∷ row Again a ∷ row Undeclared b ∷ row Past c ∷ row Unfit e ∷ after in
+    (q u p at : ℕ) (h a b c e : Bool) (rest : List Row) →
+    let rows : (List Row → List Row) = λ after. row Missing (not h) ∷ row (Again q) a ∷ row (Undeclared u) b ∷ row (Past p) c ∷ row (Unfit at) e ∷ after in
     answerOf (rows rest) ≡ cond (isTaken (answerOf (rows []))) (answerOf rest) (answerOf (rows []))
 unfolding answerOf isTaken numberOf
-item-join false a b c e rest = refl
-item-join true true b c e rest = refl
-item-join true false true c e rest = refl
-item-join true false false true e rest = refl
-item-join true false false false true rest = refl
-item-join true false false false false rest = refl
+item-join q u p at false a b c e rest = refl
+item-join q u p at true true b c e rest = refl
+item-join q u p at true false true c e rest = refl
+item-join q u p at true false false true e rest = refl
+item-join q u p at true false false false true rest = refl
+item-join q u p at true false false false false rest = refl
 
 item-rows :
     (d : Declared) (dir line : List ℕ) (it : Item) (rest : List Row) →
     answerOf (itemRows d dir line it rest) ≡ cond (isTaken (answerOf (itemRows d dir line it []))) (answerOf rest) (answerOf (itemRows d dir line it []))
 item-rows d dir line it rest =
-    item-join (hasPicture dir line it) (declaredBefore d it) (notDeclared d line (shownBy it)) (reachesPast d line (shownBy it)) (unfitData d line (shownBy it)) rest
+    item-join DECLARED-AT (leftmostIn (undeclaredBy d) line (shownBy it)) (leftmostIn (pastBy d) line (shownBy it)) (dataPlace (shownBy it))
+    (hasPicture dir line it)
+    (declaredBefore d it)
+    (notDeclared d line (shownBy it))
+    (reachesPast d line (shownBy it))
+    (unfitData d line (shownBy it))
+    rest
 
 pub item-refused :
     (d : Declared) (dir line : List ℕ) (it : Item) (rest : List Row) (a : Answer) (b : Bool) →

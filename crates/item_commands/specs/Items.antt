@@ -12,8 +12,10 @@ use Rattle.reach.specs.declared.DataAnswer.{DataAnswer}
 use Rattle.reach.specs.declared.DataAnswer.the-variants.{Good as InReach, Undeclared as Unnamed, Past as TooFar}
 use Rattle.fitness.specs.declared.Judgement.{Judgement}
 use Rattle.fitness.specs.declared.Judgement.the-variants.{Fit as AlwaysFit, Undeclared as NamesUndeclared, Past as GoesPast, Unfit as NotFit}
-use Rattle.reach.specs.Answers.{undeclaredBy, pastBy, someOf}
+use Rattle.reach.specs.Answers.{undeclaredBy, pastBy, someOf, leftmost}
 use Rattle.summary.specs.Summary.{judged as fitAlways}
+use Rattle.elements.specs.declared.What.{What}
+use Rattle.grammar.specs.Named.{DECLARED-AT}
 use Rattle.grammar.specs.declared.Item.{Item}
 use Rattle.grammar.specs.declared.Item.the-variants.{Origin, Variable, Counter, Text, Bars, Box, Frame, Picture}
 use Rattle.recording.specs.declared.Verdict.{Verdict}
@@ -72,12 +74,25 @@ unfoldable pub unfitData : Declared → List ℕ → Shows → Bool
 unfitData d line noData = false
 unfitData d line (dataAt at kind) = not (fitAlways line d (elements line at) kind)
 
+-- ---- where they point (paper 02, §2)
+
+-- "the leftmost such" element of the data
+abbrev pub leftmostIn : (What → Bool) → List ℕ → Shows → ℕ
+leftmostIn q line noData = 0
+leftmostIn q line (dataAt at kind) = leftmost q (elements line at)
+
+-- "15 points to the data": to its first byte
+abbrev pub dataPlace : Shows → ℕ
+dataPlace noData = 0
+dataPlace (dataAt at kind) = at
+
+-- 12 points to the number of V or C
 abbrev pub fitRows : Declared → List ℕ → Item → List Row → List Row
 fitRows d line it rows =
-    row Again (declaredBefore d it)
-    ∷ row Undeclared (notDeclared d line (shownBy it))
-    ∷ row Past (reachesPast d line (shownBy it))
-    ∷ row Unfit (unfitData d line (shownBy it))
+    row (Again DECLARED-AT) (declaredBefore d it)
+    ∷ row (Undeclared (leftmostIn (undeclaredBy d) line (shownBy it))) (notDeclared d line (shownBy it))
+    ∷ row (Past (leftmostIn (pastBy d) line (shownBy it))) (reachesPast d line (shownBy it))
+    ∷ row (Unfit (dataPlace (shownBy it))) (unfitData d line (shownBy it))
     ∷ rows
 
 -- an item, by the picture it draws [11] and these; then what comes after
@@ -88,21 +103,22 @@ itemRows d directory line it rows = row Missing (not (hasPicture directory line 
 
 abbrev pub verdictAnswer : Verdict → Answer
 verdictAnswer Fine = Taken
-verdictAnswer Before = Again
-verdictAnswer Unknown = Undeclared
-verdictAnswer Reaches = Past
-verdictAnswer Wrong = Unfit
+verdictAnswer (Before p) = Again p
+verdictAnswer (Unknown p) = Undeclared p
+verdictAnswer (Reaches p) = Past p
+verdictAnswer (Wrong p) = Unfit p
 
-abbrev pub judgementAnswer : Judgement → Answer
-judgementAnswer AlwaysFit = Taken
-judgementAnswer NamesUndeclared = Undeclared
-judgementAnswer GoesPast = Past
-judgementAnswer NotFit = Unfit
+-- of data from `at` on
+abbrev pub judgementAnswer : ℕ → Judgement → Answer
+judgementAnswer at AlwaysFit = Taken
+judgementAnswer at (NamesUndeclared p) = Undeclared p
+judgementAnswer at (GoesPast p) = Past p
+judgementAnswer at NotFit = Unfit at
 
 abbrev pub dataAnswerOf : DataAnswer → Answer
 dataAnswerOf InReach = Taken
-dataAnswerOf Unnamed = Undeclared
-dataAnswerOf TooFar = Past
+dataAnswerOf (Unnamed p) = Undeclared p
+dataAnswerOf (TooFar p) = Past p
 
 -- ---- what an item does outside a form
 

@@ -19,16 +19,16 @@ use results::sixteen_bits;
 use results::taken;
 use session::Session;
 
-// What a verdict answers: [12] to [15], or taken.
+// What a verdict answers: [12] to [15] with their places, or taken.
 fn answer_of(v: Verdict) -> Answer
     ensures { λ r. ⌜ r ≡ verdictAnswer v ⌝ }
 {
     match v {
         Verdict::Taken => Answer::Taken,
-        Verdict::Again => Answer::Again,
-        Verdict::Undeclared => Answer::Undeclared,
-        Verdict::Past => Answer::Past,
-        Verdict::Unfit => Answer::Unfit,
+        Verdict::Again(p) => Answer::Again(p),
+        Verdict::Undeclared(p) => Answer::Undeclared(p),
+        Verdict::Past(p) => Answer::Past(p),
+        Verdict::Unfit(p) => Answer::Unfit(p),
     }
 }
 

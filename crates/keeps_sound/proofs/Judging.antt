@@ -23,7 +23,7 @@ use Rattle.classes.proofs.Laws.{and-T}
 use Rattle.declarations.specs.declared.Declared.{Declared}
 use Rattle.declarations.specs.Declarations.{lengthAt, sideAt, widthAt, variableDeclared, counterDeclared}
 use Rattle.reach.specs.declared.DataAnswer.the-variants.{Good as Fine, Undeclared as NotDeclared, Past as Reaches}
-use Rattle.reach.specs.Answers.{undeclaredBy, pastBy, someOf, dataAnswer}
+use Rattle.reach.specs.Answers.{undeclaredBy, pastBy, someOf, leftmost, dataAnswer}
 use Rattle.summary.specs.Summary.{partLength, fewest, takesAll, least, most, good as goods, judged as fitAlways}
 use Rattle.row_fields.specs.Reading.{good, fieldsFrom}
 use Rattle.grammar.specs.Forms.{Form, forms, rowOf, inOrder}
@@ -45,9 +45,10 @@ use Rattle.normal.proofs.Back.{text-fits}
 use Rattle.normal.proofs.Data.{a-text, a-variable, a-counter, Chain, ended, then, chain-of}
 use Rattle.normal.specs.Promise.{Normal}
 use Rattle.normal.proofs.Round.{item-parted}
-use Rattle.recording.specs.declared.Verdict.{Verdict}
 use Rattle.recording.specs.declared.Verdict.the-variants.{Taken, Again}
 use Rattle.recording.specs.Judged.{ofData, judgedData, judged}
+use Rattle.answers.specs.Answers.{numberOf}
+use Rattle.item_commands.specs.Items.{verdictAnswer}
 
 abbrev Piece : Type 0
 Piece = What × List ℕ
@@ -126,19 +127,33 @@ good-pieces t d {s} {at} (then (a-text n e h) c) = rw (text-inner s at n e h, go
 good-pieces t d {s} {at} (then (a-variable k p n h f) c) = rw (good-pieces t d c)
 good-pieces t d {s} {at} (then (a-counter k p n h f) c) = good-pieces t d c
 
-abbrev judgedBy : Declared → List Piece → Kind → Verdict
+-- the number that data is answered with
+abbrev judgedBy : Declared → List Piece → Kind → ℕ
 judgedBy d xs t =
-    ofData (cond (someBy (undeclaredBy d) xs) NotDeclared (cond (someBy (pastBy d) xs) Reaches Fine))
-    (fitLength t (leastBy d xs) && (fitLength t (mostBy d xs) && goodBy t d xs))
+    cond (someBy (undeclaredBy d) xs) 13
+    (cond (someBy (pastBy d) xs) 14 (cond (fitLength t (leastBy d xs) && (fitLength t (mostBy d xs) && goodBy t d xs)) 0 15))
 
-judged-data : (d : Declared) (s : List ℕ) (at : ℕ) (t : Kind) → Chain s at (elements s at) → judgedData d s at t ≡ judgedBy d (pieces s (elements s at)) t
+data-number :
+    (at m n : ℕ) (u p f : Bool) → numberOf (verdictAnswer (ofData at (cond u (NotDeclared m) (cond p (Reaches n) Fine)) f)) ≡ cond u 13 (cond p 14 (cond f 0 15))
+unfolding numberOf
+data-number at m n true p f = refl
+data-number at m n false true f = refl
+data-number at m n false false true = refl
+data-number at m n false false false = refl
+
+judged-data :
+    (d : Declared) (s : List ℕ) (at : ℕ) (t : Kind) → Chain s at (elements s at) →
+    numberOf (verdictAnswer (judgedData d s at t)) ≡ judgedBy d (pieces s (elements s at)) t
 unfolding dataAnswer fitAlways
 judged-data d s at t c =
-    rw (some-pieces (undeclaredBy d) s (elements s at), some-pieces (pastBy d) s (elements s at), least-pieces d c, most-pieces d c, good-pieces t d c)
+    data-number at (leftmost (undeclaredBy d) (elements s at)) (leftmost (pastBy d) (elements s at)) (someOf (undeclaredBy d) (elements s at))
+    (someOf (pastBy d) (elements s at))
+    (fitAlways s d (elements s at) t)
+    ∙ rw (some-pieces (undeclaredBy d) s (elements s at), some-pieces (pastBy d) s (elements s at), least-pieces d c, most-pieces d c, good-pieces t d c)
 
 -- ---- the contents of a line that shows data are its elements
 
-unfoldable Tells : List ℕ → Item → Type 0
+unfoldable pub Tells : List ℕ → Item → Type 0
 Tells s (Origin o) = Unit {0}
 Tells s (Variable v) = Unit {0}
 Tells s (Counter c) = Unit {0}
@@ -241,7 +256,7 @@ telling =
     & (λ s vs ps k c. tt)
     & (λ j s vs ps k c. tt)
 
-item-tells : (rows : ℕ) (s : List ℕ) (i : Item) → readOf rows s ≡ Reads (item i) → Tells s i
+pub item-tells : (rows : ℕ) (s : List ℕ) (i : Item) → readOf rows s ≡ Reads (item i) → Tells s i
 unfolding Telling
 item-tells rows s i h =
     let p = item-parted rows s i h in
@@ -249,30 +264,35 @@ item-tells rows s i h =
 
 -- ---- an item, judged by what it says
 
-abbrev judgedItem : Declared → List Piece → Item → Verdict
-judgedItem d xs (Origin o) = Taken
-judgedItem d xs (Variable v) = cond (variableDeclared d (v .n)) Again Taken
-judgedItem d xs (Counter c) = cond (counterDeclared d (c .n)) Again Taken
+abbrev judgedItem : Declared → List Piece → Item → ℕ
+judgedItem d xs (Origin o) = 0
+judgedItem d xs (Variable v) = cond (variableDeclared d (v .n)) 12 0
+judgedItem d xs (Counter c) = cond (counterDeclared d (c .n)) 12 0
 judgedItem d xs (Text t) = judgedBy d xs Shown
 judgedItem d xs (Bars b) = judgedBy d xs (b .kind)
-judgedItem d xs (Box r) = Taken
-judgedItem d xs (Frame f) = Taken
-judgedItem d xs (Picture p) = Taken
+judgedItem d xs (Box r) = 0
+judgedItem d xs (Frame f) = 0
+judgedItem d xs (Picture p) = 0
 
-judged-item : (d : Declared) (s : List ℕ) (i : Item) → Tells s i → judged d s i ≡ judgedItem d (contents s) (unplaced i)
-unfolding judged Tells
+again-number : (b : Bool) (p : ℕ) → numberOf (verdictAnswer (cond b (Again p) Taken)) ≡ cond b 12 0
+unfolding numberOf
+again-number true p = refl
+again-number false p = refl
+
+judged-item : (d : Declared) (s : List ℕ) (i : Item) → Tells s i → numberOf (verdictAnswer (judged d s i)) ≡ judgedItem d (contents s) (unplaced i)
+unfolding judged Tells numberOf
 judged-item d s (Origin o) h = refl
-judged-item d s (Variable v) h = refl
-judged-item d s (Counter c) h = refl
+judged-item d s (Variable v) h = again-number (variableDeclared d (v .n)) _
+judged-item d s (Counter c) h = again-number (counterDeclared d (c .n)) _
 judged-item d s (Text t) h = judged-data d s (t .at) Shown (h .1) ∙ sym (ap (λ (xs : List Piece). judgedBy d xs Shown) (h .0))
 judged-item d s (Bars b) h = judged-data d s (b .at) (b .kind) (h .1) ∙ sym (ap (λ (xs : List Piece). judgedBy d xs (b .kind)) (h .0))
 judged-item d s (Box r) h = refl
 judged-item d s (Frame f) h = refl
 judged-item d s (Picture p) h = refl
 
--- THE NORMAL FORM IS JUDGED AS THE LINE IS
+-- THE NORMAL FORM IS JUDGED AS THE LINE IS: by the same number. The place may be another, where zeros in front of a number are dropped
 pub normal-judged : (rows : ℕ) (d : Declared) (s : List ℕ) (i : Item) → readOf rows s ≡ Reads (item i) → (n : Normal rows s i)
-    → judged d (normal s) (n .back) ≡ judged d s i
+    → numberOf (verdictAnswer (judged d (normal s) (n .back))) ≡ numberOf (verdictAnswer (judged d s i))
 normal-judged rows d s i h n =
     judged-item d (normal s) (n .back) (item-tells rows (normal s) (n .back) (n .read))
     ∙ (λ t. judgedItem d (n .content t) (n .same t))

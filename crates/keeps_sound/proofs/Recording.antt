@@ -32,7 +32,8 @@ use Rattle.normal.specs.Written.{normal, takenItem, isNormal}
 use Rattle.writing.specs.Writing.{equal}
 use Rattle.normal.proofs.Round.{normal-line, item-rows}
 use Rattle.normal.proofs.Short.{normal-short}
-use Rattle.recording.specs.declared.Verdict.the-variants.{Taken as Fine}
+use Rattle.recording.specs.declared.Verdict.{Verdict}
+use Rattle.recording.specs.declared.Verdict.the-variants.{Taken as Fine, Again as Before, Undeclared as Unknown, Past as Reaches, Unfit as Wrong}
 use Rattle.kept_line.specs.declared.Stored.the-variants.{Holds, Nothing as NoItem}
 use Rattle.recording.specs.Judged.{judged, isTaken as isFine}
 use Rattle.forms.specs.Form.{formOk, declaredOf, takesStored, takes, picturesStored}
@@ -45,7 +46,7 @@ use Rattle.answers.specs.Answers.{Row, isTaken, numberOf, answerOf}
 use Rattle.lent.specs.Lent.{World, rowsOf}
 use Rattle.session.specs.Active.{activeOf, activeDeclared}
 use Rattle.results.specs.World.{memoryOf, contentAt}
-use Rattle.item_commands.specs.Items.{fitRows}
+use Rattle.item_commands.specs.Items.{fitRows, verdictAnswer}
 use Rattle.item_commands.proofs.First.{first-verdict}
 use Rattle.commands.specs.Rows.{recordRows}
 use Rattle.commands.specs.Does.{records}
@@ -113,10 +114,10 @@ fit-fine :
     (d : Declared) (line : List ℕ) (it : Item) (rows : List Row) → answerOf (fitRows d line it rows) ≡ Taken → (judged d line it ≡ Fine) × (answerOf rows ≡ Taken)
 unfolding isTaken numberOf
 fit-fine d line it rows h =
-    let a = clear Again _ _ refl h in
-    let b = clear Undeclared _ _ refl (a .1) in
-    let c = clear Past _ _ refl (b .1) in
-    let e = clear Unfit _ _ refl (c .1) in
+    let a = clear (Again _) _ _ refl h in
+    let b = clear (Undeclared _) _ _ refl (a .1) in
+    let c = clear (Past _) _ _ refl (b .1) in
+    let e = clear (Unfit _) _ _ refl (c .1) in
     (rw (first-verdict d line it, a .0, b .0, c .0, e .0), e .1)
 
 equal-self : (l : List ℕ) → equal l l ≡ true
@@ -132,14 +133,23 @@ normal-holds l i h r n =
     and-both _ _ (le-leb (length l) 255 h) (and-both _ _ (ap takenItem r) (ap (λ (x : List ℕ). equal x l) n ∙ equal-self l)) in
     ap (λ (b : Bool). cond b (heldRead (readOf 1 l)) NoItem) t ∙ ap heldRead r
 
+-- what is answered 0 recording takes
+zero-fine : (v : Verdict) → numberOf (verdictAnswer v) ≡ 0 → isFine v ≡ true
+unfolding numberOf
+zero-fine Fine e = refl
+zero-fine (Before p) e = absurd (omega (arith, e))
+zero-fine (Unknown p) e = absurd (omega (arith, e))
+zero-fine (Reaches p) e = absurd (omega (arith, e))
+zero-fine (Wrong p) e = absurd (omega (arith, e))
+
 -- "recording would take" the normal form of a line that is taken
 pub normal-takes : (rows : ℕ) (d : Declared) (line : List ℕ) (it : Item) → readOf rows line ≡ Reads (item it) → length line ≤ 255
     → judged d line it ≡ Fine → takes d (normal line) ≡ true
-unfolding takes
+unfolding takes numberOf
 normal-takes rows d line it r h v =
     let n = normal-line rows line it r in
     ap (takesStored d (normal line)) (normal-holds (normal line) (n .back) (normal-short rows line it r h) (item-rows rows 1 (normal line) (n .back) (n .read)) (n .again))
-    ∙ ap isFine (normal-judged rows d line it r n ∙ v)
+    ∙ zero-fine (judged d (normal line) (n .back)) (normal-judged rows d line it r n ∙ ap (λ (x : Verdict). numberOf (verdictAnswer x)) v)
 
 module _ (s : Session) (w : World) (g : Good s w) (i : ℕ) (e : recorded (w .directory) ≡ At i) where
   -- a recorded line

@@ -142,6 +142,7 @@ pub record Parted (rows : ℕ) (s : List ℕ) (c : Command) : Type 0 where
   pub row : ℕ
   pub vs : List ℕ
   pub ps : List ℕ
+  pub read : fieldsFrom (rowOf row .fields) s 0 ≡ good vs ps
   pub within : limitsFrom (rowOf row .fields) (boundsOf row rows) s 0 vs ps ≡ Within
   pub command : commandOf row s vs ps ≡ c
 
@@ -149,17 +150,17 @@ pub line-parted : (rows : ℕ) (s : List ℕ) (c : Command) → readOf rows s �
 unfolding readOf headed judged
 line-parted rows s c h = go (headOf s) h
   where
-    within : (row : ℕ) (vs ps : List ℕ) (l : Limits) → limitsFrom (rowOf row .fields) (boundsOf row rows) s 0 vs ps ≡ l
-        → decided l (commandOf row s vs ps) ≡ Reads c → Parted rows s c
-    within row vs ps Within e d = record { row = row; vs = vs; ps = ps; within = e; command = cc }
-    within row vs ps (Outside p) e d = absurd (let z : _≡_ {A = ℕ} 0 1 = cc in omega arith)
+    within : (row : ℕ) (vs ps : List ℕ) (l : Limits) → fieldsFrom (rowOf row .fields) s 0 ≡ good vs ps
+        → limitsFrom (rowOf row .fields) (boundsOf row rows) s 0 vs ps ≡ l → decided l (commandOf row s vs ps) ≡ Reads c → Parted rows s c
+    within row vs ps Within b e d = record { row = row; vs = vs; ps = ps; read = b; within = e; command = cc }
+    within row vs ps (Outside p) b e d = absurd (let z : _≡_ {A = ℕ} 0 1 = cc in omega arith)
 
-    fields : (row : ℕ) (g : Got) → judged row rows s g ≡ Reads c → Parted rows s c
-    fields row (good vs ps) d = within row vs ps (limitsFrom (rowOf row .fields) (boundsOf row rows) s 0 vs ps) refl d
-    fields row (bad vs ps p) d = absurd (let z : _≡_ {A = ℕ} 0 1 = cc in omega arith)
+    fields : (row : ℕ) (g : Got) → fieldsFrom (rowOf row .fields) s 0 ≡ g → judged row rows s g ≡ Reads c → Parted rows s c
+    fields row (good vs ps) b d = within row vs ps (limitsFrom (rowOf row .fields) (boundsOf row rows) s 0 vs ps) b refl d
+    fields row (bad vs ps p) b d = absurd (let z : _≡_ {A = ℕ} 0 1 = cc in omega arith)
 
     go : (x : Head) → headed x rows s ≡ Reads c → Parted rows s c
-    go (Row row) d = fields row (fieldsFrom (rowOf row .fields) s 0) d
+    go (Row row) d = fields row (fieldsFrom (rowOf row .fields) s 0) refl d
     go Unknown d = absurd (let z : _≡_ {A = ℕ} 0 1 = cc in omega arith)
 
 -- what the limits of a row tell of the command that its fields make, for each row

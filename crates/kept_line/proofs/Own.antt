@@ -6,7 +6,7 @@ use Prim.Native.Nat.{ℕ, _≤_, _<_}
 use lib.ListN.{length, getD, take}
 use borrow.Author.Tests.{le-leb, lt-leb}
 use Rattle.grammar.specs.Forms.{rowOf}
-use Rattle.heads.specs.Heads.{headOf, headBy, find}
+use Rattle.heads.specs.Heads.{headOf, headBy, find, lettersFault}
 use Rattle.row_fields.specs.Reading.{fieldsFrom, Filled}
 use Rattle.read.specs.Commands.{readOf, headed, judged, withinLimits}
 use Rattle.read.specs.declared.Fault.the-variants.{Form as form}
@@ -33,7 +33,7 @@ unfolding ownRead isOwn
 own-not s h = rw (h, and-false)
 
 own-empty : Refused (form 0) ≡ ownRead []
-unfolding ownRead isOwn readOf headed headOf headBy find headWritten equal
+unfolding ownRead isOwn readOf headed headOf headBy find lettersFault headWritten equal
 own-empty = refl
 
 own-none : (s : List ℕ) → normal s ≡ [] → Refused (form 0) ≡ ownRead s

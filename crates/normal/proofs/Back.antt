@@ -17,11 +17,11 @@ use Rattle.classes.specs.declared.Class.the-variants.{Digit, Quoted, Named}
 use Rattle.fields.specs.declared.Field.{Field}
 use Rattle.fields.specs.declared.Field.the-variants.{Is, Not}
 use Rattle.classes.specs.Bytes.{inClass, run, runAt}
-use Rattle.numbers.specs.Number.{digitOf, valueFrom, numberAt, signedAt, plus, minus, nought, Small}
-use Rattle.fields.specs.Field.{textAt, textFault, letterAt, byteAt}
+use Rattle.numbers.specs.Number.{digitOf, valueFrom, numberAt, signedAt, behindSign, plus, minus, nought, Small}
+use Rattle.fields.specs.Field.{textAt, textFault, letterAt, wordTo, byteAt}
 use Rattle.classes.proofs.Laws.{in-range, above-range, inside, and-T}
-use Rattle.numbers.proofs.Laws.{number-is, number-small}
-use Rattle.fields.proofs.Laws.{text-is}
+use Rattle.numbers.proofs.Laws.{number-is, number-small, signed-found}
+use Rattle.fields.proofs.Laws.{text-is, word-comma, letter-found}
 use Rattle.parts.specs.Names.{capital}
 use Rattle.writing.specs.Writing.{digitByte, digits, decimal, signed, kept, cased}
 use Rattle.writing.proofs.Writes.{digits-room, digits-less, cased-append}
@@ -155,11 +155,15 @@ module _ (pre rest : List ℕ) where
       let l : length pre < length (pre ++ (b ∷ rest)) = simp length-append (omega arith) in
       rw (lt-ltb (length pre) (length (pre ++ (b ∷ rest))) l, getD-append-seam pre b rest 0) (rw (eq-eqb b b refl))
 
-  pub letter-back : (k : Class) (b : ℕ) → inClass k b ≡ true → letterAt k (pre ++ (b ∷ rest)) (length pre) ≡ Is b (length pre + 1)
+  -- a word after pre is read where a comma follows it
+  pub word-back : (b v : ℕ) → getD rest 0 0 ≡ code "," → wordTo (pre ++ (b ∷ rest)) (length pre) v (length pre + 1) ≡ Is v (length pre + 1)
+  word-back b v c = word-comma (pre ++ (b ∷ rest)) (length pre) v (length pre + 1) (getD-append-add pre (b ∷ rest) 1 0 ∙ c)
+
+  pub letter-back : (k : Class) (b : ℕ) → inClass k b ≡ true → getD rest 0 0 ≡ code "," → letterAt k (pre ++ (b ∷ rest)) (length pre) ≡ Is b (length pre + 1)
   unfolding letterAt
-  letter-back k b e =
+  letter-back k b e c =
       let l : length pre < length (pre ++ (b ∷ rest)) = simp length-append (omega arith) in
-      rw (lt-ltb (length pre) (length (pre ++ (b ∷ rest))) l, getD-append-seam pre b rest 0) (rw e)
+      rw (lt-ltb (length pre) (length (pre ++ (b ∷ rest))) l, getD-append-seam pre b rest 0) (rw e (word-back b b c))
 
 -- a number after one more byte
 number-after : (pre rest : List ℕ) (b v : ℕ) → v < 1000000000 → inClass Digit (getD rest 0 0) ≡ false
@@ -177,8 +181,8 @@ signed-back pre rest v h k e = go (decLt v nought)
     go : Dec (v < nought)
         → (let x : List ℕ = cond (ltb v nought) (code "-" ∷ decimal (nought - v)) (code "+" ∷ decimal (v - nought)) in
         let s : List ℕ = pre ++ (x ++ rest) in
-        cond (eqb (getD s (length pre) 0) (code "+")) (plus (numberAt s (length pre + 1)))
-        (cond (eqb (getD s (length pre) 0) (code "-")) (minus (numberAt s (length pre + 1)))
+        cond (eqb (getD s (length pre) 0) (code "+")) (plus (behindSign s (length pre) (numberAt s (length pre + 1))))
+        (cond (eqb (getD s (length pre) 0) (code "-")) (minus (behindSign s (length pre) (numberAt s (length pre + 1))))
         (plus (numberAt s (length pre))))
         ≡ Is v (length pre + length x))
     go (yes l) =
@@ -209,8 +213,7 @@ minus-fits (Is w d) v e k h = let q : nought - w ≡ v = cc in (omega arith, ome
 minus-fits (Not p) v e k h = absurd (let z : _≡_ {A = ℕ} 0 1 = cc in omega arith)
 
 pub signed-fits : (s : List ℕ) (at v e : ℕ) → signedAt s at ≡ Is v e → (0 < v) × (v < 2000000000)
-unfolding signedAt
-signed-fits s at v e h = go (eqb (getD s at 0) (code "+")) (eqb (getD s at 0) (code "-")) h
+signed-fits s at v e h = go (eqb (getD s at 0) (code "+")) (eqb (getD s at 0) (code "-")) (signed-found s at v e h)
   where
     go : (a b : Bool)
         → cond a (plus (numberAt s (at + 1))) (cond b (minus (numberAt s (at + 1))) (plus (numberAt s at))) ≡ Is v e
@@ -229,8 +232,7 @@ byte-fits b s at v e h = go (ltb at (length s) && eqb (getD s at 0) b) h
 
 -- a letter stays as it stands
 pub letter-fits : (k : Class) (s : List ℕ) (at v e : ℕ) → letterAt k s at ≡ Is v e → (inClass k v ≡ true) × (kept s at 1 ≡ v ∷ [])
-unfolding letterAt
-letter-fits k s at v e h = go (ltb at (length s)) (inClass k (getD s at 0)) refl refl h
+letter-fits k s at v e h = go (ltb at (length s)) (inClass k (getD s at 0)) refl refl (letter-found s at v e k h)
   where
     go : (a b : Bool) → ltb at (length s) ≡ a → inClass k (getD s at 0) ≡ b → cond (a && b) (Is (getD s at 0) (at + 1)) (Not at) ≡ Is v e
         → (inClass k v ≡ true) × (kept s at 1 ≡ v ∷ [])

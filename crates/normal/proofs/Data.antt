@@ -25,8 +25,8 @@ use Rattle.elements.specs.declared.Modifier.the-variants.{Takes, Wrong}
 use Rattle.data_field.specs.declared.Limits.the-variants.{Within, Outside}
 use Rattle.classes.specs.Bytes.{inClass}
 use Rattle.numbers.specs.Number.{digitOf, numberAt, Small}
-use Rattle.fields.specs.Field.{textAt, byteAt}
-use Rattle.elements.specs.Elements.{first, last, middle, middle-dot, middle-n, modifierAt, quotedFrom, heldFrom, modified, heldAt, elementAt, pointed, after, elements}
+use Rattle.fields.specs.Field.{textAt, byteAt, pointed}
+use Rattle.elements.specs.Elements.{first, last, middle, middle-dot, middle-n, modifierAt, quotedFrom, heldFrom, modified, heldAt, elementAt, after, elements}
 use Rattle.data_field.specs.Data.{total, stopped, dataAt, whatGood, limits}
 use Rattle.classes.proofs.Laws.{in-range}
 use Rattle.numbers.proofs.Laws.{digit-small, number-small}

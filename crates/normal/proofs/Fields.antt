@@ -16,9 +16,10 @@ use Rattle.fields.specs.declared.Field.the-variants.{Is, Not}
 use Rattle.elements.specs.declared.What.the-variants.{Text as Quote}
 use Rattle.data_field.specs.declared.Limits.the-variants.{Within, Outside}
 use Rattle.classes.specs.Bytes.{inClass, runAt}
-use Rattle.fields.specs.Field.{textAt, typeAt, byteAt, isPlace, underAt}
+use Rattle.fields.specs.Field.{textAt, typeAt, byteAt, isPlace, placeBehind, placeCut, underAt}
 use Rattle.elements.specs.Elements.{elements}
 use Rattle.classes.proofs.Laws.{inside}
+use Rattle.fields.proofs.Laws.{word-comma, type-found, under-found}
 use Rattle.reader.specs.Letters.{fieldAt}
 use Rattle.row_limits.specs.Limits.{named, meets, fieldLimits}
 use Rattle.grammar.specs.Makers.{starred}
@@ -27,7 +28,7 @@ use Rattle.writing.specs.Writing.{kept, cased}
 use Rattle.normal.specs.Written.{dataWritten, wordWritten, writtenField}
 use Rattle.normal.specs.Contents.{held}
 use Rattle.writing.proofs.Writes.{cased-kept}
-use Rattle.normal.proofs.Back.{allIn, run-all, run-in, number-back, text-back, byte-back, letter-back, signed-back, kept-back, number-fits, signed-fits, byte-fits, letter-fits, text-fits, cased-quoted, cased-named, cased-length, cased-twice, cased-quotes}
+use Rattle.normal.proofs.Back.{allIn, run-all, run-in, number-back, text-back, byte-back, word-back, letter-back, signed-back, kept-back, number-fits, signed-fits, byte-fits, letter-fits, text-fits, cased-quoted, cased-named, cased-length, cased-twice, cased-quotes}
 use Rattle.normal.proofs.Data.{chain-of, data-inside, elements-back, data-back, data-again, limits-back, pieces-back}
 
 -- a byte that stands for itself
@@ -108,6 +109,10 @@ letter-of f =
 abbrev pub placeAhead : List ℕ → Bool
 placeAhead rest = eqb (getD rest 0 0) (code ",") && (isPlace (getD rest 1 0) && eqb (getD rest 2 0) (code ","))
 
+-- whether they end with a place behind a comma
+abbrev pub placeLast : List ℕ → Bool
+placeLast rest = eqb (getD rest 0 0) (code ",") && (isPlace (getD rest 1 0) && eqb (length rest) 2)
+
 -- what a field asks of the bytes after it
 abbrev pub After : {f : ℕ} → Letter f → List ℕ → Type 0
 After a-number rest = inClass Digit (getD rest 0 0) ≡ false
@@ -117,10 +122,10 @@ After a-prompt rest = Unit {0}
 After a-text rest = Unit {0}
 After a-name rest = Unit {0}
 After a-star rest = Unit {0}
-After a-mode rest = Unit {0}
-After a-side rest = Unit {0}
-After a-type rest = Unit {0}
-After a-word rest = (getD rest 0 0 ≡ code ",") × (placeAhead rest ≡ false)
+After a-mode rest = getD rest 0 0 ≡ code ","
+After a-side rest = getD rest 0 0 ≡ code ","
+After a-type rest = getD rest 0 0 ≡ code ","
+After a-word rest = (getD rest 0 0 ≡ code ",") × (placeAhead rest ≡ false) × (placeLast rest ≡ false)
 After some-data rest = rest ≡ []
 After (itself p) rest = Unit {0}
 
@@ -251,7 +256,6 @@ kept-three s p a b c i j k x y z =
     rw (d, e, f)
 
 pub type-fits : (s : List ℕ) (at v e : ℕ) → typeAt s at ≡ Is v e → TypeFits s at v
-unfolding typeAt
 type-fits s at v e h =
     go (eqb (getD s at 0) (code "1")) (eqb (getD s at 0) (code "2")) (eqb (getD s at 0) (code "3")) (eqb (getD s at 0) (code "E")) (eqb (getD s (at + 1) 0) (code "3"))
     (eqb (getD s (at + 2) 0) (code "0"))
@@ -261,7 +265,7 @@ type-fits s at v e h =
     refl
     refl
     refl
-    h
+    (type-found s at v e h)
   where
     go : (a b c d f g : Bool) → eqb (getD s at 0) (code "1") ≡ a → eqb (getD s at 0) (code "2") ≡ b → eqb (getD s at 0) (code "3") ≡ c → eqb (getD s at 0) (code "E") ≡ d
         → eqb (getD s (at + 1) 0) (code "3") ≡ f
@@ -284,17 +288,18 @@ data TypeOne : ℕ → ℕ → Type 0 where
   is-two : TypeOne (code "2") 2
   is-three : TypeOne (code "3") 3
 
-type-one : (pre rest : List ℕ) (b v : ℕ) → TypeOne b v → typeAt (pre ++ (b ∷ rest)) (length pre) ≡ Is v (length pre + 1)
+type-one : (pre rest : List ℕ) (b v : ℕ) → TypeOne b v → getD rest 0 0 ≡ code "," → typeAt (pre ++ (b ∷ rest)) (length pre) ≡ Is v (length pre + 1)
 unfolding typeAt
-type-one pre rest b v is-one = rw (getD-append-seam pre (code "1") rest 0)
-type-one pre rest b v is-two = rw (getD-append-seam pre (code "2") rest 0)
-type-one pre rest b v is-three = rw (getD-append-seam pre (code "3") rest 0)
+type-one pre rest b v is-one c = rw (getD-append-seam pre (code "1") rest 0) (word-back pre rest b v c)
+type-one pre rest b v is-two c = rw (getD-append-seam pre (code "2") rest 0) (word-back pre rest b v c)
+type-one pre rest b v is-three c = rw (getD-append-seam pre (code "3") rest 0) (word-back pre rest b v c)
 
-type-ean : (pre rest : List ℕ) → typeAt (pre ++ (code "E" ∷ (code "3" ∷ (code "0" ∷ rest)))) (length pre) ≡ Is 30 (length pre + 3)
+type-ean : (pre rest : List ℕ) → getD rest 0 0 ≡ code "," → typeAt (pre ++ (code "E" ∷ (code "3" ∷ (code "0" ∷ rest)))) (length pre) ≡ Is 30 (length pre + 3)
 unfolding typeAt
-type-ean pre rest =
+type-ean pre rest c =
     let w : List ℕ = code "E" ∷ (code "3" ∷ (code "0" ∷ rest)) in
     rw (getD-append-seam pre (code "E") (code "3" ∷ (code "0" ∷ rest)) 0, getD-append-add pre w 1 0, getD-append-add pre w 2 0)
+    (word-comma (pre ++ w) (length pre) 30 (length pre + 3) (getD-append-add pre w 3 0 ∙ c))
 
 or-move : (a b c d : Bool) → (a ≡ true → c ≡ true) → (b ≡ true → d ≡ true) → (a || b) ≡ true → (c || d) ≡ true
 or-move true b c d f g h = rw (f refl)
@@ -305,38 +310,38 @@ or-move false true c d f g h = go c (g refl)
     go false k = k
 or-move false false c d f g h = absurd (let z : _≡_ {A = ℕ} 0 1 = cc in omega arith)
 
-type-moved : (s : List ℕ) (at v : ℕ) (pre rest : List ℕ) → TypeFits s at v
+type-moved : (s : List ℕ) (at v : ℕ) (pre rest : List ℕ) → getD rest 0 0 ≡ code "," → TypeFits s at v
     → Moved (code "k") s v at (pre ++ (writtenField (code "k") s v at ++ rest)) (length pre)
 unfolding fieldAt writtenField fieldLimits held
-type-moved s at v pre rest (one k) =
+type-moved s at v pre rest c (one k) =
     let x : cased false (kept s at 1) ≡ code "1" ∷ [] = cased-kept (kept s at 1) ∙ k in
     record {
-      read = rw x (type-one pre rest (code "1") 1 is-one);
+      read = rw x (type-one pre rest (code "1") 1 is-one c);
       again = rw x (cased-kept (kept (pre ++ (code "1" ∷ rest)) (length pre) 1) ∙ kept-back pre (code "1" ∷ []) rest);
       limit = λ l u k. refl;
       content = refl;
     }
-type-moved s at v pre rest (two k) =
+type-moved s at v pre rest c (two k) =
     let x : cased false (kept s at 1) ≡ code "2" ∷ [] = cased-kept (kept s at 1) ∙ k in
     record {
-      read = rw x (type-one pre rest (code "2") 2 is-two);
+      read = rw x (type-one pre rest (code "2") 2 is-two c);
       again = rw x (cased-kept (kept (pre ++ (code "2" ∷ rest)) (length pre) 1) ∙ kept-back pre (code "2" ∷ []) rest);
       limit = λ l u k. refl;
       content = refl;
     }
-type-moved s at v pre rest (three k) =
+type-moved s at v pre rest c (three k) =
     let x : cased false (kept s at 1) ≡ code "3" ∷ [] = cased-kept (kept s at 1) ∙ k in
     record {
-      read = rw x (type-one pre rest (code "3") 3 is-three);
+      read = rw x (type-one pre rest (code "3") 3 is-three c);
       again = rw x (cased-kept (kept (pre ++ (code "3" ∷ rest)) (length pre) 1) ∙ kept-back pre (code "3" ∷ []) rest);
       limit = λ l u k. refl;
       content = refl;
     }
-type-moved s at v pre rest (ean k) =
+type-moved s at v pre rest c (ean k) =
     let w : List ℕ = code "E" ∷ (code "3" ∷ (code "0" ∷ [])) in
     let x : cased false (kept s at 3) ≡ w = cased-kept (kept s at 3) ∙ k in
     record {
-      read = rw x (type-ean pre rest);
+      read = rw x (type-ean pre rest c);
       again = rw x (cased-kept (kept (pre ++ (w ++ rest)) (length pre) 3) ∙ kept-back pre w rest);
       limit = λ l u k. refl;
       content = refl;
@@ -376,14 +381,13 @@ module _ (s : List ℕ) (at : ℕ) where
       go (no c) (no r) = absurd (false≢true (rw (ne-eqb b (code "C") c, ne-eqb b (code "R") r) at h))
 
   pub word-fits : (v e : ℕ) → underAt s at ≡ Is v e → WordFits s at v e
-  unfolding underAt
   word-fits v e h =
       go (eqb (getD s at 0) (code "N")) (eqb (getD s at 0) (code "B")) (eqb (getD s (at + 1) 0) (code ",")) (isPlace (getD s (at + 2) 0)) (eqb (getD s (at + 3) 0) (code ","))
       refl
       refl
       refl
       refl
-      h
+      (under-found s at v e h)
     where
       line : eqb (getD s at 0) (code "B") ≡ true → Is (code "B") (at + 1) ≡ Is v e → WordFits s at v e
       line p k = let x : code "B" ≡ v = cc in let y : at + 1 ≡ e = cc in rw (← x, ← y) (left-fits (eqb-true (getD s at 0) (code "B") p))
@@ -406,18 +410,30 @@ module _ (s : List ℕ) (at : ℕ) where
       go false true false d g m n o p k = line n k
       go false false c d g m n o p k = absurd (let z : _≡_ {A = ℕ} 0 1 = cc in omega arith)
 
--- a word, written, is read back where a comma follows and no place between commas
-word-back : (pre rest : List ℕ) (v : ℕ) → Word v → After a-word rest
+-- two numbers are as equal as their sums with a third
+eqb-offset : (a b m n d : ℕ) → a ≡ m + d → b ≡ n + d → eqb a b ≡ eqb m n
+eqb-offset a b m n d p q = go (ℕ-discrete m n)
+  where
+    go : Dec (m ≡ n) → eqb a b ≡ eqb m n
+    go (yes e) = eq-eqb a b (omega arith) ∙ sym (eq-eqb m n e)
+    go (no e) = ne-eqb a b (λ k. e (omega arith)) ∙ sym (ne-eqb m n e)
+
+-- what is said under bars, written, is read back where a comma follows and no place between commas or at the end
+under-back : (pre rest : List ℕ) (v : ℕ) → Word v → After a-word rest
     → underAt (pre ++ (wordWritten v ++ rest)) (length pre) ≡ Is v (length pre + length (wordWritten v))
 unfolding underAt wordWritten
-word-back pre rest v nothing a = rw (getD-append-seam pre (code "N") rest 0)
-word-back pre rest v left a =
+under-back pre rest v nothing a = rw (getD-append-seam pre (code "N") rest 0) (word-back pre rest (code "N") (code "N") (a .0))
+under-back pre rest v left a =
     let w : List ℕ = code "B" ∷ rest in
-    rw (getD-append-seam pre (code "B") rest 0, getD-append-add pre w 1 0, getD-append-add pre w 2 0, getD-append-add pre w 3 0, a .1)
-word-back pre rest v centre a =
+    let l : eqb (length (pre ++ w)) (length pre + 3) ≡ eqb (length rest) 2 =
+    eqb-offset (length (pre ++ w)) (length pre + 3) (length rest) 2 (length pre + 1) (let z = length-append pre w in omega arith) (omega arith) in
+    let b : placeBehind (pre ++ w) (length pre) ≡ false = rw (getD-append-add pre w 1 0, getD-append-add pre w 2 0, getD-append-add pre w 3 0) (a .1) in
+    let d : placeCut (pre ++ w) (length pre) ≡ false = rw (getD-append-add pre w 1 0, getD-append-add pre w 2 0, l) (a .2) in
+    rw (getD-append-seam pre (code "B") rest 0, b, d) (word-back pre rest (code "B") (code "B") (a .0))
+under-back pre rest v centre a =
     let w : List ℕ = code "B" ∷ (code "," ∷ (code "C" ∷ rest)) in
     rw (getD-append-seam pre (code "B") (code "," ∷ (code "C" ∷ rest)) 0, getD-append-add pre w 1 0, getD-append-add pre w 2 0, getD-append-add pre w 3 0, a .0)
-word-back pre rest v right a =
+under-back pre rest v right a =
     let w : List ℕ = code "B" ∷ (code "," ∷ (code "R" ∷ rest)) in
     rw (getD-append-seam pre (code "B") (code "," ∷ (code "R" ∷ rest)) 0, getD-append-add pre w 1 0, getD-append-add pre w 2 0, getD-append-add pre w 3 0, a .0)
 
@@ -520,7 +536,7 @@ field-moved a-mode s at v e pre rest h a =
     let q = letter-fits Mode s at v e h in
     let x : cased false (kept s at 1) ≡ v ∷ [] = cased-kept (kept s at 1) ∙ q .1 in
     record {
-      read = rw x (letter-back pre rest Mode v (q .0));
+      read = rw x (letter-back pre rest Mode v (q .0) a);
       again = rw x (cased-kept (kept (pre ++ (v ∷ rest)) (length pre) 1) ∙ kept-back pre (v ∷ []) rest);
       limit = λ l u k. refl;
       content = refl;
@@ -529,15 +545,15 @@ field-moved a-side s at v e pre rest h a =
     let q = letter-fits Side s at v e h in
     let x : cased false (kept s at 1) ≡ v ∷ [] = cased-kept (kept s at 1) ∙ q .1 in
     record {
-      read = rw x (letter-back pre rest Side v (q .0));
+      read = rw x (letter-back pre rest Side v (q .0) a);
       again = rw x (cased-kept (kept (pre ++ (v ∷ rest)) (length pre) 1) ∙ kept-back pre (v ∷ []) rest);
       limit = λ l u k. refl;
       content = refl;
     }
-field-moved a-type s at v e pre rest h a = type-moved s at v pre rest (type-fits s at v e h)
+field-moved a-type s at v e pre rest h a = type-moved s at v pre rest a (type-fits s at v e h)
 field-moved a-word s at v e pre rest h a =
     record {
-      read = word-back pre rest v (word-fits s at v e h .letter) a;
+      read = under-back pre rest v (word-fits s at v e h .letter) a;
       again = refl;
       limit = λ l u k. refl;
       content = refl;

@@ -40,9 +40,12 @@ use Rattle.normal.proofs.Starts.{starts, every, every-among, written-sp
 
 -- ---- forms in which each field can be told from what follows
 
--- whether a byte may stand behind the field of the letter f: a number ends where no digit follows
+-- whether a byte may stand behind the field of the letter f: a number ends where no digit follows, a word where a comma does
 abbrev follows : ℕ → ℕ → Bool
-follows f x = cond (eqb f (code "n") || (eqb f (code "w") || eqb f (code "s"))) (not (inClass Digit x)) true
+follows f x =
+    cond (eqb f (code "n") || (eqb f (code "w") || eqb f (code "s"))) (not (inClass Digit x))
+    (cond (eqb f (code "m") || (eqb f (code "j") || eqb f (code "k"))) (eqb x (code ","))
+    true)
 
 -- data goes to the end of the line
 abbrev isEnd : List ℕ → Bool
@@ -66,6 +69,9 @@ not-T : (b : Bool) → T (not b) → b ≡ false
 not-T true h = absurd h
 not-T false h = refl
 
+comma-T : (x : ℕ) → T (eqb x (code ",")) → x ≡ code ","
+comma-T x h = eqb-true x (code ",") (T-true (eqb x (code ",")) h)
+
 end-after : (fs s vs ps : List ℕ) → T (isEnd fs) → writtenFrom fs s vs ps ≡ []
 unfolding writtenFrom
 end-after [] s vs ps h = refl
@@ -82,7 +88,7 @@ data-after fs s at vs ps e r =
     let w : writtenFrom (code "d" ∷ fs) s (x .vs) (x .ps) ≡ d =
     written-split (code "d") fs s (x .vs) (x .ps) (y .v) (x .e) (y .vs) (y .ps) (y .values) (y .places) ∙ rw (end-after fs s (y .vs) (y .ps) e) (append-nil d) in
     rw (written-split (code ",") (code "d" ∷ fs) s vs ps (x .v) at (x .vs) (x .ps) (x .values) (x .places), w)
-    (refl, data-placeless (chain-of s (x .e) (y .v) (y .e) (y .first)) (data-inside s (x .e) (y .v) (y .e) (y .first) .1))
+    (let q = data-placeless (chain-of s (x .e) (y .v) (y .e) (y .first)) (data-inside s (x .e) (y .v) (y .e) (y .first) .1) in (refl, q .0, q .1))
 
 word-after : (fs s : List ℕ) (at : ℕ) (vs ps : List ℕ) → T (isData fs) → fieldsFrom fs s at ≡ good vs ps → After a-word (writtenFrom fs s vs ps)
 word-after [] s at vs ps h o = absurd h
@@ -90,7 +96,7 @@ word-after (f ∷ []) s at vs ps h o = absurd h
 word-after (f ∷ (g ∷ fs)) s at vs ps h o =
     let a = and-T (eqb f (code ",")) (eqb g (code "d") && isEnd fs) h in
     let b = and-T (eqb g (code "d")) (isEnd fs) (a .1) in
-    let x : f ≡ code "," = eqb-true f (code ",") (T-true (eqb f (code ",")) (a .0)) in
+    let x : f ≡ code "," = comma-T f (a .0) in
     let y : g ≡ code "d" = eqb-true g (code "d") (T-true (eqb g (code "d")) (b .0)) in
     rw (x, y) (data-after fs s at vs ps (b .1) (rw (x, y) at o))
 
@@ -103,9 +109,9 @@ after-of a-prompt fs s at vs ps o h k = tt
 after-of a-text fs s at vs ps o h k = tt
 after-of a-name fs s at vs ps o h k = tt
 after-of a-star fs s at vs ps o h k = tt
-after-of a-mode fs s at vs ps o h k = tt
-after-of a-side fs s at vs ps o h k = tt
-after-of a-type fs s at vs ps o h k = tt
+after-of a-mode fs s at vs ps o h k = comma-T (getD (writtenFrom fs s vs ps) 0 0) h
+after-of a-side fs s at vs ps o h k = comma-T (getD (writtenFrom fs s vs ps) 0 0) h
+after-of a-type fs s at vs ps o h k = comma-T (getD (writtenFrom fs s vs ps) 0 0) h
 after-of a-word fs s at vs ps o h k = word-after fs s at vs ps k o
 after-of some-data fs s at vs ps o h k = end-after fs s vs ps k
 after-of (itself p) fs s at vs ps o h k = tt

@@ -25,10 +25,11 @@ use Rattle.data_field.specs.declared.Limits.{Limits}
 use Rattle.data_field.specs.declared.Limits.the-variants.{Within, Outside}
 use Rattle.classes.specs.Bytes.{inClass, part, runAt}
 use Rattle.numbers.specs.Number.{digitOf, valueFrom, numberAt, signedAt, plus, minus, nought, Small}
-use Rattle.fields.specs.Field.{textAt, letterAt, typeAt, byteAt}
-use Rattle.elements.specs.Elements.{first, last, middle, middle-dot, middle-n, modifierAt, quotedFrom, modified, heldAt, elementAt, pointed, after, follow, elementsFrom, elements}
+use Rattle.fields.specs.Field.{textAt, letterAt, typeAt, byteAt, pointed}
+use Rattle.elements.specs.Elements.{first, last, middle, middle-dot, middle-n, modifierAt, quotedFrom, modified, heldAt, elementAt, after, follow, elementsFrom, elements}
 use Rattle.data_field.specs.Data.{total, stopped, dataAt}
-use Rattle.numbers.proofs.Laws.{digit-small, value-fits, number-small}
+use Rattle.numbers.proofs.Laws.{digit-small, value-fits, number-small, signed-found}
+use Rattle.fields.proofs.Laws.{letter-found, type-found}
 use Rattle.classes.proofs.Laws.{and-T}
 use Rattle.grammar.specs.Forms.{Form, forms, none, rowOf, boundsOf, spread, free, isNumber}
 use Rattle.reader.specs.Letters.{fieldAt}
@@ -233,8 +234,7 @@ minus-length at v e (Is w d) h l k = go (decLt v nought)
 minus-length at v e (Not p) h l k = absurd (let z : _≡_ {A = ℕ} 0 1 = cc in omega arith)
 
 signed-length : (s : List ℕ) (at v e : ℕ) → signedAt s at ≡ Is v e → at + length (signed v) ≤ e + 1
-unfolding signedAt
-signed-length s at v e h = go (eqb (getD s at 0) (code "+")) (eqb (getD s at 0) (code "-")) h
+signed-length s at v e h = go (eqb (getD s at 0) (code "+")) (eqb (getD s at 0) (code "-")) (signed-found s at v e h)
   where
     go : (a b : Bool)
         → cond a (plus (numberAt s (at + 1))) (cond b (minus (numberAt s (at + 1))) (plus (numberAt s at))) ≡ Is v e
@@ -246,19 +246,17 @@ signed-length s at v e h = go (eqb (getD s at 0) (code "+")) (eqb (getD s at 0) 
 -- ---- each letter of the grammar
 
 letter-end : (k : Class) (s : List ℕ) (at v e : ℕ) → letterAt k s at ≡ Is v e → e ≡ at + 1
-unfolding letterAt
-letter-end c s at v e h = go (ltb at (length s) && inClass c (getD s at 0)) h
+letter-end c s at v e h = go (ltb at (length s) && inClass c (getD s at 0)) (letter-found s at v e c h)
   where
     go : (t : Bool) → cond t (Is (getD s at 0) (at + 1)) (Not at) ≡ Is v e → e ≡ at + 1
     go true k = cc
     go false k = absurd (let z : _≡_ {A = ℕ} 0 1 = cc in omega arith)
 
 type-end : (s : List ℕ) (at v e : ℕ) → typeAt s at ≡ Is v e → e ≡ at + cond (eqb v 30) 3 1
-unfolding typeAt
 type-end s at v e h =
     go (eqb (getD s at 0) (code "1")) (eqb (getD s at 0) (code "2")) (eqb (getD s at 0) (code "3"))
     (eqb (getD s at 0) (code "E") && (eqb (getD s (at + 1) 0) (code "3") && eqb (getD s (at + 2) 0) (code "0")))
-    h
+    (type-found s at v e h)
   where
     go : (a b c d : Bool)
         → cond a (Is 1 (at + 1)) (cond b (Is 2 (at + 1)) (cond c (Is 3 (at + 1)) (cond d (Is 30 (at + 3)) (Not at)))) ≡ Is v e

@@ -2,7 +2,7 @@
 use mathlib.Core.Path.{_≡_, _∙_, refl, ap}
 use mathlib.Core.Bool.{Bool, true, false, cond, _&&_, _||_, false≢true, and-false}
 use mathlib.Core.List.{List, [], _∷_, _++_}
-use Prim.Native.Nat.{ℕ, _+_, _-_, _≤_, _<_}
+use Prim.Native.Nat.{ℕ, suc, _+_, _-_, _≤_, _<_}
 use Prim.Native.Char.{code}
 use native.Mathlib.Omega.{arith}
 use native.Mathlib.Decide.{ℕ-discrete, decLt}
@@ -23,11 +23,11 @@ use Rattle.reader.specs.Letters.{fieldAt}
 use Rattle.row_fields.specs.Reading.{fieldsFrom, good}
 use Rattle.row_fields.proofs.Rows.{fields-split}
 use Rattle.writing.specs.Writing.{digitByte, decimal, signed, kept, cased}
-use Rattle.normal.specs.Written.{whatWritten, dataWritten, wordWritten, writtenField, writtenFrom}
+use Rattle.normal.specs.Written.{partWritten, whatWritten, dataWritten, wordWritten, writtenField, writtenFrom}
 use Rattle.writing.proofs.Writes.{cased-kept, digits-last}
 use Rattle.normal.proofs.Back.{allIn, T-true, holds-at, number-fits, digits-class, digits-count, letter-fits, text-fits, cased-quotes}
 use Rattle.normal.proofs.Data.{a-text as is-text, a-variable as is-variable, a-counter as is-counter, Chain, ended, then, chain-of, data-inside}
-use Rattle.normal.proofs.Fields.{Letter, letter-of, a-number, a-wide, a-step, a-prompt, a-text, a-name, a-star, a-mode, a-side, a-type, a-word, some-data, itself, Plain, plain-written, TypeFits, one, two, three, ean, type-fits, Word, nothing, left, centre, right, word-fits, placeAhead}
+use Rattle.normal.proofs.Fields.{Letter, letter-of, a-number, a-wide, a-step, a-prompt, a-text, a-name, a-star, a-mode, a-side, a-type, a-word, some-data, itself, Plain, plain-written, TypeFits, one, two, three, ean, type-fits, Word, nothing, left, centre, right, word-fits, placeAhead, placeLast}
 
 -- ---- the bytes that may stand first, by the letters of the grammar
 
@@ -148,13 +148,18 @@ data-starts {s} {at} rest (then (is-text n d h) c) l = rw (text-fits s at n d h 
 data-starts rest (then (is-variable k p n h f) c) l = tt
 data-starts rest (then (is-counter k p n h f) c) l = tt
 
--- behind a comma data is no place with another comma: the C of a counter has its digit behind it
-pub data-placeless : {s : List ℕ} {at : ℕ} {es : List Element} → Chain s at es → at < length s → placeAhead (code "," ∷ dataWritten s es) ≡ false
+above-two : (n : ℕ) → eqb (suc (suc (suc n))) 2 ≡ false
+above-two n = ne-eqb (suc (suc (suc n))) 2 (λ e. omega (arith, e))
+
+-- behind a comma data is no place, neither with another comma nor at the end: the C of a counter has its digit behind it
+pub data-placeless : {s : List ℕ} {at : ℕ} {es : List Element} → Chain s at es → at < length s
+    → (placeAhead (code "," ∷ dataWritten s es) ≡ false) × (placeLast (code "," ∷ dataWritten s es) ≡ false)
 unfolding dataWritten whatWritten
 data-placeless (ended h) l = absurd (omega arith)
-data-placeless {s} {at} (then (is-text n d h) c) l = rw (text-fits s at n d h .whole)
-data-placeless (then (is-variable k p n h f) c) l = refl
-data-placeless (then (is-counter k p n h f) c) l = rw (digits-last 19 k [] (omega arith)) (ne-eqb (digitByte k) (code ",") (λ e. omega arith))
+data-placeless {s} {at} (then (is-text n d h) c) l = rw (text-fits s at n d h .whole) (refl, refl)
+data-placeless (then (is-variable k p n h f) c) l = (refl, refl)
+data-placeless {s} (then {es = es} (is-counter k p n h f) c) l =
+    rw (digits-last 19 k [] (omega arith)) (ne-eqb (digitByte k) (code ",") (λ e. omega arith), above-two (length (partWritten p ++ dataWritten s es)))
 
 plain-starts : {f : ℕ} (p : Plain f) (s : List ℕ) (v q : ℕ) (rest next : List ℕ) → T (among (getD (writtenField f s v q ++ rest) 0 0) (startsOf f next))
 plain-starts {f} p s v q rest next =

@@ -7,7 +7,7 @@ use Prim.Native.Nat.{ℕ, suc, _+_, _-_, _*_, _^_, _≤_, _<_}
 use native.Mathlib.Nat.{pow-suc, pow-le-pow-right, mul-le-mul-right, mul-assoc, mul-comm}
 use native.Mathlib.Numerals.{add-one}
 use native.Mathlib.Omega.{arith}
-use lib.Dec.{leb, lit<}
+use lib.Dec.{leb, eqb, lit<}
 use lib.ListN.{length, getD, length-take}
 use lib.Seq.{drop-cons}
 use borrow.Author.Tests.{le-leb, lt-leb, leb-true}
@@ -15,9 +15,10 @@ use Rattle.kinds.specs.Bytes.{between}
 use Rattle.classes.specs.Bytes.{part, runAt}
 use Rattle.classes.specs.declared.Class.the-variants.{Digit}
 use Rattle.classes.proofs.Laws.{in-range-high, run-room}
+use Rattle.fields.specs.declared.Field.{Field}
 use Rattle.fields.specs.declared.Field.the-variants.{Is, Not}
 use Rattle.fields.proofs.Laws.{Ends}
-use Rattle.numbers.specs.Number.{digitOf, valueFrom, numberAt, Small}
+use Rattle.numbers.specs.Number.{digitOf, valueFrom, numberAt, signedAt, behindSign, plus, minus, Small}
 
 -- a digit is at most 9
 pub digit-small : (b : ℕ) → digitOf b ≤ 9
@@ -105,3 +106,29 @@ number-ends s at = go (leb 1 (runAt Digit s at)) (leb (runAt Digit s at) 9) refl
     go true true e = let l = leb-true 1 (runAt Digit s at) e in let r = run-room Digit s at in (omega arith, omega arith)
     go true false e = tt
     go false b e = tt
+
+-- ---- behind a sign
+
+-- a number behind a sign is below 1,000,000,000
+pub behind-small : (s : List ℕ) (at : ℕ) → Small (behindSign s at (numberAt s (at + 1)))
+behind-small s at = go (numberAt s (at + 1)) (number-small s (at + 1))
+  where
+    go : (f : Field) → Small f → Small (behindSign s at f)
+    go (Is v e) h = h
+    go (Not p) h = tt
+
+-- a number with a sign that is read is the number behind its sign
+pub signed-found : (s : List ℕ) (at v e : ℕ) → signedAt s at ≡ Is v e
+    → cond (eqb (getD s at 0) (code "+")) (plus (numberAt s (at + 1)))
+    (cond (eqb (getD s at 0) (code "-")) (minus (numberAt s (at + 1)))
+    (plus (numberAt s at)))
+    ≡ Is v e
+unfolding signedAt
+signed-found s at v e h = go (eqb (getD s at 0) (code "+")) (eqb (getD s at 0) (code "-")) (numberAt s (at + 1)) h
+  where
+    go : (a b : Bool) (f : Field) → cond a (plus (behindSign s at f)) (cond b (minus (behindSign s at f)) (plus (numberAt s at))) ≡ Is v e
+        → cond a (plus f) (cond b (minus f) (plus (numberAt s at))) ≡ Is v e
+    go a b (Is w d) k = k
+    go true b (Not p) k = absurd (let z : _≡_ {A = ℕ} 0 1 = cc in omega arith)
+    go false true (Not p) k = absurd (let z : _≡_ {A = ℕ} 0 1 = cc in omega arith)
+    go false false (Not p) k = k

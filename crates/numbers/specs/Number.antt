@@ -9,6 +9,7 @@ use lib.Dec.{leb, eqb}
 use Rattle.kinds.specs.Bytes.{between}
 use Rattle.classes.specs.Bytes.{part, runAt}
 use Rattle.classes.specs.declared.Class.the-variants.{Digit}
+use Rattle.fields.specs.Field.{pointed}
 use Rattle.fields.specs.declared.Field.{Field}
 use Rattle.fields.specs.declared.Field.the-variants.{Is, Not}
 
@@ -21,7 +22,7 @@ unfoldable pub valueFrom : ℕ → List ℕ → ℕ
 valueFrom v [] = v
 valueFrom v (d ∷ ds) = valueFrom (v * 10 + digitOf d) ds
 
--- "Numbers are 1 to 9 digits, leading zeros allowed": as many digits as there are
+-- "Numbers are 1 to 9 digits, leading zeros allowed": as many digits as there are. Of none, or of more than nine, the first byte is at fault
 unfoldable pub numberAt : List ℕ → ℕ → Field
 numberAt s at =
     cond (leb 1 (runAt Digit s at) && leb (runAt Digit s at) 9)
@@ -45,8 +46,13 @@ abbrev pub Small : Field → Type 0
 Small (Is v e) = v < nought
 Small (Not p) = Unit {0}
 
+-- a number is one piece with its sign at `at`: where no number stands behind the sign, the sign is at fault, or the LF
+abbrev pub behindSign : List ℕ → ℕ → Field → Field
+behindSign s at (Is v e) = Is v e
+behindSign s at (Not p) = Not (pointed s at p)
+
 unfoldable pub signedAt : List ℕ → ℕ → Field
 signedAt s at =
-    cond (eqb (getD s at 0) (code "+")) (plus (numberAt s (at + 1)))
-    (cond (eqb (getD s at 0) (code "-")) (minus (numberAt s (at + 1)))
+    cond (eqb (getD s at 0) (code "+")) (plus (behindSign s at (numberAt s (at + 1))))
+    (cond (eqb (getD s at 0) (code "-")) (minus (behindSign s at (numberAt s (at + 1))))
     (plus (numberAt s at)))

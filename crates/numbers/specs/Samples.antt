@@ -32,3 +32,16 @@ minus-zero = refl
 minus-one : signedAt (bytes "-1") 0 ≡ Is 999999999 2
 unfolding signedAt numberAt run between valueFrom
 minus-one = refl
+
+-- a sign and its digits are one piece: where they are no number the sign is at fault, or the LF where the line ends behind it
+sign-alone : signedAt (bytes "C0,1,+") 5 ≡ Not 6
+unfolding signedAt numberAt run between valueFrom
+sign-alone = refl
+
+sign-letter : signedAt (bytes "C0,1,+x") 5 ≡ Not 5
+unfolding signedAt numberAt run between valueFrom
+sign-letter = refl
+
+sign-ten : signedAt (bytes "C0,1,-1234567890") 5 ≡ Not 5
+unfolding signedAt numberAt run between valueFrom
+sign-ten = refl

@@ -6,10 +6,11 @@ ghost use mathlib.Core.Path.{_≡_};
 ghost use Prim.Native.Nat.{_+_, _-_, _≤_};
 ghost use lib.ListN.{length};
 ghost use Rattle.classes.specs.Bytes.{part};
-ghost use Rattle.numbers.specs.Number.{digitOf, valueFrom, numberAt, signedAt, plus, minus, Small};
+ghost use Rattle.numbers.specs.Number.{digitOf, valueFrom, numberAt, signedAt, behindSign, plus, minus, Small};
 use classes::Class;
 use classes::run_end;
 use fields::Field;
+use fields::point;
 use ground::byte;
 use ground::wide;
 
@@ -60,9 +61,19 @@ pub fn signed(line: &[u8], at: usize) -> Field
 {
     let sign = byte(line, at);
     match sign {
-        b'+' => above(number(line, at + 1)),
-        b'-' => below(number(line, at + 1)),
+        b'+' => above(behind_sign(line, at, number(line, at + 1))),
+        b'-' => below(behind_sign(line, at, number(line, at + 1))),
         _ => above(number(line, at)),
+    }
+}
+
+// What is found behind the sign at a place; where no number is, the sign is pointed to.
+fn behind_sign(line: &[u8], at: usize, found: Field) -> Field
+    ensures { λ r. ⌜ r ≡ behindSign (now (line .entry)) at found ⌝ }
+{
+    match found {
+        Field::Is(v, end) => Field::Is(v, end),
+        Field::Not(fault) => Field::Not(point(line, at, fault)),
     }
 }
 

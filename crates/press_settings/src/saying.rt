@@ -2,6 +2,7 @@
 use crate::Settings;
 use answers::Answer;
 use answers::is_taken;
+use answers::points;
 use ground::front;
 use libc::STDERR_FILENO;
 use libc::STDOUT_FILENO;
@@ -46,6 +47,16 @@ fn say_file(s: Settings, file: usize, taken: bool) {
     }
 }
 
+// The mark under a refused line, where its answer points to a place.
+fn point(s: Settings, file: usize, k: usize, a: Answer) {
+    if points(a) {
+        let mut text = [0u8; 512];
+        let n = words::mark(k, a, &mut text);
+        say_file(s, file, false);
+        complain(front(&text, n));
+    }
+}
+
 // The line of a call.
 pub fn answer(s: Settings, file: usize, k: usize, a: Answer, line: &[u8]) {
     let mut text = [0u8; 512];
@@ -56,6 +67,7 @@ pub fn answer(s: Settings, file: usize, k: usize, a: Answer, line: &[u8]) {
         say(s, front(&text, n));
     } else {
         complain(front(&text, n));
+        point(s, file, k, a);
     }
 }
 

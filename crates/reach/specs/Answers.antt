@@ -1,8 +1,9 @@
 -- Answers 13 and 14 for a line's data: "variable or counter not declared", "a modifier reaches past the declared length".
 -- Assumes nothing.
 use Prim.Native.Nat.{ℕ, _+_, _-_}
-use mathlib.Core.Bool.{Bool, false, cond, _||_, not}
-use mathlib.Core.List.{List, [], _∷_}
+use mathlib.Core.Path.{_≡_}
+use mathlib.Core.Bool.{Bool, true, false, cond, _||_, not}
+use mathlib.Core.List.{List, [], _∷_, _++_}
 use lib.Dec.{ltb}
 use Rattle.elements.specs.declared.Part.{Part}
 use Rattle.elements.specs.declared.Part.the-variants.{Whole, First, Last, Middle}
@@ -42,9 +43,34 @@ abbrev pub someOf : (What → Bool) → List Element → Bool
 someOf q [] = false
 someOf q (e ∷ es) = q (e .what) || someOf q es
 
--- "The lowest number that applies is given"; past tells whether a modifier before reached past
-abbrev pub answered : Declared → Bool → List Element → DataAnswer
-answered d past es = cond (someOf (undeclaredBy d) es) Undeclared (cond (past || someOf (pastBy d) es) Past Good)
+-- paper 02, §2: "the leftmost such": the place of the first element of whose kind the test holds
+abbrev pub leftmost : (What → Bool) → List Element → ℕ
+leftmost q [] = 0
+leftmost q (e ∷ es) = cond (q (e .what)) (e .at) (leftmost q es)
+
+-- what that place is: the test holds of an element that stands in the row there, and of none before it
+pub record Leftmost (q : What → Bool) (es : List Element) (place : ℕ) : Type 0 where
+  pub before : List Element
+  pub found : Element
+  pub behind : List Element
+  pub stands : es ≡ before ++ (found ∷ behind)
+  pub passed : someOf q before ≡ false
+  pub holds : q (found .what) ≡ true
+  pub points : place ≡ found .at
+
+-- [14] of a row of elements, at the leftmost that reaches past
+abbrev pub pastOf : Declared → List Element → DataAnswer
+pastOf d es = cond (someOf (pastBy d) es) (Past (leftmost (pastBy d) es)) Good
+
+-- what elements before gave, or else what these give
+abbrev pub orElse : DataAnswer → DataAnswer → DataAnswer
+orElse Good a = a
+orElse (Undeclared p) a = Undeclared p
+orElse (Past p) a = Past p
+
+-- "The lowest number that applies is given"; before is what the elements before gave of 14
+abbrev pub answered : Declared → DataAnswer → List Element → DataAnswer
+answered d before es = cond (someOf (undeclaredBy d) es) (Undeclared (leftmost (undeclaredBy d) es)) (orElse before (pastOf d es))
 
 unfoldable pub dataAnswer : Declared → List Element → DataAnswer
-dataAnswer d es = answered d false es
+dataAnswer d es = answered d Good es

@@ -27,6 +27,11 @@ answerOf text = dataAnswer declared (elements (bytes text) 0)
 -- the lowest of 13 and 14 over all elements; `M4.2` reaches to place 5, `M5.2` past it; a counter's length is its width
 case-13-14 :
     answerOf "V0M4.2C0R2" ∷ answerOf "V0M5.2C0R2" ∷ answerOf "C0R3" ∷ answerOf "V0M5.2C1" ∷ answerOf "\"V1\"" ∷ []
-    ≡ Good ∷ Past ∷ Past ∷ Undeclared ∷ Good ∷ []
+    ≡ Good ∷ Past 0 ∷ Past 0 ∷ Undeclared 6 ∷ Good ∷ []
 unfolding answerOf dataAnswer undeclaredBy pastBy reachesPast declared withCounter withVariable nothing between run valueFrom numberAt textAt byteAt modifierAt heldAt elementAt elementsFrom elements
 case-13-14 = refl
+
+-- paper 02, §2: "the leftmost such": of two that are not declared, and of two that reach too far, the first
+case-leftmost : answerOf "V0V1C1" ∷ answerOf "C0V0L6C0R3" ∷ [] ≡ Undeclared 2 ∷ Past 2 ∷ []
+unfolding answerOf dataAnswer undeclaredBy pastBy reachesPast declared withCounter withVariable nothing between run valueFrom numberAt textAt byteAt modifierAt heldAt elementAt elementsFrom elements
+case-leftmost = refl

@@ -6,16 +6,16 @@
 ghost use mathlib.Core.Path.{_≡_};
 ghost use mathlib.Core.Bool.{cond};
 ghost use Prim.Native.Nat.{_≤_};
-ghost use Rattle.reach.specs.Answers.{reachesPast, undeclaredBy, pastBy};
+ghost use Rattle.reach.specs.Answers.{reachesPast, undeclaredBy, pastBy, orElse};
 use declarations::Declared;
 use elements::Part;
 use elements::What;
 
-// Good as far as 13 and 14 go; 13 a variable or counter is not declared; 14 a modifier reaches past the declared length.
+// Good as far as 13 and 14 go; 13 a variable or counter is not declared, 14 a modifier reaches past the declared length, each with the place of the leftmost such element.
 pub enum DataAnswer {
     Good,
-    Undeclared,
-    Past,
+    Undeclared(usize),
+    Past(usize),
 }
 
 fn reaches_past(p: Part, m: usize) -> bool
@@ -63,13 +63,19 @@ pub fn past_by(d: Declared, what: What) -> bool
     }
 }
 
-// The answer where all is declared.
-pub fn past_or_good(past: bool) -> DataAnswer
-    ensures { λ r. ⌜ r ≡ cond past DataAnswer.Past DataAnswer.Good ⌝ }
+// What one more element adds, which stands at a place: an element before it that reached past stays the leftmost.
+pub fn first_past(before: DataAnswer, past: bool, at: usize) -> DataAnswer
+    ensures { λ r. ⌜ r ≡ orElse before (cond past (DataAnswer.Past at) DataAnswer.Good) ⌝ }
 {
-    if past {
-        DataAnswer::Past
-    } else {
-        DataAnswer::Good
+    match before {
+        DataAnswer::Good => {
+            if past {
+                DataAnswer::Past(at)
+            } else {
+                DataAnswer::Good
+            }
+        }
+        DataAnswer::Undeclared(p) => DataAnswer::Undeclared(p),
+        DataAnswer::Past(p) => DataAnswer::Past(p),
     }
 }

@@ -84,7 +84,7 @@ unfolding readOf headed judged headOf headBy find fieldsFrom fieldAt limitsFrom 
 right = refl
 
 -- "letters other than these stay 6": no comma behind the `B`, a place that is none, a place behind `N`, nothing behind the comma
-joined : readOf 240 (bytes "B0,0,0,E30,2,3,50,BC,C0") ≡ Refused (form 19)
+joined : readOf 240 (bytes "B0,0,0,E30,2,3,50,BC,C0") ≡ Refused (form 18)
 unfolding readOf headed judged headOf headBy find fieldsFrom fieldAt numberAt byteAt typeAt underAt dataAt total elements elementsFrom elementAt heldAt modifierAt run between valueFrom
 joined = refl
 

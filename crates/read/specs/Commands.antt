@@ -6,7 +6,7 @@ use Rattle.data_field.specs.declared.Limits.{Limits}
 use Rattle.data_field.specs.declared.Limits.the-variants.{Within, Outside}
 use Rattle.grammar.specs.Forms.{rowOf, boundsOf, commandOf}
 use Rattle.grammar.specs.declared.Command.{Command}
-use Rattle.heads.specs.Heads.{headOf}
+use Rattle.heads.specs.Heads.{headOf, lettersFault}
 use Rattle.heads.specs.declared.Head.{Head}
 use Rattle.heads.specs.declared.Head.the-variants.{Row, Unknown}
 use Rattle.row_fields.specs.Reading.{Got, good, bad, fieldsFrom}
@@ -30,7 +30,7 @@ judged row rows s (bad vs ps p) = Refused (form p)
 judged row rows s (good vs ps) = withinLimits row rows s vs ps
 
 unfoldable pub headed : Head → ℕ → List ℕ → Read
-headed Unknown rows s = Refused (form 0)
+headed Unknown rows s = Refused (form (lettersFault s))
 headed (Row row) rows s = judged row rows s (fieldsFrom (rowOf row .fields) s 0)
 
 -- a line without its LF, on a page of so many rows

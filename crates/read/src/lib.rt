@@ -10,6 +10,7 @@ ghost use Rattle.read.specs.Commands.{readOf};
 use grammar::Command;
 use heads::Head;
 use heads::head_of;
+use heads::letters_fault;
 
 // Answer 6, the form, or 7, a limit; and the place at fault.
 pub enum Fault {
@@ -27,7 +28,7 @@ pub fn read_line(line: &[u8], rows: usize) -> Read
     ensures { λ r. ⌜ r ≡ readOf rows (now (line .entry)) ⌝ }
 {
     let Head::Row(row) = head_of(line) else {
-        return Read::Refused(Fault::Form(0));
+        return Read::Refused(Fault::Form(letters_fault(line)));
     };
     lines::judge(line, row, rows)
 }

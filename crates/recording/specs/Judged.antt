@@ -17,26 +17,28 @@ use Rattle.finding.specs.declared.Found.{Found}
 use Rattle.finding.specs.declared.Found.the-variants.{At, Nothing as Absent}
 use Rattle.finding.specs.Find.{titledAt}
 use Rattle.parts.specs.Names.{packedOf}
+use Rattle.grammar.specs.Named.{DECLARED-AT}
 use Rattle.grammar.specs.declared.Item.{Item}
 use Rattle.grammar.specs.declared.Item.the-variants.{Origin, Variable, Counter, Text, Bars, Box, Frame, Picture}
 use Rattle.recording.specs.declared.Verdict.{Verdict}
 use Rattle.recording.specs.declared.Verdict.the-variants.{Taken, Again, Undeclared, Past, Unfit}
 
 -- [13] "variable or counter not declared", [14] "a modifier reaches past the declared length", [15] "unfit data", in the table's order
-abbrev pub ofData : DataAnswer → Bool → Verdict
-ofData NotDeclared fit = Undeclared
-ofData Reaches fit = Past
-ofData Good fit = cond fit Taken Unfit
+-- of data from `at` on. 13 and 14 point to the leftmost such element, 15 to the first byte of the data
+abbrev pub ofData : ℕ → DataAnswer → Bool → Verdict
+ofData at (NotDeclared p) fit = Undeclared p
+ofData at (Reaches p) fit = Past p
+ofData at Good fit = cond fit Taken (Unfit at)
 
 -- the data from a place of a line on, for a kind
 abbrev pub judgedData : Declared → List ℕ → ℕ → Kind → Verdict
-judgedData d line at kind = ofData (dataAnswer d (elements line at)) (fitAlways line d (elements line at) kind)
+judgedData d line at kind = ofData at (dataAnswer d (elements line at)) (fitAlways line d (elements line at) kind)
 
--- [12] "declared before in this form": V and C numbers are separate. An item that neither declares nor shows data is taken
+-- [12] "declared before in this form": V and C numbers are separate; it points to the number. An item that neither declares nor shows data is taken
 unfoldable pub judged : Declared → List ℕ → Item → Verdict
 judged d line (Origin o) = Taken
-judged d line (Variable v) = cond (variableDeclared d (v .n)) Again Taken
-judged d line (Counter c) = cond (counterDeclared d (c .n)) Again Taken
+judged d line (Variable v) = cond (variableDeclared d (v .n)) (Again DECLARED-AT) Taken
+judged d line (Counter c) = cond (counterDeclared d (c .n)) (Again DECLARED-AT) Taken
 judged d line (Text t) = judgedData d line (t .at) Shown
 judged d line (Bars b) = judgedData d line (b .at) (b .kind)
 judged d line (Box r) = Taken
@@ -68,10 +70,10 @@ declaration (Picture p) = false
 -- recording takes it
 abbrev pub isTaken : Verdict → Bool
 isTaken Taken = true
-isTaken Again = false
-isTaken Undeclared = false
-isTaken Past = false
-isTaken Unfit = false
+isTaken (Again p) = false
+isTaken (Undeclared p) = false
+isTaken (Past p) = false
+isTaken (Unfit p) = false
 
 -- ---- its picture
 

@@ -7,27 +7,29 @@ ghost use mathlib.Core.Path.{_≡_};
 ghost use mathlib.Core.Bool.{true, cond};
 ghost use Rattle.finding.specs.Find.{titledAt};
 ghost use Rattle.parts.specs.Names.{packedOf};
+ghost use Rattle.grammar.specs.Named.{DECLARED-AT};
 ghost use Rattle.recording.specs.Judged.{judgedData, judged, declares, declaration, isTaken, isAt, hasPicture};
 use declarations::Declared;
 use finding::Found;
 use fitness::Judgement;
 use grammar::Item;
+use grammar::row::DECLARED_AT;
 use kinds::Kind;
 
-// What recording answers for an item: taken, or 12 to 15.
+// What recording answers for an item: taken, or 12 to 15 with the place in its line.
 pub enum Verdict {
     Taken,
-    Again,
-    Undeclared,
-    Past,
-    Unfit,
+    Again(usize),
+    Undeclared(usize),
+    Past(usize),
+    Unfit(usize),
 }
 
 fn again(declared: bool) -> Verdict
-    ensures { λ r. ⌜ r ≡ cond declared Verdict.Again Verdict.Taken ⌝ }
+    ensures { λ r. ⌜ r ≡ cond declared (Verdict.Again DECLARED-AT) Verdict.Taken ⌝ }
 {
     if declared {
-        Verdict::Again
+        Verdict::Again(DECLARED_AT)
     } else {
         Verdict::Taken
     }
@@ -39,9 +41,9 @@ fn judge_data(line: &[u8], at: usize, d: Declared, kind: Kind) -> Verdict
     let judgement = fitness::judge(line, at, d, kind);
     match judgement {
         Judgement::Fit => Verdict::Taken,
-        Judgement::Undeclared => Verdict::Undeclared,
-        Judgement::Past => Verdict::Past,
-        Judgement::Unfit => Verdict::Unfit,
+        Judgement::Undeclared(p) => Verdict::Undeclared(p),
+        Judgement::Past(p) => Verdict::Past(p),
+        Judgement::Unfit => Verdict::Unfit(at),
     }
 }
 
@@ -112,10 +114,10 @@ pub fn is_taken(v: Verdict) -> bool
 {
     match v {
         Verdict::Taken => true,
-        Verdict::Again => false,
-        Verdict::Undeclared => false,
-        Verdict::Past => false,
-        Verdict::Unfit => false,
+        Verdict::Again(_) => false,
+        Verdict::Undeclared(_) => false,
+        Verdict::Past(_) => false,
+        Verdict::Unfit(_) => false,
     }
 }
 

@@ -4,7 +4,7 @@
 // fill, each link fill * 257, the counts 0. `F length bytes` is the font from now on. `K slice at byte` changes one byte between calls (slice 0
 // session, 4 background, 5 store, 6 links as bytes, 7 directory, 8 values). `O`, `C` and `L` are the three calls, with the lengths of session, counts,
 // page, background, store, links, directory, values and output; after them `C` has the length of its input and the input. A desk has room for more
-// than a call is lent. `stdout` has a line for each call: its number, the answer, the two counts, and a digest of all slices, the room beyond what was
+// than a call is lent. `stdout` has a line for each call: its number, the answer, the three counts, and a digest of all slices, the room beyond what was
 // lent included. Both files are those of peer/vectors.
 mod one_call; // one call
 

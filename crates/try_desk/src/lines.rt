@@ -81,6 +81,7 @@ pub fn line(calls: usize, d: Desk) {
     say(d.answer as u64, b" ");
     say(counts[0], b" ");
     say(counts[1], b" ");
+    say(counts[2], b" ");
     io::print_hex(STDOUT_FILENO, digest(d) as u64, 8);
     io::write_all(STDOUT_FILENO, b"\n");
 }

@@ -1,5 +1,5 @@
-// Tries every byte at every place of lines of paper 01, and writes for each line how many are taken, how many have not the written form,
-// how many are outside their limits, and a digest of all answers with their places.
+// Tries every byte at every place of lines of paper 01, and then every part of them from their first byte on. It writes for each line how many are taken, how many
+// have not the written form, how many of these end too soon, how many are outside their limits, and a digest of all answers with their places.
 ghost use Prim.Native.Nat.{_<_};
 use libc::STDOUT_FILENO;
 use read::Fault;
@@ -8,6 +8,7 @@ use read::Read;
 struct Tally {
     taken: u64,
     form: u64,
+    soon: u64,
     limit: u64,
     digest: u64,
 }
@@ -31,6 +32,7 @@ fn taken(t: Tally) -> Tally {
     Tally {
         taken: more(t.taken),
         form: t.form,
+        soon: t.soon,
         limit: t.limit,
         digest: mixed(t.digest, 0),
     }
@@ -40,6 +42,17 @@ fn unformed(t: Tally, place: usize) -> Tally {
     Tally {
         taken: t.taken,
         form: more(t.form),
+        soon: t.soon,
+        limit: t.limit,
+        digest: mixed(t.digest, 600 + small(place)),
+    }
+}
+
+fn unended(t: Tally, place: usize) -> Tally {
+    Tally {
+        taken: t.taken,
+        form: t.form,
+        soon: more(t.soon),
         limit: t.limit,
         digest: mixed(t.digest, 600 + small(place)),
     }
@@ -49,16 +62,25 @@ fn unlimited(t: Tally, place: usize) -> Tally {
     Tally {
         taken: t.taken,
         form: t.form,
+        soon: t.soon,
         limit: more(t.limit),
         digest: mixed(t.digest, 700 + small(place)),
     }
+}
+
+// A line that has not the written form: one that is pointed to behind its last byte ends too soon.
+fn refused(line: &[u8], t: Tally, place: usize) -> Tally {
+    if place == line.len() {
+        return unended(t, place);
+    }
+    unformed(t, place)
 }
 
 fn judged(line: &[u8], t: Tally) -> Tally {
     match read::read_line(line, 240) {
         Read::Taken(_) => taken(t),
         Read::Refused(fault) => match fault {
-            Fault::Form(place) => unformed(t, place),
+            Fault::Form(place) => refused(line, t, place),
             Fault::Limit(place) => unlimited(t, place),
         },
     }
@@ -96,13 +118,8 @@ fn all_bytes(line: &[u8], place: usize, t: Tally) -> Tally {
     tally
 }
 
-fn all_places(line: &[u8]) -> Tally {
-    let mut tally = Tally {
-        taken: 0,
-        form: 0,
-        limit: 0,
-        digest: 0,
-    };
+fn all_places(line: &[u8], t: Tally) -> Tally {
+    let mut tally = t;
     let mut place = 0;
     while place < line.len() {
         tally = all_bytes(line, place, tally);
@@ -111,13 +128,33 @@ fn all_places(line: &[u8]) -> Tally {
     tally
 }
 
+// Every part of the line from its first byte on.
+fn all_starts(line: &[u8], t: Tally) -> Tally {
+    let mut tally = t;
+    let mut k = 1;
+    while k < line.len() {
+        tally = judged(parts::first(line, k), tally);
+        k += 1;
+    }
+    tally
+}
+
 fn show(line: &[u8]) {
-    let t = all_places(line);
+    let none = Tally {
+        taken: 0,
+        form: 0,
+        soon: 0,
+        limit: 0,
+        digest: 0,
+    };
+    let t = all_starts(line, all_places(line, none));
     io::write_all(STDOUT_FILENO, line);
     io::write_all(STDOUT_FILENO, b" taken ");
     io::print_decimal(STDOUT_FILENO, t.taken);
     io::write_all(STDOUT_FILENO, b" form ");
     io::print_decimal(STDOUT_FILENO, t.form);
+    io::write_all(STDOUT_FILENO, b" soon ");
+    io::print_decimal(STDOUT_FILENO, t.soon);
     io::write_all(STDOUT_FILENO, b" limit ");
     io::print_decimal(STDOUT_FILENO, t.limit);
     io::write_all(STDOUT_FILENO, b" digest ");
@@ -128,24 +165,35 @@ fn show(line: &[u8]) {
 fn main() {
     show(b"Q240,24");
     show(b"q80");
+    show(b"N");
     show(b"R100,50");
     show(b"ZT");
+    show(b"ZB");
     show(b"LO10,10,100,200");
+    show(b"LE0,0,1,1");
+    show(b"LW5,6,7,8");
     show(b"X10,10,3,360,250");
     show(b"A0,0,0,1,1,N,V0L1V0M3.2V0R1");
+    show(b"A0,0,0,1,1,R,\"a\"C0\"b\"");
     show(b"B0,0,0,E30,2,3,50,N,\"123456789012\"");
     show(b"B0,0,0,3,2,3,50,B,C0");
     show(b"B0,0,0,3,2,3,50,B,C,C0");
     show(b"B0,0,0,3,2,3,50,B,R,\"R,\"");
     show(b"GG0,0,\"Name\"");
     show(b"FS\"Test\"");
+    show(b"FE");
+    show(b"FR\"Test\"");
     show(b"FK\"*\"");
+    show(b"FP\"Test\"");
+    show(b"FI");
+    show(b"GI");
+    show(b"GK\"Name\"");
     show(b"GM\"Name\",300");
     show(b"V0,5,L,\"Name\"");
     show(b"C0,02,+1,\"NO\"");
+    show(b"C0,2,-99999,\"\"");
     show(b"?V0,\"ABCDE\"");
     show(b"?C0,99");
     show(b"VC");
     show(b"P2");
-    show(b"N");
 }

@@ -15,6 +15,7 @@ use Rattle.counters.specs.declared.Counters.{Counters}
 use Rattle.counters.specs.declared.Counted.{Counted}
 use Rattle.declarations.specs.Declarations.{variableDeclared, counterDeclared, sideAt, lengthAt, widthAt}
 use Rattle.counters.specs.Counters.{counterEntered, tenTo}
+use Rattle.grammar.specs.Named.{ENTERED-AT}
 use Rattle.session.specs.declared.Session.{Session}
 use Rattle.answers.specs.declared.Answer.{Answer}
 use Rattle.answers.specs.declared.Answer.the-variants.{Taken, Undeclared, Misfit}
@@ -27,7 +28,7 @@ use Rattle.value_commands.specs.Values.{enteredAnswer}
 
 first-entered :
     (a b : Bool) (x y z : Stored) → x .answer ≡ Enters → y .answer ≡ DoesNotFit → z .answer ≡ NotDeclared →
-    answerOf (row Undeclared (not a) ∷ row Misfit (not b) ∷ []) ≡ enteredAnswer (cond a (cond b x y) z .answer)
+    answerOf (row (Undeclared ENTERED-AT) (not a) ∷ row Misfit (not b) ∷ []) ≡ enteredAnswer (cond a (cond b x y) z .answer)
 unfolding answerOf
 first-entered true true x y z e f g = sym (ap enteredAnswer e)
 first-entered true false x y z e f g = sym (ap enteredAnswer f)
@@ -35,14 +36,14 @@ first-entered false b x y z e f g = sym (ap enteredAnswer g)
 
 pub variable-first :
     (d : Declared) (n : ℕ) (text v : List ℕ) →
-    answerOf (row Undeclared (not (variableDeclared d n)) ∷ row Misfit (not (enters (sideAt d n) (lengthAt d n) text)) ∷ [])
+    answerOf (row (Undeclared ENTERED-AT) (not (variableDeclared d n)) ∷ row Misfit (not (enters (sideAt d n) (lengthAt d n) text)) ∷ [])
     ≡ enteredAnswer (variableEntered d n text v .answer)
 unfolding variableEntered
 variable-first d n text v = first-entered (variableDeclared d n) (enters (sideAt d n) (lengthAt d n) text) _ _ _ refl refl refl
 
 first-counted :
     (a b : Bool) (x y z : Counted) → x .answer ≡ Enters → y .answer ≡ DoesNotFit → z .answer ≡ NotDeclared →
-    answerOf (row Undeclared (not a) ∷ row Misfit (not b) ∷ []) ≡ enteredAnswer (cond a (cond b x y) z .answer)
+    answerOf (row (Undeclared ENTERED-AT) (not a) ∷ row Misfit (not b) ∷ []) ≡ enteredAnswer (cond a (cond b x y) z .answer)
 unfolding answerOf
 first-counted true true x y z e f g = sym (ap enteredAnswer e)
 first-counted true false x y z e f g = sym (ap enteredAnswer f)
@@ -50,7 +51,7 @@ first-counted false b x y z e f g = sym (ap enteredAnswer g)
 
 pub counter-first :
     (d : Declared) (c : Counters) (n v : ℕ) →
-    answerOf (row Undeclared (not (counterDeclared d n)) ∷ row Misfit (not (ltb v (tenTo (widthAt d n)))) ∷ [])
+    answerOf (row (Undeclared ENTERED-AT) (not (counterDeclared d n)) ∷ row Misfit (not (ltb v (tenTo (widthAt d n)))) ∷ [])
     ≡ enteredAnswer (counterEntered d c n v .answer)
 unfolding counterEntered
 counter-first d c n v = first-counted (counterDeclared d n) (ltb v (tenTo (widthAt d n))) _ _ _ refl refl refl
@@ -84,7 +85,7 @@ entered-cases :
     (ran (done (enteredAnswer e) s 0) (world b st l d v) o)
 unfolding answerOf isTaken numberOf
 entered-cases Enters s b st l d v v' o h = refl
-entered-cases NotDeclared s b st l d v v' o h = ap (λ (k : List ℕ). ran (done Undeclared s 0) (world b st l d k) o) (h refl)
+entered-cases NotDeclared s b st l d v v' o h = ap (λ (k : List ℕ). ran (done (Undeclared ENTERED-AT) s 0) (world b st l d k) o) (h refl)
 entered-cases DoesNotFit s b st l d v v' o h = ap (λ (k : List ℕ). ran (done Misfit s 0) (world b st l d k) o) (h refl)
 
 entered-by :
@@ -106,7 +107,7 @@ entered-by dec n text e s b st l d v v' o q =
 -- what entering a variable leaves, by its rows
 pub variable-by :
     (dec : Declared) (n : ℕ) (text : List ℕ) (e : Entered) (s : Session) (b st l d v v' o : List ℕ) → stored e v' ≡ variableEntered dec n text v →
-    let a = answerOf (row Undeclared (not (variableDeclared dec n)) ∷ row Misfit (not (enters (sideAt dec n) (lengthAt dec n) text)) ∷ []) in
+    let a = answerOf (row (Undeclared ENTERED-AT) (not (variableDeclared dec n)) ∷ row Misfit (not (enters (sideAt dec n) (lengthAt dec n) text)) ∷ []) in
     ran (done (enteredAnswer e) s 0) (world b st l d v') o
     ≡ cond (isTaken a) (ran (done Taken s 0) (world b st l d (variableEntered dec n text v .values)) o) (ran (done a s 0) (world b st l d v) o)
 variable-by dec n text e s b st l d v v' o q =

@@ -12,6 +12,7 @@ use Rattle.counters.specs.Counters.{counterEntered, tenTo}
 use Rattle.padding.specs.Padding.{enters}
 use Rattle.stored_values.specs.Stored.{variableEntered}
 use Rattle.values.specs.Sound.{allSet}
+use Rattle.grammar.specs.Named.{ENTERED-AT}
 use Rattle.grammar.specs.declared.ValueCommand.{ValueCommand}
 use Rattle.grammar.specs.declared.ValueCommand.the-variants.{Variable, Counter, Clear, Print}
 use Rattle.forms.specs.Form.{picturesStored}
@@ -25,10 +26,10 @@ use Rattle.session.specs.Active.{activeOf, activeDeclared}
 use Rattle.results.specs.World.{State, state, withValues, unsetIn}
 use Rattle.results.specs.Result.{sixteenBits, Ran, ranBy}
 
--- the table's answers of what entering a value answers
+-- the table's answers of what entering a value answers; 13 points to the number of `?V` or `?C`
 abbrev pub enteredAnswer : Entered → Answer
 enteredAnswer Enters = Taken
-enteredAnswer NotDeclared = Undeclared
+enteredAnswer NotDeclared = Undeclared ENTERED-AT
 enteredAnswer DoesNotFit = Misfit
 
 -- the text that `?V` gives
@@ -39,11 +40,11 @@ textOf line at n = take n (drop (at + 1) line)
 -- counter that is not no digit; for P [11] "when the active form draws an erased picture" and [18] "P while a declared value is unset"
 abbrev pub valueRows : World → Session → List ℕ → ValueCommand → List Row
 valueRows w s line (Variable v) =
-    row Undeclared (not (variableDeclared (activeDeclared w s) (v .n)))
+    row (Undeclared ENTERED-AT) (not (variableDeclared (activeDeclared w s) (v .n)))
     ∷ row Misfit (not (enters (sideAt (activeDeclared w s) (v .n)) (lengthAt (activeDeclared w s) (v .n)) (textOf line (v .at) (v .length))))
     ∷ []
 valueRows w s line (Counter c) =
-    row Undeclared (not (counterDeclared (activeDeclared w s) (c .n)))
+    row (Undeclared ENTERED-AT) (not (counterDeclared (activeDeclared w s) (c .n)))
     ∷ row Misfit (not (ltb (c .value) (tenTo (widthAt (activeDeclared w s) (c .n)))))
     ∷ []
 valueRows w s line Clear = []

@@ -16,6 +16,7 @@ use grammar::Print;
 use grammar::SetCounter;
 use grammar::SetVariable;
 use grammar::ValueCommand;
+use grammar::row::ENTERED_AT;
 use parts::inside;
 use results::Done;
 use results::answered;
@@ -30,7 +31,7 @@ fn entered(e: Entered) -> Answer
 {
     match e {
         Entered::Taken => Answer::Taken,
-        Entered::Undeclared => Answer::Undeclared,
+        Entered::Undeclared => Answer::Undeclared(ENTERED_AT),
         Entered::Unfit => Answer::Misfit,
     }
 }

@@ -70,16 +70,16 @@ table =
     line Unsound ++ (
     line Unended ++ (
     line Long ++ (
-    line Unwritten ++ (
-    line Limits ++ (
+    line (Unwritten 0) ++ (
+    line (Limits 0) ++ (
     line Owing ++ (
     line Misplaced ++ (
     line InUse ++ (
     line Missing ++ (
-    line Again ++ (
-    line Undeclared ++ (
-    line Past ++ (
-    line Unfit ++ (
+    line (Again 0) ++ (
+    line (Undeclared 0) ++ (
+    line (Past 0) ++ (
+    line (Unfit 0) ++ (
     line Illegal ++ (
     line Misfit ++ (
     line Unset ++ (
@@ -95,16 +95,16 @@ words-line Font = refl
 words-line Unsound = refl
 words-line Unended = refl
 words-line Long = refl
-words-line Unwritten = refl
-words-line Limits = refl
+words-line (Unwritten p) = refl
+words-line (Limits p) = refl
 words-line Owing = refl
 words-line Misplaced = refl
 words-line InUse = refl
 words-line Missing = refl
-words-line Again = refl
-words-line Undeclared = refl
-words-line Past = refl
-words-line Unfit = refl
+words-line (Again p) = refl
+words-line (Undeclared p) = refl
+words-line (Past p) = refl
+words-line (Unfit p) = refl
 words-line Illegal = refl
 words-line Misfit = refl
 words-line Unset = refl

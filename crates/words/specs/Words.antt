@@ -1,9 +1,12 @@
--- The answers in words, and the line of a call. Assumes nothing.
-use Prim.Native.Nat.{ℕ}
+-- The answers in words, the line of a call, and the mark under a line that is refused. Assumes nothing.
+use Prim.Native.Nat.{ℕ, _+_, min}
+use Prim.Native.Char.{code}
 use mathlib.Core.List.{List, _++_}
+use lib.ListN.{length, replicate}
 use Rattle.kinds.specs.Text.{bytes}
+use Rattle.writing.specs.Writing.{decimal}
 use Rattle.sentences.specs.Texts.{numbered}
-use Rattle.answers.specs.Answers.{numberOf}
+use Rattle.answers.specs.Answers.{numberOf, placeOf}
 use Rattle.answers.specs.declared.Answer.{Answer}
 use Rattle.answers.specs.declared.Answer.the-variants.{
   Taken,
@@ -38,16 +41,16 @@ wordsOf Font = bytes "the font breaks its rules"
 wordsOf Unsound = bytes "the store is not sound"
 wordsOf Unended = bytes "the line has no end, or a GM lacks its bytes"
 wordsOf Long = bytes "no line end in the first 256 bytes"
-wordsOf Unwritten = bytes "the line has not the written form"
-wordsOf Limits = bytes "a number, name or prompt outside its limits"
+wordsOf (Unwritten p) = bytes "the line has not the written form"
+wordsOf (Limits p) = bytes "a number, name or prompt outside its limits"
 wordsOf Owing = bytes "a command while labels are owed"
 wordsOf Misplaced = bytes "the command has no place here"
 wordsOf InUse = bytes "name in use"
 wordsOf Missing = bytes "name not found"
-wordsOf Again = bytes "declared before in this form"
-wordsOf Undeclared = bytes "variable or counter not declared"
-wordsOf Past = bytes "a modifier reaches past the declared length"
-wordsOf Unfit = bytes "unfit data"
+wordsOf (Again p) = bytes "declared before in this form"
+wordsOf (Undeclared p) = bytes "variable or counter not declared"
+wordsOf (Past p) = bytes "a modifier reaches past the declared length"
+wordsOf (Unfit p) = bytes "unfit data"
 wordsOf Illegal = bytes "not a legal picture"
 wordsOf Misfit = bytes "value does not fit its declaration"
 wordsOf Unset = bytes "P while a declared value is unset"
@@ -55,7 +58,23 @@ wordsOf Full = bytes "no empty entry, or too few free portions"
 wordsOf Overlong = bytes "the listing exceeds the output"
 wordsOf NoneOwed = bytes "no label is owed"
 
+-- `line K: `
+unfoldable pub leadOf : ℕ → List ℕ
+leadOf k = numbered (bytes "line ") k ++ bytes ": "
+
+-- `A, WORDS: `
+unfoldable pub reasonOf : Answer → List ℕ
+reasonOf a = decimal (numberOf a) ++ (bytes ", " ++ (wordsOf a ++ bytes ": "))
+
 -- `line K: A, WORDS: LINE`
 unfoldable pub saidOf : ℕ → Answer → List ℕ → List ℕ
-saidOf k a line =
-    numbered (bytes "line ") k ++ (numbered (bytes ": ") (numberOf a) ++ (bytes ", " ++ (wordsOf a ++ (bytes ": " ++ (line ++ bytes "\n")))))
+saidOf k a line = leadOf k ++ (reasonOf a ++ (line ++ bytes "\n"))
+
+-- n spaces
+abbrev pub blanks : ℕ → List ℕ
+blanks n = replicate n (code " ")
+
+-- paper 02, §2: "A refusal should point": the same lead again, and a mark under the byte at the answer's place; "a line is up to 255 bytes", so that no place
+-- of a line is past 255
+unfoldable pub markOf : ℕ → Answer → List ℕ
+markOf k a = leadOf k ++ (blanks (length (reasonOf a) + min 255 (placeOf a)) ++ bytes "^\n")

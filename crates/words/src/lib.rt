@@ -1,21 +1,29 @@
 // The answers in words: the line that the station's program says of a call.
 //
-// Paper 01's table gives each answer a number; specs/Words.antt gives it its words, and the line `line K: A, WORDS: LINE`. Each function writes the
-// text of its definition into a buffer, as far as there is room, and answers the place after it.
+// Paper 01's table gives each answer a number; specs/Words.antt gives it its words, and the line `line K: A, WORDS: LINE`. Under a line that is refused with
+// a place a second one has a mark; it stands under its byte (proofs/Marks.antt, `mark-under`). Each function writes the text of its definition into a buffer, as
+// far as there is room, and answers the place after it.
 ghost use mathlib.Core.Path.{_≡_};
-ghost use lib.ListN.{drop};
+ghost use Prim.Native.Nat.{_+_, min};
+ghost use lib.ListN.{length, drop};
 ghost use Rattle.writing.specs.Writing.{Wrote};
-ghost use Rattle.words.specs.Words.{wordsOf, saidOf};
+ghost use Rattle.answers.specs.Answers.{placeOf};
+ghost use Rattle.words.specs.Words.{wordsOf, leadOf, reasonOf, saidOf, blanks, markOf};
 ghost use Rattle.words.specs.Lines.{linesLeft, fromLine, lineOf};
 use answers::Answer;
 use answers::number;
+use answers::place;
 use classes::Class;
 use classes::run_end;
 use ground::back;
+use ground::capped_sum;
+use ground::fill;
 use ground::front;
+use ground::least;
 use ground::less;
 use sentences::put;
 use sentences::put_numbered;
+use writing::put_decimal;
 
 // The words of each answer on a line of its own, in the order of their numbers.
 const WORDS: [u8; 620] = *b"\
@@ -81,15 +89,55 @@ fn put_words(a: Answer, out: &mut [u8], at: usize) -> usize
     put(out, at, line_of(&words, number(a) as usize))
 }
 
+// `line K: `
+fn put_lead(k: usize, out: &mut [u8]) -> usize
+    ensures { λ r. ⌜ Wrote (now (out .entry)) 0 (leadOf k) r (now (out .exit)) ⌝ }
+{
+    let colon = put_numbered(out, 0, b"line ", k);
+    put(out, colon, b": ")
+}
+
+// `A, WORDS: `
+fn put_reason(a: Answer, out: &mut [u8], at: usize) -> usize
+    ensures { λ r. ⌜ Wrote (now (out .entry)) at (reasonOf a) r (now (out .exit)) ⌝ }
+{
+    let comma = put_decimal(number(a) as usize, out, at);
+    let word = put(out, comma, b", ");
+    let colon = put_words(a, out, word);
+    put(out, colon, b": ")
+}
+
 // `line K: A, WORDS: LINE`
 pub fn said(k: usize, a: Answer, line: &[u8], out: &mut [u8]) -> usize
     ensures { λ r. ⌜ Wrote (now (out .entry)) 0 (saidOf k a (now (line .entry))) r (now (out .exit)) ⌝ }
 {
-    let place = put_numbered(out, 0, b"line ", k);
-    let answer = put_numbered(out, place, b": ", number(a) as usize);
-    let comma = put(out, answer, b", ");
-    let word = put_words(a, out, comma);
-    let colon = put(out, word, b": ");
-    let end = put(out, colon, line);
+    let reason = put_lead(k, out);
+    let text = put_reason(a, out, reason);
+    let end = put(out, text, line);
     put(out, end, b"\n")
+}
+
+// How far behind the lead the mark stands.
+fn indent(a: Answer) -> usize
+    ensures { λ r. ⌜ r ≡ length (reasonOf a) + min 255 (placeOf a) ⌝ }
+{
+    let mut text = [0u8; 64];
+    let wide = put_reason(a, &mut text, 0);
+    wide + least(255, place(a))
+}
+
+fn put_blanks(out: &mut [u8], at: usize, n: usize) -> usize
+    ensures { λ r. ⌜ Wrote (now (out .entry)) at (blanks n) r (now (out .exit)) ⌝ }
+{
+    fill(out, at, n, b' ');
+    least(capped_sum(at, n), out.len())
+}
+
+// The lead of a refused line again, and a mark under the byte at the place that its answer points to.
+pub fn mark(k: usize, a: Answer, out: &mut [u8]) -> usize
+    ensures { λ r. ⌜ Wrote (now (out .entry)) 0 (markOf k a) r (now (out .exit)) ⌝ }
+{
+    let reason = put_lead(k, out);
+    let end = put_blanks(out, reason, indent(a));
+    put(out, end, b"^\n")
 }

@@ -27,6 +27,9 @@ command-requires c κs = search needs
 encode-requires : tie.Need-encode-requires
 encode-requires c κs = search needs
 
+place-requires : tie.Need-place-requires
+place-requires c κs = search needs
+
 store-counts-requires-2 : tie.Need-store-counts-requires-2
 store-counts-requires-2 c κs = search needs
 
@@ -34,31 +37,31 @@ number-requires-2 : tie.Need-number-requires-2
 number-requires-2 c κs = search needs
 
 same-length-2 : tie.Need-same-length-2
-same-length-2 c = c .before .before .before .before .before .before .session .given
+same-length-2 c = c .before .before .before .before .before .before .before .session .given
 
 same-length-3 : tie.Need-same-length-3
 same-length-3 c = c .before .before .counts2 .given
 
 same-length-4 : tie.Need-same-length-4
-same-length-4 c = c .before .before .before .before .before .before .before .before .before .before .before .before .before .before .before .before .before .before .before .before .before .background .given
+same-length-4 c = c .before .before .before .before .before .before .before .before .before .before .before .before .before .before .before .before .before .before .before .before .before .before .background .given
 
 same-length-5 : tie.Need-same-length-5
-same-length-5 c = c .before .before .before .before .before .before .before .before .before .before .before .before .before .before .before .before .before .before .before .store .given
+same-length-5 c = c .before .before .before .before .before .before .before .before .before .before .before .before .before .before .before .before .before .before .before .before .store .given
 
 same-length-6 : tie.Need-same-length-6
-same-length-6 c = c .before .before .before .before .before .before .before .before .before .before .before .before .before .before .before .before .before .links .given
+same-length-6 c = c .before .before .before .before .before .before .before .before .before .before .before .before .before .before .before .before .before .before .links .given
 
 same-length-7 : tie.Need-same-length-7
-same-length-7 c = c .before .before .before .before .before .before .before .before .before .before .before .before .before .before .before .directory .given
+same-length-7 c = c .before .before .before .before .before .before .before .before .before .before .before .before .before .before .before .before .directory .given
 
 same-length-8 : tie.Need-same-length-8
-same-length-8 c = c .before .before .before .before .before .before .before .before .before .before .before .before .before .values .given
+same-length-8 c = c .before .before .before .before .before .before .before .before .before .before .before .before .before .before .values .given
 
 same-length-9 : tie.Need-same-length-9
-same-length-9 c = c .before .before .before .before .before .before .before .before .before .before .before .output .given
+same-length-9 c = c .before .before .before .before .before .before .before .before .before .before .before .before .output .given
 
 returns-2 : tie.Need-returns-2
-returns-2 c = command-done _ _ _ _ _ _ _ (c .before .before .before .before .before .before .before .before .before .before .before .before .before .before .before .before .before .before .before .before .before .before .before .before .before .before .before .before .before .before .before .before .either .ensures) _ _ _ _ _ _ _ (c .before .before .before .before .before .before .before .before .before .before .before .before .before .before .before .before .before .before .before .before .before .before .before .before .before .before .before .before .before .before .before .if1 .left) (c .before .before .before .before .before .before .before .before .before .before .before .before .before .before .before .before .before .before .before .before .before .before .before .before .before .before .before .before .before .decode .ensures) (c .before .before .before .before .before .before .before .before .before .before .before .before .before .before .before .before .before .before .before .before .before .before .command .ensures) (c .before .before .before .before .before .before .before .encode .ensures) (c .before .before .before .store-counts2 .ensures) (c .number2 .ensures)
+returns-2 c = command-done _ _ _ _ _ _ _ (c .before .before .before .before .before .before .before .before .before .before .before .before .before .before .before .before .before .before .before .before .before .before .before .before .before .before .before .before .before .before .before .before .before .either .ensures) _ _ _ _ _ _ _ _ (c .before .before .before .before .before .before .before .before .before .before .before .before .before .before .before .before .before .before .before .before .before .before .before .before .before .before .before .before .before .before .before .before .if1 .left) (c .before .before .before .before .before .before .before .before .before .before .before .before .before .before .before .before .before .before .before .before .before .before .before .before .before .before .before .before .before .before .decode .ensures) (c .before .before .before .before .before .before .before .before .before .before .before .before .before .before .before .before .before .before .before .before .before .before .before .command .ensures) (c .before .before .before .before .before .before .before .before .encode .ensures) (c .before .before .before .store-counts2 .ensures) (c .before .before .before .before .place .ensures) (c .number2 .ensures)
 
 pub station-command-spec : {M : Type 1} → statement M
 station-command-spec =
@@ -72,6 +75,7 @@ station-command-spec =
     decode-requires
     command-requires
     encode-requires
+    place-requires
     store-counts-requires-2
     number-requires-2
     same-length-2

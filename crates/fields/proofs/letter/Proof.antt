@@ -17,12 +17,15 @@ in-class-requires c κs = search needs
 wide-requires : tie.Need-wide-requires
 wide-requires c κs = search needs
 
-add-t12 : tie.Need-add-t12
-add-t12 c = search needs
+add-word-to : tie.Need-add-word-to
+add-word-to c = search needs
+
+word-to-requires : tie.Need-word-to-requires
+word-to-requires c κs = search needs
 
 returns-2 : tie.Need-returns-2
 unfolding letterAt
-returns-2 c = rw (lt-ltb _ _ (c .before .before .before .before .if1 .left), ← c .before .before .in-class .ensures, c .before .if2 .taken, c .wide .ensures)
+returns-2 c = rw (lt-ltb _ _ (c .before .before .before .before .before .if1 .left), ← c .before .before .before .in-class .ensures, c .before .before .if2 .taken, ← c .before .wide .ensures) (c .word-to .ensures)
 
 returns-3 : tie.Need-returns-3
 unfolding letterAt
@@ -36,6 +39,7 @@ letter-spec =
     shared-slice-read-b
     in-class-requires
     wide-requires
-    add-t12
+    add-word-to
+    word-to-requires
     returns-2
     returns-3)

@@ -20,11 +20,20 @@ add-t7 c = search needs
 returns : tie.Need-returns
 returns c = rw (← c .before .before .before .place-behind .ensures, c .before .before .if1 .taken, ← c .before .byte .ensures, ← c .wide .ensures)
 
-add-t8 : tie.Need-add-t8
-add-t8 c = search needs
+place-cut-requires : tie.Need-place-cut-requires
+place-cut-requires c κs = search needs
 
 returns-2 : tie.Need-returns-2
-returns-2 c = rw (← c .before .place-behind .ensures, c .if1 .left)
+returns-2 c = rw (← c .before .before .before .place-behind .ensures, c .before .before .if1 .left, ← c .before .place-cut .ensures, c .if2 .taken)
+
+add-word-to : tie.Need-add-word-to
+add-word-to c = search needs
+
+word-to-requires : tie.Need-word-to-requires
+word-to-requires c κs = search needs
+
+returns-3 : tie.Need-returns-3
+returns-3 c = rw (← c .before .before .before .before .place-behind .ensures, c .before .before .before .if1 .left, ← c .before .before .place-cut .ensures, c .before .if2 .left) (c .word-to .ensures)
 
 pub word-from-spec : {M : Type 1} → statement M
 word-from-spec =
@@ -36,5 +45,8 @@ word-from-spec =
     wide-requires
     add-t7
     returns
-    add-t8
-    returns-2)
+    place-cut-requires
+    returns-2
+    add-word-to
+    word-to-requires
+    returns-3)

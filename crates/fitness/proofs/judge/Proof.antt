@@ -27,9 +27,6 @@ enum-known-e c = search needs
 enum-told : tie.Need-enum-told Inv-loop μ-loop
 enum-told c = search needs
 
-past-or-good-requires : tie.Need-past-or-good-requires Inv-loop μ-loop
-past-or-good-requires c κs = search needs
-
 decide-requires : tie.Need-decide-requires Inv-loop μ-loop
 decide-requires c κs = search needs
 
@@ -38,9 +35,9 @@ with-fit-requires c κs = search needs
 
 returns : tie.Need-returns Inv-loop μ-loop
 returns c =
-    let a = c .before .before .before .before .before .before .before .before .before .args in
-    let l = c .before .before .before .before .before .before .before .loop in
-    rw (c .with-fit .ensures, c .before .before .past-or-good .ensures, c .before .decide .ensures) (walked-stop (now (a .line)) (a .at) (a .d) (a .kind) (l .past) (l .s) (l .i) (l .inv) _ (sym (c .before .before .before .before .before .element-at .ensures) ∙ c .before .before .before .enum-told .given .1))
+    let a = c .before .before .before .before .before .before .before .before .args in
+    let l = c .before .before .before .before .before .before .loop in
+    rw (c .with-fit .ensures, c .before .decide .ensures) (walked-stop (now (a .line)) (a .at) (a .d) (a .kind) (l .past) (l .s) (l .i) (l .inv) _ (sym (c .before .before .before .before .element-at .ensures) ∙ c .before .before .enum-told .given .1))
 
 undeclared-by-requires : tie.Need-undeclared-by-requires Inv-loop μ-loop
 undeclared-by-requires c κs = search needs
@@ -55,8 +52,8 @@ returns-2 c =
 past-by-requires : tie.Need-past-by-requires Inv-loop μ-loop
 past-by-requires c κs = search needs
 
-either-requires : tie.Need-either-requires Inv-loop μ-loop
-either-requires c κs = search needs
+first-past-requires : tie.Need-first-past-requires Inv-loop μ-loop
+first-past-requires c κs = search needs
 
 summary-of-requires : tie.Need-summary-of-requires Inv-loop μ-loop
 summary-of-requires c κs = search needs
@@ -80,12 +77,9 @@ loop-again : tie.Need-loop-again Inv-loop μ-loop
 loop-again c =
     let a = c .before .before .before .before .before .before .before .before .before .before .before .before .before .before .args in
     let l = c .before .before .before .before .before .before .before .before .before .before .before .before .loop in
-    rw (c .before .join .ensures, c .before .before .summary-of .ensures, c .before .before .before .either .ensures, c .before .before .before .before .past-by .ensures)
+    rw (c .before .join .ensures, c .before .before .summary-of .ensures, c .before .before .before .first-past .ensures, c .before .before .before .before .past-by .ensures)
     (walked-next (now (a .line)) (a .at) (a .d) (a .kind) (l .past) (l .s) (l .i) (l .inv) _ (sym (c .before .before .before .before .before .before .before .before .before .before .element-at .ensures) ∙ c .before .before .before .before .before .before .before .before .e .given .1)
     (sym (c .before .before .before .before .before .before .undeclared-by .ensures) ∙ c .before .before .before .before .before .if1 .left))
-
-past-or-good-requires-2 : tie.Need-past-or-good-requires-2 Inv-loop μ-loop
-past-or-good-requires-2 c κs = search needs
 
 decide-requires-2 : tie.Need-decide-requires-2 Inv-loop μ-loop
 decide-requires-2 c κs = search needs
@@ -95,9 +89,9 @@ with-fit-requires-2 c κs = search needs
 
 returns-3 : tie.Need-returns-3 Inv-loop μ-loop
 returns-3 c =
-    let a = c .before .before .before .before .before .before .args in
-    let l = c .before .before .before .before .loop in
-    rw (c .with-fit2 .ensures, c .before .before .past-or-good2 .ensures, c .before .decide2 .ensures) (walked-stop (now (a .line)) (a .at) (a .d) (a .kind) (l .past) (l .s) (l .i) (l .inv) _ (element-past (now (a .line)) (l .i) (c .before .before .before .loop-test .left)))
+    let a = c .before .before .before .before .before .args in
+    let l = c .before .before .before .loop in
+    rw (c .with-fit2 .ensures, c .before .decide2 .ensures) (walked-stop (now (a .line)) (a .at) (a .d) (a .kind) (l .past) (l .s) (l .i) (l .inv) _ (element-past (now (a .line)) (l .i) (c .before .before .loop-test .left)))
 
 pub judge-spec : {M : Type 1} → statement M
 judge-spec =
@@ -109,20 +103,18 @@ judge-spec =
     element-at-requires
     enum-known-e
     enum-told
-    past-or-good-requires
     decide-requires
     with-fit-requires
     returns
     undeclared-by-requires
     returns-2
     past-by-requires
-    either-requires
+    first-past-requires
     summary-of-requires
     join-requires
     add-i
     loop-less
     loop-again
-    past-or-good-requires-2
     decide-requires-2
     with-fit-requires-2
     returns-3)

@@ -1,6 +1,7 @@
 use mathlib.Core.Path.{ap, _∙_}
 use mathlib.Core.Bool.{Bool, cond}
 use Rattle.recording.specs.declared.Verdict.the-variants.{Taken, Again}
+use Rattle.grammar.specs.Named.{DECLARED-AT}
 use Rattle.recording.specs.Judged.{judged}
 use borrow.Author.Needs.{needs}
 use Rattle.recording.proofs.judge.Statement.{statement}
@@ -54,11 +55,11 @@ returns c = rw (c .enum-told .given .1)
 
 returns-2 : tie.Need-returns-2
 unfolding judged
-returns-2 c = rw (c .before .before .before .item .given .1) (c .again .ensures ∙ ap (λ (x : Bool). cond x Again Taken) (c .before .variable-declared .ensures))
+returns-2 c = rw (c .before .before .before .item .given .1) (c .again .ensures ∙ ap (λ (x : Bool). cond x (Again DECLARED-AT) Taken) (c .before .variable-declared .ensures))
 
 returns-3 : tie.Need-returns-3
 unfolding judged
-returns-3 c = rw (c .before .before .before .item2 .given .1) (c .again2 .ensures ∙ ap (λ (x : Bool). cond x Again Taken) (c .before .counter-declared .ensures))
+returns-3 c = rw (c .before .before .before .item2 .given .1) (c .again2 .ensures ∙ ap (λ (x : Bool). cond x (Again DECLARED-AT) Taken) (c .before .counter-declared .ensures))
 
 returns-4 : tie.Need-returns-4
 unfolding judged

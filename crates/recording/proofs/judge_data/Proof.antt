@@ -20,20 +20,20 @@ use borrow.Author.Needs.{needs}
 use Rattle.recording.proofs.judge_data.Statement.{statement}
 use Rattle.recording.proofs.judge_data.Tie as tie
 
-abbrev verdict : Judgement → Verdict
-verdict Fit = Taken
-verdict Missing = Undeclared
-verdict Beyond = Past
-verdict NotFit = Unfit
+abbrev verdict : ℕ → Judgement → Verdict
+verdict at Fit = Taken
+verdict at (Missing p) = Undeclared p
+verdict at (Beyond p) = Past p
+verdict at NotFit = Unfit at
 
-of-data : (a : DataAnswer) (b : Bool) → verdict (withFit a b) ≡ ofData a b
-of-data NotDeclared b = refl
-of-data Reaches b = refl
-of-data Good true = refl
-of-data Good false = refl
+of-data : (at : ℕ) (a : DataAnswer) (b : Bool) → verdict at (withFit a b) ≡ ofData at a b
+of-data at (NotDeclared p) b = refl
+of-data at (Reaches p) b = refl
+of-data at Good true = refl
+of-data at Good false = refl
 
-told : (d : Declared) (line : List ℕ) (at : ℕ) (kind : Kind) (j : Judgement) → j ≡ dataJudged d line (elements line at) kind → verdict j ≡ judgedData d line at kind
-told d line at kind j e = ap verdict e ∙ of-data (dataAnswer d (elements line at)) (fitAlways line d (elements line at) kind)
+told : (d : Declared) (line : List ℕ) (at : ℕ) (kind : Kind) (j : Judgement) → j ≡ dataJudged d line (elements line at) kind → verdict at j ≡ judgedData d line at kind
+told d line at kind j e = ap (verdict at) e ∙ of-data at (dataAnswer d (elements line at)) (fitAlways line d (elements line at) kind)
 
 judge-requires : tie.Need-judge-requires
 judge-requires c κs = search needs
@@ -41,26 +41,26 @@ judge-requires c κs = search needs
 enum-told : tie.Need-enum-told
 enum-told c = search needs
 
+enum-known-judgement : tie.Need-enum-known-judgement
+enum-known-judgement c = search needs
+
+enum-known-judgement-2 : tie.Need-enum-known-judgement-2
+enum-known-judgement-2 c = search needs
+
 enum-told-2 : tie.Need-enum-told-2
 enum-told-2 c = search needs
-
-enum-told-3 : tie.Need-enum-told-3
-enum-told-3 c = search needs
-
-enum-told-4 : tie.Need-enum-told-4
-enum-told-4 c = search needs
 
 returns : tie.Need-returns
 returns c = let a = c .before .before .before .before .args in told (a .d) (now (a .line)) (a .at) (a .kind) Fit (sym (c .enum-told .given .1) ∙ c .before .before .judge .ensures)
 
 returns-2 : tie.Need-returns-2
-returns-2 c = let a = c .before .before .before .before .args in told (a .d) (now (a .line)) (a .at) (a .kind) Missing (sym (c .enum-told2 .given .1) ∙ c .before .before .judge .ensures)
+returns-2 c = let a = c .before .before .before .before .before .args in told (a .d) (now (a .line)) (a .at) (a .kind) (Missing _) (sym (c .before .judgement .given .1) ∙ c .before .before .before .judge .ensures)
 
 returns-3 : tie.Need-returns-3
-returns-3 c = let a = c .before .before .before .before .args in told (a .d) (now (a .line)) (a .at) (a .kind) Beyond (sym (c .enum-told3 .given .1) ∙ c .before .before .judge .ensures)
+returns-3 c = let a = c .before .before .before .before .before .args in told (a .d) (now (a .line)) (a .at) (a .kind) (Beyond _) (sym (c .before .judgement2 .given .1) ∙ c .before .before .before .judge .ensures)
 
 returns-4 : tie.Need-returns-4
-returns-4 c = let a = c .before .before .before .before .args in told (a .d) (now (a .line)) (a .at) (a .kind) NotFit (sym (c .enum-told4 .given .1) ∙ c .before .before .judge .ensures)
+returns-4 c = let a = c .before .before .before .before .args in told (a .d) (now (a .line)) (a .at) (a .kind) NotFit (sym (c .enum-told2 .given .1) ∙ c .before .before .judge .ensures)
 
 pub judge-data-spec : {M : Type 1} → statement M
 judge-data-spec =
@@ -68,9 +68,9 @@ judge-data-spec =
     (tie.spec
     judge-requires
     enum-told
+    enum-known-judgement
+    enum-known-judgement-2
     enum-told-2
-    enum-told-3
-    enum-told-4
     returns
     returns-2
     returns-3

@@ -1,0 +1,3 @@
+pub mod Soon
+pub mod Base
+pub mod Samples
