@@ -80,6 +80,10 @@ place-cut s at a p b ea ca ep eb tb = rw (← ea, ca, ← ep, ← eb, tb)
 
 -- ---- words
 
+-- the word by a test of its end, and by what the test gave
+pub word-by : (s : List ℕ) (at v e : ℕ) (b t : Bool) → b ≡ wordEnds s e → b ≡ t → cond t (Is v e) (Not at) ≡ wordTo s at v e
+word-by s at v e b t h k = rw (← h, k)
+
 -- a word that a comma follows is read
 pub word-comma : (s : List ℕ) (at v e : ℕ) → getD s e 0 ≡ code "," → wordTo s at v e ≡ Is v e
 word-comma s at v e h = go (leb (length s) e)

@@ -1,3 +1,7 @@
+use mathlib.Core.Path.{_≡_, ap}
+use denote.Ref.{now}
+use Rattle.fields.specs.Field.{pointed}
+use Rattle.fields.specs.declared.Field.the-variants.{Not}
 use borrow.Author.Needs.{needs}
 use Rattle.numbers.proofs.behind_sign.Statement.{statement}
 use Rattle.numbers.proofs.behind_sign.Tie as tie
@@ -15,7 +19,10 @@ returns : tie.Need-returns
 returns c = rw (c .before .found .given .1)
 
 returns-2 : tie.Need-returns-2
-returns-2 c = rw (c .before .before .found2 .given .1, ← c .point .ensures)
+returns-2 c =
+    let a = c .before .before .before .before .before .args in
+    let p : _ ≡ pointed (now (a .line)) (a .at) _ = c .point .ensures in
+    rw (c .before .before .found2 .given .1) (ap Not p)
 
 pub behind-sign-spec : {M : Type 1} → statement M
 behind-sign-spec =
