@@ -110,7 +110,7 @@ pub fn letter(line: &[u8], k: Class, at: usize) -> Field
     Field::Not(at)
 }
 
-// The bar type that starts with the `E` at a place; the line may end within it.
+// The bar type that starts with the `E` at a place; the line may end within it. Asked for by `bar_type` alone, where an `E` stands.
 fn type_from(line: &[u8], at: usize) -> Field
     requires { ⌜ getD (now line) at 0 ≡ 69 ⌝ }
     ensures { λ r. ⌜ r ≡ typeAt (now (line .entry)) at ⌝ }
@@ -180,7 +180,7 @@ fn place_behind(line: &[u8], at: usize) -> bool
     false
 }
 
-// Whether the line ends where a comma would make a place of the byte before it.
+// Whether the line ends where a comma would make a place of the byte before it. Asked for by `word_from` alone, as `place_behind` is.
 fn place_cut(line: &[u8], at: usize) -> bool
     requires { ⌜ at < length (now line) ⌝ }
     ensures { λ r. ⌜ r ≡ placeCut (now (line .entry)) at ⌝ }
