@@ -273,7 +273,7 @@ static void small_labels(void)
     fill(&w, "FR\"S\"\n");
     fill(&w, "?C0,0\n");
     fill(&w, "?V1,\"lens\"\n");
-    fill(&w, "P60000\n");
+    fill(&w, "P10000\n");  /* as many as four digits count from 0 */
     measure("a thousand small labels, each", &w, 1000, time_labels);
     clear_away(&w.desk);
 }

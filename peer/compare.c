@@ -4,10 +4,11 @@
  *
  * After each call the answer, the three counts, the session and every lent byte must be the same, and so must the bytes beyond
  * what was lent. Of the peer alone it is also asked that a refusal changes nothing, that a call changes only what it may, that
- * only 6, 7 and 12 to 15 point and none past the line's LF, and that memory is sound after every taken call. The first difference is
- * told with the seed of its session and ends the run. At the end: how often each call gave each answer, and of the answers that
- * point how many places they were seen to point to, how many of these more than nine times, and how often to the LF. With -DSELF
- * the station is the peer again, which tries the generator and this program alone. */
+ * only 6, 7 and 12 to 15 point and none past the line's LF, that memory is sound after every taken call, that within one job a
+ * counter with a step never shows a value twice, and that only a job's last label unsets one. The first difference is told with
+ * the seed of its session and ends the run. At the end: how often each call gave each answer, and of the answers that point how
+ * many places they were seen to point to, how many of these more than nine times, and how often to the LF. With -DSELF the station
+ * is the peer again, which tries the generator and this program alone. */
 #include <inttypes.h>
 #include <stdio.h>
 #include <stdlib.h>
@@ -31,10 +32,15 @@ struct pair {
     struct desk station, peer, before;
 };
 
-enum { ANSWERS = 22, PLACES = MOST_LINE + 1 };
+enum { PLACES = MOST_LINE + 1, MOST_SHOWN = 256 };
 
 static uint64_t reached[3][ANSWERS], other;
 static uint64_t pointed[ANSWERS][PLACES], to_lf[ANSWERS];
+
+/* The values that the counters had on the labels of the job under way, as far as its labels were drawn one after another. No
+ * session has more calls than there is room for. */
+static struct counter shown[MOST_SHOWN][10];
+static unsigned shown_count;
 
 static void write_bytes(const uint8_t *bytes, size_t count)
 {
@@ -141,20 +147,52 @@ static void note_place(const struct pair *p, const struct event *e, unsigned ans
     to_lf[answer] += e->bytes[place] == '\n';
 }
 
-static int is_sound(const struct pair *p, const struct event *e)
+/* Of a label just drawn: "Labels must not start over". A counter that stays set has moved by its step; an unset one has left its
+ * range with the last label. */
+static int counters_go_on(const struct session *before, const struct session *after, const struct declarations *d)
+{
+    for (unsigned i = 0; i < 10; i++) {
+        int64_t moved = (int64_t)before->counters[i].value + d->c[i].step;
+        if (!d->c[i].declared)
+            continue;
+        if (after->counters[i].set ? after->counters[i].value != moved : after->owed > 0 || in_range(&d->c[i], moved))
+            return 0;
+        for (unsigned k = 0; k < shown_count && d->c[i].step != 0; k++)
+            if (shown[k][i].value == before->counters[i].value)
+                return 0;
+    }
+    memcpy(shown[shown_count++], before->counters, sizeof shown[0]);
+    return 1;
+}
+
+static int job_goes_on(const struct pair *p, const struct event *e, const struct facts *f)
+{
+    struct session before, after;
+
+    read_image(p->before.bytes[SESSION], &before);
+    read_image(p->peer.bytes[SESSION], &after);
+    if (e->call == LABEL)
+        return counters_go_on(&before, &after, &f->of_active);
+    if (before.owed == 0 || e->call == OPEN)
+        shown_count = 0;
+    return 1;
+}
+
+static int is_sound(const struct pair *p, const struct event *e, struct facts *facts)
 {
     uint8_t *const *b = p->peer.bytes;
     struct memory m = {b[BACKGROUND], (unsigned)(e->length[BACKGROUND] / ROW_BYTES), b[STORE], (uint16_t *)(void *)b[LINKS],
                        (unsigned)e->length[LINKS], b[DIRECTORY], (unsigned)(e->length[DIRECTORY] / ENTRY), b[VALUE]};
     struct session session;
-    struct facts facts;
 
     read_image(b[SESSION], &session);
-    return sound(&m, &session, &facts);
+    return sound(&m, &session, facts);
 }
 
 static void check_promises(const struct pair *p, const struct generator *g, const struct event *e, unsigned answer, uint64_t calls)
 {
+    struct facts facts;
+
     for (int s = 0; s < SLICES; s++)
         if (s != FONT && s != INPUT && !may_change(e, answer, (enum slice)s)
             && memcmp(p->before.bytes[s], p->peer.bytes[s], p->peer.room[s]) != 0) {
@@ -167,9 +205,14 @@ static void check_promises(const struct pair *p, const struct generator *g, cons
         printf("the peer answered %u with place %" PRIu64 "\n", answer, count_of(p, 2));
         exit(1);
     }
-    if (answer == 0 && !is_sound(p, e)) {
+    if (answer == 0 && !is_sound(p, e, &facts)) {
         tell_difference(g, e, calls);
         printf("the peer took the call and left memory that is not sound\n");
+        exit(1);
+    }
+    if (answer == 0 && !job_goes_on(p, e, &facts)) {
+        tell_difference(g, e, calls);
+        printf("the peer drew the label, and a counter has shown its value before or did not go on by its step\n");
         exit(1);
     }
 }
@@ -203,6 +246,7 @@ static void poke(struct pair *p, const struct event *e)
 {
     p->station.bytes[e->slice][e->at] = e->byte;
     p->peer.bytes[e->slice][e->at] = e->byte;
+    shown_count = 0;
 }
 
 static void both_fonts(struct pair *p, const struct event *e)

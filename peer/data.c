@@ -1,15 +1,28 @@
-/* data.c: what a form declares, which data is fit, and which bytes data shows. */
+/* data.c: what a form declares, how its counters go on, which data is fit, and which bytes data shows. */
 #include <string.h>
 
 #include "peer.h"
 
-uint32_t power_of_ten(unsigned digits)
+/* ---- counters ---- */
+
+static uint32_t power_of_ten(unsigned digits)
 {
     uint32_t power = 1;
 
     while (digits--)
         power *= 10;
     return power;
+}
+
+/* Nine digits and 65,535 steps of 99,999 are more than 32 bits hold. */
+int64_t counter_after(const struct declared_counter *d, uint32_t value, unsigned moves)
+{
+    return (int64_t)value + (int64_t)moves * d->step;
+}
+
+bool in_range(const struct declared_counter *d, int64_t number)
+{
+    return number >= 0 && number < (int64_t)power_of_ten(d->digits);
 }
 
 /* ---- declared, and within the declared length ---- */

@@ -43,6 +43,7 @@ struct declared {
     bool v[10], c[10];
     unsigned m[10], w[10];
     char justify[10];
+    int step[10];
 };
 
 struct view {
@@ -85,6 +86,7 @@ static size_t form_bytes(const struct generator *g, unsigned i, uint8_t *out, si
 static void note_declaration(struct declared *d, const char *line)
 {
     unsigned n, m;
+    int step = 0;
     char j;
 
     if (sscanf(line, "V%1u,%2u,%c", &n, &m, &j) == 3 && n < 10 && m >= 1 && m <= 32) {
@@ -92,9 +94,10 @@ static void note_declaration(struct declared *d, const char *line)
         d->m[n] = m;
         d->justify[n] = j;
     }
-    if (sscanf(line, "C%1u,%1u,", &n, &m) == 2 && n < 10 && m >= 1) {
+    if (sscanf(line, "C%1u,%1u,%6d", &n, &m, &step) >= 2 && n < 10 && m >= 1) {
         d->c[n] = true;
         d->w[n] = m;
+        d->step[n] = step;
     }
 }
 
@@ -136,6 +139,69 @@ static void look(const struct generator *g, struct view *v)
         v->unset += v->of_active.v[i] && g->desk->bytes[VALUE][34 * i] == 0;
         v->unset += v->of_active.c[i] && session[15 + 5 * i] == 0;
     }
+}
+
+/* ---- how far the counters go ---- */
+
+static int64_t ten_to(unsigned w)
+{
+    int64_t power = 1;
+
+    while (w--)
+        power *= 10;
+    return power;
+}
+
+static bool counter_set(const struct generator *g, unsigned i)
+{
+    return g->desk->bytes[SESSION][15 + 5 * i] == 1;
+}
+
+static int64_t counter_value(const struct generator *g, unsigned i)
+{
+    const uint8_t *at = g->desk->bytes[SESSION] + 16 + 5 * i;
+
+    return low_first(at) | (int64_t)low_first(at + 2) << 16;
+}
+
+enum { NO_LIMIT = 1000000 };
+
+/* How many labels there are before a counter of w digits runs out. */
+static int64_t labels_left(int64_t value, int64_t step, unsigned w)
+{
+    int64_t left = step > 0 ? ten_to(w) - 1 - value : value;
+
+    if (step == 0)
+        return NO_LIMIT;
+    return left < 0 ? 0 : left / (step < 0 ? -step : step) + 1;
+}
+
+/* The same of all counters of the active form that are set. */
+static int64_t fewest_left(const struct generator *g, const struct view *v)
+{
+    int64_t fewest = NO_LIMIT;
+
+    for (unsigned i = 0; i < 10; i++)
+        if (v->of_active.c[i] && counter_set(g, i)) {
+            int64_t left = labels_left(counter_value(g, i), v->of_active.step[i], v->of_active.w[i]);
+            fewest = left < fewest ? left : fewest;
+        }
+    return fewest;
+}
+
+/* A value for which the counter's last number is reached by about so many labels: by the last of them exactly, by the one after
+ * it, or the move behind the last label is the first that leaves the range, by one or by some. Mostly in range. */
+static int64_t value_before_end(struct generator *g, int64_t step, unsigned w, unsigned labels)
+{
+    int64_t size = step < 0 ? -step : step, short_of[] = {0, size - 1, size, size > 0 ? below(g, (unsigned)size) : 0};
+    int64_t way = short_of[below(g, 4)] + size * (labels - 1);
+
+    return step < 0 ? way : ten_to(w) - 1 - way;
+}
+
+static unsigned labels_owed(const struct generator *g)
+{
+    return low_first(g->desk->bytes[SESSION] + 11);
 }
 
 /* ---- fields of a line ---- */
@@ -665,9 +731,18 @@ static void put_variable(struct generator *g, const struct declared *d)
     put_prompt(g);
 }
 
+/* How great a step is at most: mostly small, now and then as great as the numbers of one, two, three or four digits. */
+static unsigned some_step(struct generator *g)
+{
+    static const unsigned most[] = {3, 3, 3, 3, 3, 9, 30, 120, 1100, 99999, 99999};
+
+    return most[below(g, sizeof most / sizeof most[0])];
+}
+
 static void put_counter(struct generator *g, const struct declared *d)
 {
     static const char *const wrong[] = {"+", "-", "x", ",", " ", "000000000", "1234567890", "+1-", "\"", "."};  /* before the step's digits */
+    bool wide = chance(g, 15);  /* such a job may reach numbers of more than 32 bits */
 
     put(g, 'C');
     if (spoilt(g))
@@ -675,15 +750,15 @@ static void put_counter(struct generator *g, const struct declared *d)
     else
         put_digits(g, pick_number(g, d->c));
     put_comma(g);
-    put_number(g, 1, 9, 3);
+    put_number(g, wide ? 9 : 1, 9, chance(g, 60) ? 3 : 9);
     put_comma(g);
-    put_words(g, chance(g, g->plain ? 70 : 40) ? "+" : chance(g, g->plain ? 95 : 50) ? "-" : "");
+    put_words(g, chance(g, g->plain ? 55 : 30) ? "+" : chance(g, g->plain ? 95 : 60) ? "-" : "");
     may_end(g, 10);
     if (g->faulty && chance(g, 30)) {
         put_words(g, wrong[below(g, sizeof wrong / sizeof wrong[0])]);
         may_end(g, 40);
     }
-    put_number(g, 0, 99999, chance(g, 70) ? 3 : 99999);
+    put_number(g, wide ? 50000 : 0, 99999, wide ? 99999 : some_step(g));
     put_comma(g);
     put_prompt(g);
 }
@@ -703,22 +778,17 @@ static void put_value_text(struct generator *g, unsigned m, char justify)
         put_quoted(g, length);
 }
 
-static unsigned ten_to(unsigned w)
+/* Half of them are a few labels before their end. */
+static void put_counter_value(struct generator *g, unsigned w, int step)
 {
-    unsigned power = 1;
+    unsigned power = (unsigned)ten_to(w);
+    int64_t value = value_before_end(g, step, w, between(g, 1, chance(g, 70) ? 4 : 20));
 
-    while (w--)
-        power *= 10;
-    return power;
-}
-
-static void put_counter_value(struct generator *g, unsigned w)
-{
-    unsigned power = ten_to(w > 9 ? 9 : w);
-
-    if (chance(g, 10) && w < 9)
+    if (chance(g, 5) && w < 9)
         put_digits(g, power + below(g, 20));
-    else if (chance(g, 40))
+    else if (chance(g, 50) && value >= 0 && value < power)
+        put_digits(g, (unsigned)value);
+    else if (chance(g, 20))
         put_digits(g, power - 1 - below(g, power < 4 ? power : 4));
     else
         put_digits(g, below(g, power));
@@ -747,16 +817,39 @@ static void put_ask(struct generator *g, const struct view *v)
     if (found < 10)
         put_value_text(g, v->of_active.m[found] ? v->of_active.m[found] : 5, v->of_active.justify[found]);
     else
-        put_counter_value(g, v->of_active.w[found - 10] ? v->of_active.w[found - 10] : 3);
+        put_counter_value(g, v->of_active.w[found - 10] ? v->of_active.w[found - 10] : 3, v->of_active.step[found - 10]);
 }
 
-static void put_print(struct generator *g)
+/* As many labels as the counters have left, one more, or nearly so. Many labels take long to draw, so then mostly one more. */
+static void put_last_labels(struct generator *g, int64_t left)
 {
+    int64_t labels = chance(g, left > 12 ? 93 : 25) ? left + 1 : left;
+
+    if (chance(g, 15))
+        labels += between(g, 0, 4);
+    if (chance(g, 15))
+        labels -= between(g, 0, 2);
+    put_digits(g, (unsigned)(labels < 1 ? 1 : labels > 65535 ? 65535 : labels));
+}
+
+/* How many labels: often about as many as there are before a counter runs out, else a few, and seldom very many. */
+static void put_print(struct generator *g, const struct view *v)
+{
+    int64_t left = fewest_left(g, v);
+
     put(g, 'P');
-    if (chance(g, 1))
+    if (spoilt(g))
+        put_outside(g, 1, 65535);
+    else if (left < 65536 && chance(g, 55))
+        put_last_labels(g, left);
+    else if (left < 65536 && chance(g, 18))
+        put_digits(g, left < 40000 ? between(g, 40000, 65535) : 65535);
+    else if (left < 65536 && chance(g, 8))
+        put_digits(g, between(g, left > 0 ? (unsigned)left : 1, 65535));
+    else if (chance(g, 1))
         put_words(g, "65535");
     else
-        put_number(g, 1, 65535, 3);
+        put_number(g, 1, 65535, chance(g, 80) || left < 65536 ? 3 : 8);
 }
 
 /* ---- pictures ---- */
@@ -994,9 +1087,9 @@ static void put_recording_line(struct generator *g, const struct view *v)
 {
     unsigned k = below(g, 100);
 
-    if (k < 14)
+    if (k < 12)
         put_variable(g, &v->of_recording);
-    else if (k < 23)
+    else if (k < 28)
         put_counter(g, &v->of_recording);
     else if (k < 88)
         put_drawing(g, &v->of_recording);
@@ -1005,7 +1098,7 @@ static void put_recording_line(struct generator *g, const struct view *v)
     else if (k < 98)
         put_small_word(g);
     else if (k < 99)
-        put_print(g);
+        put_print(g, v);
     else
         put_load(g);
 }
@@ -1043,27 +1136,32 @@ static void put_setting(struct generator *g)
     }
 }
 
+/* What leads to a label, more often than not; false if it is not put. */
+static bool put_leading_line(struct generator *g, const struct view *v)
+{
+    if (v->active == 65535) {
+        if (!has_stored(g, FORM) || !chance(g, 45))
+            return false;
+        put_named(g, "FR", FORM, 92);
+        return true;
+    }
+    if (!chance(g, v->unset > 0 ? 75 : 40))
+        return false;
+    if (v->unset == 0 || chance(g, 10))
+        put_print(g, v);  /* while values are unset: too early */
+    else
+        put_ask(g, v);
+    return true;
+}
+
 /* Nothing recorded, nothing owed: first what leads to a label, else anything. */
 static void put_idle_line(struct generator *g, const struct view *v)
 {
     static const struct declared nothing;
     unsigned k = below(g, 100);
 
-    if (v->active != 65535 && v->unset > 0 && chance(g, 75)) {
-        if (chance(g, 6))
-            put_print(g);  /* too early */
-        else
-            put_ask(g, v);
+    if (put_leading_line(g, v))
         return;
-    }
-    if (v->active != 65535 && v->unset == 0 && chance(g, 40)) {
-        put_print(g);
-        return;
-    }
-    if (v->active == 65535 && has_stored(g, FORM) && chance(g, 45)) {
-        put_named(g, "FR", FORM, 92);
-        return;
-    }
     if (k < 18)
         put_named(g, "FS", FORM, 8);
     else if (k < 24)
@@ -1079,7 +1177,7 @@ static void put_idle_line(struct generator *g, const struct view *v)
     else if (k < 88)
         put_setting(g);
     else if (k < 93)
-        put_print(g);
+        put_print(g, v);
     else if (k < 96)
         put_ask(g, v);
     else if (k < 97)
@@ -1198,7 +1296,7 @@ static void put_any_line(struct generator *g, const struct view *v)
     case 8: put_variable(g, d); break;
     case 9: put_counter(g, d); break;
     case 10: put_ask(g, v); break;
-    case 11: put_print(g); break;
+    case 11: put_print(g, v); break;
     case 12: put_small_word(g); break;
     default: put_bars_line(g, d); break;
     }
@@ -1571,6 +1669,92 @@ static void damage_values(struct generator *g)
     damage_byte(g, VALUE, 34 * n + (at[5] < 34 ? some_of(g, at, 6) : 1));
 }
 
+/* ---- damage to a job ---- */
+
+/* A counter of the active form, or 10 if it has none. */
+static unsigned some_counter(struct generator *g, const struct view *v)
+{
+    unsigned first = below(g, 10);
+
+    for (unsigned i = 0; i < 10; i++)
+        if (v->of_active.c[(first + i) % 10])
+            return (first + i) % 10;
+    return 10;
+}
+
+/* The counter stands where the last label owed takes it to its last number, one past it, or near there. */
+static void damage_counter(struct generator *g, const struct view *v, unsigned n)
+{
+    unsigned w = v->of_active.w[n], labels = v->owed > 0 ? v->owed : 1;
+    int64_t step = v->of_active.step[n], value = (step < 0 ? 0 : ten_to(w) - 1) - step * (labels - 1);
+
+    if (chance(g, 20))
+        value = value_before_end(g, step, w, labels);
+    else if (chance(g, 60))
+        value += step < 0 ? -1 : 1;
+    poke_number(g, SESSION, 15 + 5 * n, 1, 1);
+    poke_number(g, SESSION, 16 + 5 * n, (unsigned)value, 4);
+}
+
+/* As many labels are owed as the counters have left, or one more; of many labels, which take long to draw, mostly one more. */
+static void damage_owed(struct generator *g, const struct view *v)
+{
+    int64_t left = fewest_left(g, v), owed = chance(g, left > 12 ? 90 : 50) ? left + 1 : left;
+
+    if (left < 40000 && chance(g, 15))
+        owed = between(g, 40000, 65535);
+    else if (owed > 65535 || chance(g, 20))
+        owed = (int64_t)v->owed + 1;
+    poke_number(g, SESSION, 11, (unsigned)owed, 2);
+    if (chance(g, 50))
+        poke_number(g, SESSION, 13, 0, 2);
+}
+
+/* Where a byte of an entry's content stands in the store. */
+static size_t place_in_store(const struct generator *g, unsigned i, size_t at)
+{
+    unsigned portion = entry_first(entry(g, i));
+
+    for (; at >= 256 && portion < g->portions; at -= 256)
+        portion = link_of(g, portion);
+    return 256u * portion + at;
+}
+
+/* Another width, sign or first digit of the step where the active form declares the counter: `Cn,w,+s`. */
+static void damage_declaration(struct generator *g, const struct view *v, unsigned n)
+{
+    static uint8_t text[8192];
+    size_t length = form_bytes(g, v->active, text, sizeof text);
+
+    for (size_t at = 0; at + 6 < length; at++) {
+        if ((at > 0 && text[at - 1] != '\n') || text[at] != 'C' || text[at + 1] != '0' + n)
+            continue;
+        if (chance(g, 30))
+            add_poke(g, STORE, place_in_store(g, v->active, at + 5), text[at + 5] == '+' ? '-' : '+');
+        else
+            add_poke(g, STORE, place_in_store(g, v->active, at + (chance(g, 50) ? 3 : 6)), (uint8_t)('1' + below(g, 9)));
+    }
+}
+
+/* With labels owed a counter, their number or a declaration is changed so that the counter runs out, or just does not. With none
+ * owed nothing is asked of it. */
+static void damage_job(struct generator *g)
+{
+    struct view v;
+    unsigned n;
+
+    look(g, &v);
+    n = some_counter(g, &v);
+    if (n == 10)
+        damage_session(g);
+    else if (chance(g, 40))
+        damage_counter(g, &v, n);
+    else if (chance(g, 60))
+        damage_owed(g, &v);
+    else
+        damage_declaration(g, &v, n);
+}
+
 static void damage_background(struct generator *g)
 {
     size_t length = low_first(g->desk->bytes[SESSION] + 2), width = low_first(g->desk->bytes[SESSION]);
@@ -1586,7 +1770,9 @@ static void damage(struct generator *g)
     unsigned k = below(g, 100);
 
     g->poke_count = g->poke_next = 0;
-    if (k < 20)
+    if (chance(g, labels_owed(g) > 0 ? 70 : 10))
+        damage_job(g);
+    else if (k < 20)
         damage_session(g);
     else if (k < 28)
         damage_links(g);
@@ -1725,13 +1911,11 @@ static void poke_event(struct generator *g, struct event *e)
 
 static enum call_kind choose_call(struct generator *g)
 {
-    unsigned owed = low_first(g->desk->bytes[SESSION] + 11);
-
     if (!g->opened)
         return OPEN;
     if (rarely(g, 4))
         return OPEN;
-    if (owed > 0 && chance(g, 75))
+    if (labels_owed(g) > 0 && chance(g, 75))
         return LABEL;
     return chance(g, 3) ? LABEL : COMMAND;
 }
@@ -1759,7 +1943,7 @@ static void spoil_something(struct generator *g)
 {
     if (g->damaged || g->font_damaged || !g->opened)
         return;
-    if (rarely(g, 45))
+    if (rarely(g, labels_owed(g) > 0 ? 120 : 45))
         damage(g);
     else if (rarely(g, 12)) {
         make_bad_font(g);
@@ -1774,7 +1958,7 @@ static void spoil_something(struct generator *g)
 void next_event(struct generator *g, struct event *e)
 {
     memset(e, 0, sizeof *e);
-    if (g->calls_left == 0 || low_first(g->desk->bytes[SESSION] + 11) > 5000) {
+    if (g->calls_left == 0 || labels_owed(g) > 5000) {
         bool far = g->calls_left > 0 && g->opened && !g->damaged;  /* so many labels would never end */
         if (g->calls_left == 0 || (far && chance(g, 5))) {
             new_session(g, e);

@@ -4,7 +4,7 @@
  * station.h's under the names peer_open, peer_command and peer_label. Numbers in square brackets are answers.
  *
  *   lines.c    the written form of a line, its limits, its normal form, the place of a fault
- *   data.c     elements, declarations, fit data, the bytes that data shows
+ *   data.c     elements, declarations, fit data, the bytes that data shows, how counters go on
  *   store.c    portions, links, chains, directory entries, names, listings
  *   picture.c  legal pictures and their drawing
  *   drawing.c  boxes, turns, frames, text and its font
@@ -23,13 +23,14 @@ enum answer {
     TAKEN = 0, BAD_LENGTH = 1, BAD_FONT = 2, NOT_SOUND = 3, NOT_ALL_THERE = 4, LINE_TOO_LONG = 5, NOT_WRITTEN_SO = 6,
     OUTSIDE_LIMITS = 7, LABELS_OWED = 8, NO_PLACE = 9, NAME_IN_USE = 10, NAME_NOT_FOUND = 11, DECLARED_BEFORE = 12,
     NOT_DECLARED = 13, PAST_LENGTH = 14, UNFIT_DATA = 15, NOT_A_PICTURE = 16, VALUE_UNFIT = 17, VALUE_UNSET = 18,
-    NO_ROOM = 19, OUTPUT_TOO_SHORT = 20, NONE_OWED = 21
+    NO_ROOM = 19, OUTPUT_TOO_SHORT = 20, NONE_OWED = 21, RUNS_OUT = 22
 };
 
 enum {
     ROW_BYTES = 76, MOST_ROWS = 4000, PORTION = 256, MOST_PORTIONS = 2024, ENTRY = 16, MOST_ENTRIES = 512,
     FIELD = 34, VALUE_FIELDS = 10, VALUES = 340, IMAGE = 65, CHAIN_END = 65534, FREE = 65535, NO_FORM = 65535,
-    MOST_LINE = 255, MOST_DATA = 128, MOST_PICTURE = 32768, LEAST_PICTURE = 129, PICTURE_HEAD = 128
+    MOST_LINE = 255, MOST_DATA = 128, MOST_PICTURE = 32768, LEAST_PICTURE = 129, PICTURE_HEAD = 128,
+    ANSWERS = 23
 };
 
 /* ---- the session and the lent memory ---- */
@@ -133,7 +134,11 @@ struct declarations {
     struct declared_counter c[10];
 };
 
-uint32_t power_of_ten(unsigned digits);
+/* Where a counter stands so many moves after a value, in its range or not. */
+int64_t counter_after(const struct declared_counter *d, uint32_t value, unsigned moves);
+
+/* "0 to 10^w-1" */
+bool in_range(const struct declared_counter *d, int64_t number);
 
 /* What 12 to 15 say of a line of a form, with d the declarations before it; a taken V or C is added to d. */
 struct verdict judge_line(const struct command *c, struct declarations *d);
@@ -259,6 +264,9 @@ struct facts {
 void read_image(const uint8_t *image, struct session *s);
 void write_image(const struct session *s, uint8_t *image);
 bool all_declared_set(const struct memory *m, const struct session *s, const struct declarations *d);
+
+/* So many labels, one or more, are too many for some counter. All declared ones are set. */
+bool counter_runs_out(const struct session *s, const struct declarations *d, unsigned labels);
 bool sound(const struct memory *m, const struct session *s, struct facts *f);
 
 /* ---- station.c: the three calls, as station.h tells ---- */

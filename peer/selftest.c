@@ -1,5 +1,5 @@
-/* selftest.c: paper 01's sample session and its ten proof cases, as far as the three calls show them, paper 02's line under the
- * bars and places of refusals, and drawing dot by dot.
+/* selftest.c: paper 01's sample session, as paper 02 changed it, and its ten proof cases, as far as the three calls show them,
+ * paper 02's line under the bars, places of refusals and counters that run out, and drawing dot by dot.
  *
  *   selftest                   runs all of them
  *   selftest bars TYPE W DATA  writes the modules of one symbol, narrow 1 and wide W, as 1 (bar) and 0, for zint-check
@@ -96,6 +96,17 @@ static unsigned low_first(const uint8_t *bytes)
     return bytes[0] | (unsigned)bytes[1] << 8;
 }
 
+enum { UNSET = -1 };
+
+/* A counter's five bytes as they must be: set and the value, or all zero. */
+static int counter_is(const struct bench *b, unsigned n, int64_t value)
+{
+    const uint8_t *at = b->desk.bytes[SESSION] + 15 + 5 * n;
+    int64_t stands = low_first(at + 1) | (int64_t)low_first(at + 3) << 16;
+
+    return at[0] == (value != UNSET) && stands == (value == UNSET ? 0 : value);
+}
+
 /* ---- the program of the sample session ---- */
 
 static void run_labels(struct bench *b, FILE *out)
@@ -111,8 +122,8 @@ static void run_session(struct bench *b, const uint8_t *input, size_t length, FI
 
         if (answer != 4 || length > 0)
             fprintf(out, "line %u: %u\n", line, answer);
-        if (answer == 4)
-            return;
+        if (count(b, 0) == 0)
+            return;  /* at 4; and 1 to 3 read nothing either, so the same would come for ever */
         fwrite(b->desk.bytes[OUTPUT], 1, count(b, 1), out);
         input += count(b, 0);
         length -= count(b, 0);
@@ -124,9 +135,9 @@ static void run_session(struct bench *b, const uint8_t *input, size_t length, FI
 static const char sample_input[] =
     "FS\"Test\"\nC0,02,+1,\"NO\"\nLO0,0,8,2\nFE\nFI\nFR\"TEST\"\nP2\n?C0,99\nP2\n";
 static const char sample_output[] =
-    "line 1: 0\nline 2: 0\nline 3: 0\nline 4: 0\nline 5: 0\n23,\"TEST\"\nline 6: 0\nline 7: 18\nline 8: 0\nline 9: 0\n"
-    "label 1 black 16\nlabel 2 black 16\n";
+    "line 1: 0\nline 2: 0\nline 3: 0\nline 4: 0\nline 5: 0\n23,\"TEST\"\nline 6: 0\nline 7: 18\nline 8: 0\nline 9: 22\n";
 
+/* Paper 02: "the sample session's second P2 is now refused, and C0 stays 99". */
 static void sample_session(void)
 {
     struct bench b;
@@ -137,9 +148,8 @@ static void sample_session(void)
     open_bench(&b, 240, empty_font, sizeof empty_font);
     run_session(&b, (const uint8_t *)sample_input, sizeof sample_input - 1, out);
     fclose(out);
-    check("(1) the sample session writes what paper 01 prints", strcmp(written, sample_output) == 0);
-    check("(1) C0 ends at 1", b.desk.bytes[SESSION][15] == 1 && low_first(b.desk.bytes[SESSION] + 16) == 1
-                                  && low_first(b.desk.bytes[SESSION] + 18) == 0);
+    check("(1) the sample session: its second P2 is 22", strcmp(written, sample_output) == 0);
+    check("(1) C0 stays 99", counter_is(&b, 0, 99));
     free(written);
     clear_away(&b.desk);
 }
@@ -733,6 +743,358 @@ static void pointing_cases(void)
     tell_again("told again with short tails", short_tails());
 }
 
+/* ---- labels must not start over at zero ---- */
+
+static unsigned send_number(struct bench *b, const char *format, long long number)
+{
+    char line[300];
+
+    snprintf(line, sizeof line, format, number);
+    return send(b, line);
+}
+
+/* A new form with these lines is the active one; true if all is taken. */
+static int form_of(struct bench *b, const char *const *lines, unsigned number)
+{
+    unsigned refused = send(b, "FK\"*\"") + send(b, "FS\"F\"");
+
+    for (unsigned i = 0; i < number; i++)
+        refused += send(b, lines[i]);
+    return refused + send(b, "FE") + send(b, "FR\"F\"") == 0;
+}
+
+/* One counter of w digits, its step and value: what P of so many labels answers. */
+static unsigned print_so(struct bench *b, unsigned w, int step, int64_t value, unsigned labels)
+{
+    char line[64];
+    const char *lines[] = {line};
+
+    snprintf(line, sizeof line, "C0,%u,%+d,\"\"", w, step);
+    if (!form_of(b, lines, 1) || send_number(b, "?C0,%lld", value) != 0)
+        return 255;
+    return send_number(b, "P%lld", labels);
+}
+
+static unsigned draw_all(struct bench *b)
+{
+    unsigned drawn = 0;
+
+    while (label(b) == 0)
+        drawn++;
+    return drawn;
+}
+
+static unsigned owed(const struct bench *b)
+{
+    return low_first(b->desk.bytes[SESSION] + 11);
+}
+
+/* "outside 0 to 10^w-1", at each end and on both sides of it. end: where the counter stands when all labels are drawn. */
+static void end_cases(struct bench *b)
+{
+    static const struct {
+        unsigned w;
+        int step;
+        int64_t value;
+        unsigned labels, answer;
+        int64_t end;
+    } jobs[] = {
+        {2, 1, 99, 2, 22, 0}, {2, 1, 99, 1, 0, UNSET}, {2, 1, 98, 2, 0, UNSET}, {2, 1, 98, 1, 0, 99}, {2, 1, 98, 3, 22, 0}, {3, 1, 999, 2, 22, 0},
+        {3, 1, 998, 2, 0, UNSET}, {2, -1, 0, 2, 22, 0}, {2, -1, 0, 1, 0, UNSET}, {2, -1, 1, 2, 0, UNSET}, {2, -1, 1, 1, 0, 0}, {2, -1, 1, 3, 22, 0},
+        {1, 3, 0, 4, 0, UNSET}, {1, 3, 0, 3, 0, 9}, {1, 3, 0, 5, 22, 0}, {1, 3, 1, 3, 0, UNSET}, {1, 3, 1, 4, 22, 0}, {1, -4, 9, 3, 0, UNSET},
+        {1, -4, 8, 2, 0, 0}, {1, -4, 8, 3, 0, UNSET}, {1, -4, 8, 4, 22, 0}, {1, -4, 7, 2, 0, UNSET}, {1, -4, 7, 3, 22, 0}, {1, 99999, 0, 1, 0, UNSET},
+        {1, -99999, 9, 1, 0, UNSET}, {1, 99999, 0, 2, 22, 0}, {5, 99999, 0, 2, 0, UNSET}, {5, 99999, 1, 2, 22, 0}, {5, -99999, 99999, 2, 0, UNSET},
+        {5, -99999, 99998, 2, 22, 0}, {6, 99999, 0, 12, 22, 0}, {6, 99999, 0, 10, 0, 999990}, {6, 99999, 9, 11, 0, UNSET}, {6, 99999, 10, 11, 22, 0}, {1, 0, 9, 5, 0, 9},
+        {1, 0, 0, 5, 0, 0}, {9, 0, 999999999, 3, 0, 999999999}, {9, 1, 999999999, 1, 0, UNSET}, {9, 1, 999999998, 1, 0, 999999999},
+        {9, 1, 999999999, 2, 22, 0}, {9, 99999, 999900000, 2, 0, UNSET}, {9, 99999, 999900001, 2, 22, 0}, {9, -99999, 99998, 2, 22, 0}};
+    unsigned wrong = 0;
+
+    for (unsigned i = 0; i < sizeof jobs / sizeof jobs[0]; i++) {
+        unsigned answer = print_so(b, jobs[i].w, jobs[i].step, jobs[i].value, jobs[i].labels);
+        wrong += answer != jobs[i].answer || count(b, 2) != 0;
+        if (answer == 0)
+            wrong += draw_all(b) != jobs[i].labels || low_first(b->desk.bytes[SESSION] + 13) != jobs[i].labels || !counter_is(b, 0, jobs[i].end);
+        else
+            wrong += owed(b) != 0 || !counter_is(b, 0, jobs[i].value) || label(b) != 21;
+    }
+    check("22 when the last label's value is out of range, else drawn", wrong == 0);
+}
+
+/* Jobs of up to 65,535 labels, judged and not drawn. The products need more than 32 bits. */
+static void great_cases(struct bench *b)
+{
+    static const struct {
+        unsigned w;
+        int step;
+        int64_t value;
+        unsigned labels, answer;
+    } jobs[] = {
+        {9, 1, 999934465, 65535, 0}, {9, 1, 999934466, 65535, 22}, {9, -1, 65534, 65535, 0}, {9, -1, 65533, 65535, 22}, {9, 99999, 0, 65535, 22},
+        {9, -99999, 999999999, 65535, 22}, {9, 99999, 9999, 10001, 0}, {9, 99999, 10000, 10001, 22}, {9, 99999, 0, 10002, 22}, {9, 99999, 0, 42952, 22},
+        {9, 99999, 109998, 10000, 0}, {9, 99999, 109999, 10000, 22}, {9, 65539, 0, 65535, 22}, {9, -65539, 999999999, 65535, 22}, {9, 15259, 0, 65535, 0},
+        {9, 15259, 16693, 65535, 0}, {9, 15259, 16694, 65535, 22}, {9, 15260, 0, 65535, 22}, {9, 0, 999999999, 65535, 0}, {1, 0, 0, 65535, 0}};
+    unsigned wrong = 0;
+
+    for (unsigned i = 0; i < sizeof jobs / sizeof jobs[0]; i++) {
+        wrong += print_so(b, jobs[i].w, jobs[i].step, jobs[i].value, jobs[i].labels) != jobs[i].answer;
+        wrong += owed(b) != (jobs[i].answer == 0 ? jobs[i].labels : 0);
+        wrong += jobs[i].answer == 0 && (label(b) != 0 || !counter_is(b, 0, jobs[i].value + jobs[i].step));
+        call_station(&peer_station, &b->desk, OPEN, b->length);
+    }
+    check("jobs of up to 65,535 labels and steps of 99,999", wrong == 0);
+}
+
+/* "for some counter of the active form", and of the move "the others move". C1 goes down, C2 stays, V0 has nothing to do with it. */
+static void several_counters(struct bench *b)
+{
+    static const char *const lines[] = {"C3,2,+10,\"\"", "C1,1,-2,\"\"", "C2,1,+0,\"\"", "V0,1,N,\"\"", "C9,4,+1,\"\""};
+    unsigned wrong = !form_of(b, lines, 5);
+
+    wrong += send(b, "?V0,\"\"") + send(b, "?C3,10") + send(b, "?C1,9") + send(b, "?C2,9");
+    check("18 comes before 22: C9 unset, C1 and C3 run out", send(b, "P65535") == 18 && send(b, "P6") == 18 && send(b, "P1") == 18);
+    wrong += send(b, "?C9,7");
+    check("the counter that runs out first decides",
+          send(b, "P6") == 22 && send(b, "?C1,8") == 0 && send(b, "P6") == 22 && send(b, "?C9,9996") == 0 && send(b, "P5") == 22
+              && send(b, "?C9,9995") == 0 && send(b, "P5") == 0 && wrong == 0);
+    wrong = label(b) + label(b) + label(b) + label(b);
+    check("no counter is unset before the last label", wrong == 0 && counter_is(b, 1, 0) && counter_is(b, 2, 9) && counter_is(b, 3, 50) && counter_is(b, 9, 9999));
+    check("those that leave their range are unset, the others move",
+          label(b) == 0 && counter_is(b, 1, UNSET) && counter_is(b, 2, 9) && counter_is(b, 3, 60) && counter_is(b, 9, UNSET));
+    check("then P is 18 until each unset one is entered again",
+          label(b) == 21 && send(b, "P1") == 18 && send(b, "?C1,1") == 0 && send(b, "P1") == 18 && send(b, "?C9,0") == 0 && send(b, "P2") == 22
+              && send(b, "P1") == 0 && label(b) == 0 && counter_is(b, 1, UNSET) && counter_is(b, 9, 1) && counter_is(b, 3, 70));
+    check("VC leaves the counters, one at its last number too",
+          send(b, "?C9,9999") == 0 && send(b, "VC") == 0 && counter_is(b, 9, 9999) && counter_is(b, 3, 70) && counter_is(b, 1, UNSET));
+}
+
+/* What the answers before 22 are for P, and that another form's counters, or none, are not asked. */
+static void order_cases(struct bench *b)
+{
+    static const char *const lines[] = {"GG0,0,\"P\"", "C0,1,+5,\"\"", "A0,0,0,1,1,N,C0"};
+    uint8_t picture[300] = "GM\"P\",130\n", *head = picture + 10;
+    unsigned wrong;
+
+    memcpy(head, (const uint8_t[]){10, 5, 1, 1, 0, 0, 0, 0, 7, 0, 0, 0}, 12);
+    head[65] = 1;
+    head[66] = 2;
+    wrong = send_bytes(b, picture, 140) || !form_of(b, lines, 3) || send(b, "?C0,9") || send(b, "GK\"P\"");
+    check("11 comes before 22", wrong == 0 && send(b, "P2") == 11 && send(b, "P1") == 11);
+    wrong = send_bytes(b, picture, 140);
+    check("6 and 7 come before 22, and no answer but these points",
+          wrong == 0 && send(b, "P2x") == 6 && send(b, "P0") == 7 && send(b, "P65536") == 7 && send(b, "P2") == 22 && count(b, 2) == 0 && count(b, 0) == 3);
+    check("8 comes before 22", send(b, "P1") == 0 && send(b, "P2") == 8 && label(b) == 0 && counter_is(b, 0, UNSET));
+    check("9 comes before 22", send(b, "?C0,9") == 0 && send(b, "FS\"G\"") == 0 && send(b, "P2") == 9 && send(b, "FE") == 0 && send(b, "P2") == 22);
+    check("another form, or none: its counters are not asked",
+          send(b, "FR\"G\"") == 0 && send(b, "P65535") == 0 && call_station(&peer_station, &b->desk, OPEN, b->length) == 0 && send(b, "P65535") == 0);
+    call_station(&peer_station, &b->desk, OPEN, b->length);
+}
+
+/* The labels of a job show the value before its move, the last one too: C0 of two digits in the telling font. */
+static void shown_case(void)
+{
+    static const char *const lines[] = {"C0,2,+4,\"\"", "A0,0,0,1,1,N,C0"};
+    static uint8_t font[1024];
+    struct bench b;
+    int well;
+
+    open_bench(&b, 40, font, telling_font(font));
+    well = form_of(&b, lines, 2) && send(&b, "?C0,91") == 0 && send(&b, "P3") == 0;
+    well = well && label(&b) == 0 && row_is(&b, PAGE, 0, "91", 2) && label(&b) == 0 && row_is(&b, PAGE, 0, "95", 2);
+    check("the last label shows the last value", well && label(&b) == 0 && row_is(&b, PAGE, 0, "99", 2) && counter_is(&b, 0, UNSET));
+    clear_away(&b.desk);
+}
+
+/* ---- sound with labels owed ---- */
+
+static void put_image(struct bench *b, unsigned at, uint32_t number, unsigned bytes)
+{
+    for (unsigned i = 0; i < bytes; i++)
+        b->desk.bytes[SESSION][at + i] = (uint8_t)(number >> (8 * i));
+}
+
+/* The active form's two counters, C4 the one looked at, and so many labels owed and drawn. True if every call that asks for sound finds
+ * it so, or none does. A comment asks too; the label goes last. */
+static int judged(struct bench *b, uint32_t value, unsigned owes, unsigned drawn, int holds)
+{
+    put_image(b, 15 + 5 * 1, 1, 1);
+    put_image(b, 15 + 5 * 1 + 1, 5, 4);
+    put_image(b, 15 + 5 * 4, 1, 1);
+    put_image(b, 15 + 5 * 4 + 1, value, 4);
+    put_image(b, 11, owes, 2);
+    put_image(b, 13, drawn, 2);
+    return send(b, ";") == (holds ? 0u : 3u) && send(b, "ZT") == (!holds ? 3u : owes ? 8u : 0u)
+        && label(b) == (!holds ? 3u : owes ? 0u : 21u);
+}
+
+static int judged_so(struct bench *b, const char *counter, uint32_t value, unsigned owes, int holds)
+{
+    const char *lines[] = {"C1,1,-0,\"\"", counter};
+    unsigned drawn = owes < 65535 ? 65535 - owes : 0;
+    int well;
+
+    well = form_of(b, lines, 2) && judged(b, value, owes, 0, holds);
+    call_station(&peer_station, &b->desk, OPEN, b->length);
+    well &= form_of(b, lines, 2) && judged(b, value, owes, drawn, holds);
+    call_station(&peer_station, &b->desk, OPEN, b->length);
+    return well;
+}
+
+static void owing_cases(struct bench *b)
+{
+    int up = 1, down = 1;
+
+    for (unsigned n = 1; n < 12; n++) {
+        up &= judged_so(b, "C4,2,+7,\"\"", 99 - 7 * (n - 1), n, 1) && judged_so(b, "C4,2,+7,\"\"", 100 - 7 * (n - 1), n, 0);
+        down &= judged_so(b, "C4,2,-7,\"\"", 7 * (n - 1), n, 1) && (n == 1 || judged_so(b, "C4,2,-7,\"\"", 7 * (n - 1) - 1, n, 0));
+    }
+    check("with n owed: value + (n-1) steps up to 10^w-1, beyond it 3", up);
+    check("with n owed: value - (n-1) steps down to 0, below it 3", down);
+    check("with one owed only the value itself", judged_so(b, "C4,1,+99999,\"\"", 9, 1, 1) && judged_so(b, "C4,1,-99999,\"\"", 0, 1, 1)
+                                                    && judged_so(b, "C4,1,+99999,\"\"", 9, 2, 0) && judged_so(b, "C4,1,-99999,\"\"", 0, 2, 0));
+    check("with none owed nothing new", judged_so(b, "C4,1,+99999,\"\"", 9, 0, 1) && judged_so(b, "C4,1,-99999,\"\"", 0, 0, 1));
+    check("with step 0 never", judged_so(b, "C4,1,+0,\"\"", 9, 65535, 1) && judged_so(b, "C4,9,+0,\"\"", 999999999, 65535, 1));
+    check("with 65,535 owed", judged_so(b, "C4,9,+1,\"\"", 999934465, 65535, 1) && judged_so(b, "C4,9,+1,\"\"", 999934466, 65535, 0)
+                                  && judged_so(b, "C4,9,+65539,\"\"", 0, 65535, 0) && judged_so(b, "C4,9,-65539,\"\"", 999999999, 65535, 0)
+                                  && judged_so(b, "C4,9,+15259,\"\"", 16693, 65535, 1) && judged_so(b, "C4,9,+15259,\"\"", 16694, 65535, 0));
+}
+
+/* ---- the rule told again ---- */
+
+/* Label by label, in digits and with carries, as a hand counter would do it: no product and no power of ten. */
+struct hand_counter {
+    int digit[9];  /* lowest first */
+    unsigned w;
+    bool over;     /* it has left its digits */
+};
+
+static void add_by_hand(struct hand_counter *h, int step)
+{
+    int carry = 0;
+
+    for (unsigned i = 0; i < h->w; i++, step /= 10) {
+        int sum = h->digit[i] + step % 10 + carry;
+        carry = sum < 0 ? -1 : sum > 9 ? 1 : 0;
+        h->digit[i] = sum - 10 * carry;
+    }
+    h->over = step != 0 || carry != 0;
+}
+
+static struct hand_counter by_hand(unsigned w, int64_t value)
+{
+    struct hand_counter h = {.w = w};
+
+    for (unsigned i = 0; i < w; i++, value /= 10)
+        h.digit[i] = (int)(value % 10);
+    return h;
+}
+
+static int64_t on_hand(const struct hand_counter *h)
+{
+    int64_t value = 0;
+
+    for (unsigned i = h->w; i-- > 0;)
+        value = 10 * value + h->digit[i];
+    return h->over ? UNSET : value;
+}
+
+/* A job walked label by label: 22 if a label would be due when the counter is over. end: where it then stands. */
+static unsigned walk_job(unsigned w, int step, int64_t value, unsigned labels, int64_t *end)
+{
+    struct hand_counter h = by_hand(w, value);
+
+    for (; labels > 0 && !h.over; labels--)
+        add_by_hand(&h, step);
+    *end = on_hand(&h);
+    return labels > 0 ? 22 : 0;
+}
+
+static uint64_t chance_number(void)
+{
+    static uint64_t state = 2026;
+
+    return (state = state * 6364136223846793005u + 1442695040888963407u) >> 33;
+}
+
+/* A job by chance, about half of them near the end of the counter; told is what walking says and P answers. */
+struct told_twice {
+    unsigned jobs, refused, unset, wrong;
+};
+
+static void tell_job(struct bench *b, struct told_twice *t)
+{
+    static const unsigned most_steps[] = {2, 10, 100, 1000, 100000}, most_labels[] = {4, 12, 12, 40, 65535};
+    unsigned w = 1 + chance_number() % 9, labels = 1 + chance_number() % most_labels[chance_number() % 5], answer;
+    int step = (int)(chance_number() % most_steps[chance_number() % 5]), sign = chance_number() % 2 ? 1 : -1;
+    int64_t power = 1, value, end;
+
+    for (unsigned i = 0; i < w; i++)
+        power *= 10;
+    value = (int64_t)step * (labels - 1) + (int64_t)(chance_number() % 5) - 2;
+    value = value < 0 || value >= power || chance_number() % 4 == 0 ? (int64_t)(chance_number() % (uint64_t)power) : value;
+    value = sign > 0 ? power - 1 - value : value;
+    answer = print_so(b, w, sign * step, value, labels);
+    t->jobs++;
+    t->wrong += answer != walk_job(w, sign * step, value, labels, &end);
+    t->refused += answer == 22;
+    if (answer == 0 && labels <= 40) {
+        t->wrong += draw_all(b) != labels || !counter_is(b, 0, end);
+        t->unset += end == UNSET;
+    }
+    if (owed(b) > 0)
+        call_station(&peer_station, &b->desk, OPEN, b->length);
+}
+
+static void jobs_told_again(struct bench *b)
+{
+    struct told_twice t = {0};
+    char text[80];
+
+    while (t.jobs < 20000)
+        tell_job(b, &t);
+    snprintf(text, sizeof text, "told again, by hand: %u jobs, %u are 22, %u unset", t.jobs, t.refused, t.unset);
+    check(text, t.wrong == 0);
+}
+
+/* P and sound told to each other: a job that P refuses is 3 when its labels are put into the image, one that P takes is not. */
+static void owed_told_again(struct bench *b)
+{
+    unsigned wrong = 0, unsound = 0;
+
+    for (unsigned i = 0; i < 4000; i++) {
+        unsigned w = 1 + chance_number() % 9, labels = 1 + chance_number() % (i % 2 ? 12 : 65535), answer;
+        int64_t power = 1, value, end;
+        int step = (int)(chance_number() % 100000);
+
+        for (unsigned k = 0; k < w; k++)
+            power *= 10;
+        step = (step >> chance_number() % 17) * (chance_number() % 2 ? 1 : -1);
+        value = (int64_t)(chance_number() % (uint64_t)power);
+        answer = walk_job(w, step, value, labels, &end);
+        wrong += print_so(b, w, step, value, 1) != 0;
+        put_image(b, 11, labels, 2);
+        wrong += send(b, "") != (answer == 22 ? 3u : 0u) || send(b, "ZT") != (answer == 22 ? 3u : 8u);
+        unsound += answer == 22;
+        call_station(&peer_station, &b->desk, OPEN, b->length);
+    }
+    check("sound asks of labels owed what P asks of labels to be owed", wrong == 0 && unsound > 1000 && unsound < 3000);
+}
+
+static void running_cases(void)
+{
+    struct bench b;
+
+    open_bench(&b, 40, empty_font, sizeof empty_font);
+    end_cases(&b);
+    great_cases(&b);
+    several_counters(&b);
+    order_cases(&b);
+    shown_case();
+    owing_cases(&b);
+    jobs_told_again(&b);
+    owed_told_again(&b);
+    clear_away(&b.desk);
+}
+
 /* ---- rectangles, the turned page, a picture ---- */
 
 /* Rectangles in each ink, kept dot by dot in a second page. */
@@ -848,6 +1210,7 @@ int main(int argc, char **argv)
     line_in_form_case();
     word_cases();
     pointing_cases();
+    running_cases();
     rectangle_cases();
     picture_case();
     return failures != 0;

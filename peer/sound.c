@@ -222,7 +222,7 @@ static bool sound_counter(const struct counter *k, const struct declared_counter
 {
     if (k->set == 0)
         return k->value == 0;
-    return k->set == 1 && d->declared && k->value < power_of_ten(d->digits);
+    return k->set == 1 && d->declared && in_range(d, k->value);
 }
 
 /* With no active form nothing is declared, so everything must be unset. */
@@ -242,16 +242,28 @@ bool all_declared_set(const struct memory *m, const struct session *s, const str
     return true;
 }
 
+/* "for some counter of the active form, its value plus (k-1) times its step falls outside 0 to 10^w-1". The values between lie
+ * between the first and the last, so these two decide, and the first is in range wherever memory is sound. */
+bool counter_runs_out(const struct session *s, const struct declarations *d, unsigned labels)
+{
+    for (unsigned i = 0; i < 10; i++)
+        if (d->c[i].declared && !in_range(&d->c[i], counter_after(&d->c[i], s->counters[i].value, labels - 1)))
+            return true;
+    return false;
+}
+
 /* "the active form a stored one" */
 static bool active_is_stored(const struct memory *m, const struct session *s)
 {
     return s->active == NO_FORM || (s->active < m->entries && entry_at(m, s->active)[0] == FORM);
 }
 
-/* "labels owed only when nothing is recorded, all declared values are set and the pictures exist" */
+/* "labels owed only when nothing is recorded, all declared values are set and the pictures exist"; and since paper 02 "While labels
+ * are owed, sound now asks the same of each counter with k their number". */
 static bool may_owe(const struct memory *m, const struct session *s, const struct facts *f)
 {
-    return f->recording == NOT_THERE && all_declared_set(m, s, &f->of_active) && f->pictures_exist;
+    return f->recording == NOT_THERE && all_declared_set(m, s, &f->of_active) && f->pictures_exist
+        && !counter_runs_out(s, &f->of_active, s->owed);
 }
 
 bool sound(const struct memory *m, const struct session *s, struct facts *f)

@@ -256,18 +256,21 @@ static enum answer set_counter(struct call *k, const struct command *c)
 
     if (!d->declared)
         return point(k, (struct verdict){NOT_DECLARED, c->n_at});
-    if (c->n[1] >= power_of_ten(d->digits))
+    if (!in_range(d, c->n[1]))
         return VALUE_UNFIT;
     k->s.counters[c->n[0]] = (struct counter){1, c->n[1]};
     return TAKEN;
 }
 
+/* "22, counter runs out, after 18 and before 19": of the answers from 19 on P gives none. */
 static enum answer owe_labels(struct call *k, const struct command *c)
 {
     if (!k->f.pictures_exist)
         return NAME_NOT_FOUND;
     if (!all_declared_set(&k->m, &k->s, &k->f.of_active))
         return VALUE_UNSET;
+    if (counter_runs_out(&k->s, &k->f.of_active, c->n[0]))
+        return RUNS_OUT;
     k->s.owed = (uint16_t)c->n[0];
     k->s.drawn = 0;
     return TAKEN;
@@ -411,14 +414,14 @@ static void run_form(struct run *r, const uint8_t *entry)
     }
 }
 
-/* "after each label it moves by s modulo 10^w": never below zero. */
+/* "If the move after the last label leaves that range, the counter becomes unset." No earlier move leaves it: sound has asked that of
+ * the labels owed. */
 static void move_counters(struct session *s, const struct declarations *d)
 {
     for (unsigned i = 0; i < 10; i++)
         if (d->c[i].declared) {
-            int64_t power = power_of_ten(d->c[i].digits);
-            int64_t moved = ((int64_t)s->counters[i].value + d->c[i].step) % power;
-            s->counters[i].value = (uint32_t)(moved < 0 ? moved + power : moved);
+            int64_t moved = counter_after(&d->c[i], s->counters[i].value, 1);
+            s->counters[i] = in_range(&d->c[i], moved) ? (struct counter){1, (uint32_t)moved} : (struct counter){0, 0};
         }
 }
 

@@ -34,7 +34,8 @@
  *
  * All other answers give place 0. If counts has another length than 3, the answer is 1 and counts is left as it is.
  *
- * The result of each call is its answer: 0 taken, 1 to 21 refused (paper 01's table). After a refusal the session and
+ * The result of each call is its answer: 0 taken, 1 to 21 refused (paper 01's table), 22 a counter runs out (paper 02: a P of so
+ * many labels that some counter of the active form would leave its digits before the last of them). After a refusal the session and
  * all lent memory are as before; only the counts are stored. A refused opening leaves the session image all zero.
  */
 #ifndef STATION_H
@@ -64,7 +65,8 @@ uint8_t station_command(uint8_t *session, size_t session_len,
                         uint8_t *output, size_t output_len,
                         const uint8_t *input, size_t input_len);
 
-/* Draws one owed label on the page, moves the counters, and counts the label from owed to drawn. */
+/* Draws one owed label on the page, moves the counters, and counts the label from owed to drawn. A counter whose move leaves its digits,
+ * which only the last label's can, becomes unset. */
 uint8_t station_label(uint8_t *session, size_t session_len,
                       const uint8_t *font, size_t font_len,
                       uint8_t *page, size_t page_len,

@@ -2,9 +2,9 @@
  *
  *   vectors INPUT-FILE LINES-FILE [FIRST-SEED [SESSIONS]]
  *
- * Without a seed it writes what is kept in peer/vectors: eight sessions by chance, which give each of the 22 answers, behind
- * them a ninth that is written here and draws every word of the line under the bars, and a tenth of lines that are refused, in which
- * every kind of piece is once at fault.
+ * Without a seed it writes what is kept in peer/vectors: eight sessions by chance, which give each of the 23 answers, behind
+ * them a ninth that is written here and draws every word of the line under the bars, a tenth of lines that are refused, in which
+ * every kind of piece is once at fault, and an eleventh of jobs that take counters to their end.
  *
  * INPUT-FILE is a row of records, all numbers low byte first. A record starts with its letter:
  *
@@ -79,8 +79,8 @@ static void write_line(FILE *f, const struct desk *d, unsigned calls, unsigned a
 struct record {
     FILE *input, *lines;
     struct desk desk;
-    unsigned calls, reached[22];
-    bool pointed[22][MOST_LINE + 1];
+    unsigned calls, reached[ANSWERS];
+    bool pointed[ANSWERS][MOST_LINE + 1];
 };
 
 static void set_up(struct record *r, const struct event *e)
@@ -281,9 +281,95 @@ static void pointing_session(struct record *r, struct event e)
     wrong_counts(r, &e);
 }
 
+/* ---- counters that run out ---- */
+
+/* One counter goes up, one down by the greatest step, one stays. 18 while C5 is unset, though C0 would run out; 22 by C0, by C5, by both; then
+ * a job of which the last label takes C0 to 99 and C5 to 3. */
+static const char *const first_job[] = {
+    "FS\"JOBS\"", "C0,2,+7,\"\"", "C5,9,-99999,\"\"", "C9,1,+0,\"\"", "A0,0,0,1,1,N,C0\" \"C5\" \"C9", "B0,6,0,2,1,2,24,B,C,C0C5R2", "FE", "FR\"JOBS\"",
+    "?C0,78", "?C9,9", "P5", "?C5,300000", "P5", "P65535", "?C5,299996", "P4", "?C5,300000", "P4"};
+/* Both are unset now and each is entered again. 42,952 times 99,999 is more than 32 bits hold. 15 labels take C0 from 0 to 98, C5 to 0. */
+static const char *const second_job[] = {"P1", "?C0,0", "P1", "?C5,999999999", "P16", "P10002", "P42952", "?C5,1399985", "P15", "?C5,1399986", "P15"};
+/* C5 is unset, C0 at 91 with the changed step of 6. First C5 is unset again and C0 goes on to 97, then C0 is unset and C5 goes on to 1. */
+static const char *const third_job[] = {"P1", "?C5,5", "P2", "P1"}, *const fourth_job[] = {"?C5,100000", "P2", "P1"}, *const unset_again[] = {"P1"};
+
+static void poke_byte(struct record *r, struct event *e, enum slice s, size_t at, uint8_t byte)
+{
+    e->slice = s;
+    e->at = at;
+    e->byte = byte;
+    poke(r, e);
+}
+
+/* A comment and a label: both ask for sound. */
+static void ask_sound(struct record *r, struct event *e)
+{
+    static const char *const comment[] = {";"};
+
+    send_lines(r, e, comment, 1);
+    draw_label(r, e);
+}
+
+/* With 15 labels owed, each of these bytes as broken is 3 by one counter alone: C0 at 2, 16 owed, C5 below its least, C0's width, sign and step in the form. As
+ * right it is sound, and stays: C0 at 1, the greatest value it may have, and the step 6. */
+static void damaged_job(struct record *r, struct event *e)
+{
+    static const struct {
+        enum slice slice;
+        uint16_t at;
+        uint8_t broken, right;
+    } bytes[] = {{SESSION, 16, 2, 1}, {SESSION, 11, 16, 15}, {SESSION, 41, 0xb1, 0xb2}, {STORE, 3, '1', '2'}, {STORE, 5, '-', '+'}, {STORE, 6, '8', '6'}};
+
+    for (unsigned i = 0; i < sizeof bytes / sizeof bytes[0]; i++) {
+        poke_byte(r, e, bytes[i].slice, bytes[i].at, bytes[i].broken);
+        ask_sound(r, e);
+        poke_byte(r, e, bytes[i].slice, bytes[i].at, bytes[i].right);
+    }
+}
+
+/* A form whose picture is erased before its P: 11 goes before 22. */
+static const char *const drawn_form[] = {"FS\"ONE\"", "GG0,0,\"P\"", "C0,1,+5,\"\"", "FE", "FR\"ONE\"", "?C0,9", "P2", "GK\"P\"", "P2"};
+
+static void send_picture(struct record *r, struct event *e)
+{
+    static uint8_t line[140] = "GM\"P\",130\n";  /* 8 by 1 dots */
+
+    memcpy(line + 10, (const uint8_t[]){10, 5, 1, 1, 0, 0, 0, 0, 7}, 9);
+    line[10 + 65] = 1;
+    line[10 + 66] = 2;
+    e->call = COMMAND;
+    e->bytes = line;
+    e->count = e->length[INPUT] = sizeof line;
+    make_call(r, e);
+}
+
+static void running_session(struct record *r, struct event e)
+{
+    set_up(r, &e);
+    usual_lengths(e.length, 40, 16, 4, 256);
+    lend_digits(r, &e, 5, 4);
+    e.call = OPEN;
+    e.count = 0;
+    make_call(r, &e);
+    send_lines(r, &e, first_job, sizeof first_job / sizeof first_job[0]);
+    for (unsigned i = 0; i < 5; i++)  /* one more than are owed */
+        draw_label(r, &e);
+    send_lines(r, &e, second_job, sizeof second_job / sizeof second_job[0]);
+    damaged_job(r, &e);
+    for (unsigned i = 0; i < 15; i++)
+        draw_label(r, &e);
+    send_lines(r, &e, third_job, sizeof third_job / sizeof third_job[0]);
+    draw_label(r, &e);
+    send_lines(r, &e, fourth_job, sizeof fourth_job / sizeof fourth_job[0]);
+    draw_label(r, &e);
+    send_lines(r, &e, unset_again, 1);
+    send_picture(r, &e);
+    send_lines(r, &e, drawn_form, sizeof drawn_form / sizeof drawn_form[0]);
+}
+
 static void tell_places(const struct record *r)
 {
-    for (unsigned a = 0; a < 22; a++) {
+    for (unsigned a = 0; a < ANSWERS; a++) {
         unsigned places = 0;
         for (unsigned p = 0; p <= MOST_LINE; p++)
             places += r->pointed[a][p];
@@ -306,7 +392,7 @@ static FILE *open_file(const char *path)
 int main(int argc, char **argv)
 {
     static struct record r;
-    uint64_t seed = argc > 3 ? strtoull(argv[3], NULL, 10) : 4420;
+    uint64_t seed = argc > 3 ? strtoull(argv[3], NULL, 10) : 405;
     unsigned missing = 0;
     struct event room;
 
@@ -319,9 +405,10 @@ int main(int argc, char **argv)
     room = chance_sessions(&r, seed, argc > 4 ? (unsigned)atoi(argv[4]) : 8);
     lined_session(&r, room);
     pointing_session(&r, room);
-    for (unsigned a = 0; a < 22; a++)
+    running_session(&r, room);
+    for (unsigned a = 0; a < ANSWERS; a++)
         missing += r.reached[a] == 0;
-    fprintf(stderr, "%u calls, %ld bytes, %u of the 22 answers not reached\n", r.calls, ftell(r.input), missing);
+    fprintf(stderr, "%u calls, %ld bytes, %u of the %u answers not reached\n", r.calls, ftell(r.input), missing, ANSWERS);
     tell_places(&r);
     fclose(r.input);
     fclose(r.lines);

@@ -19,9 +19,9 @@ owed-none n b e = rw (eq-eqb n 0 e)
 pub owed-recording : (n : ℕ) (t r b : Bool) → (n ≡ 0 → ⊥) → r ≡ t → r ≡ true → false ≡ (eqb n 0 || (not t && b))
 owed-recording n t r b z e h = rw (ne-eqb n 0 z, sym e ∙ h)
 
-pub owed-rest : (n : ℕ) (t r a p a′ p′ q : Bool) → (n ≡ 0 → ⊥) → r ≡ t → r ≡ false → a′ ≡ a → p′ ≡ p → q ≡ (a′ && p′)
-    → q ≡ (eqb n 0 || (not t && (a && p)))
-owed-rest n t r a p a′ p′ q z e h ea ep eq = eq ∙ rw (ne-eqb n 0 z, sym e ∙ h, ea, ep)
+pub owed-rest : (n : ℕ) (t r a l p a′ l′ p′ b q : Bool) → (n ≡ 0 → ⊥) → r ≡ t → r ≡ false → a′ ≡ a → l′ ≡ l → p′ ≡ p → b ≡ (l′ && p′) → q ≡ (a′ && b)
+    → q ≡ (eqb n 0 || (not t && (a && (l && p))))
+owed-rest n t r a l p a′ l′ p′ b q z e h ea el ep eb eq = eq ∙ rw (ne-eqb n 0 z, sym e ∙ h, eb, ea, el, ep)
 
 -- ---- the active form and the labels owed
 

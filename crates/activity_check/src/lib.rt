@@ -1,6 +1,6 @@
 // Decides the clauses of Sound on the active form and the labels owed (paper 01): "the active form a stored one; set values fit its declarations, undeclared
-// ones unset; owed plus drawn at most 65,535; labels owed only when nothing is recorded, all declared values are set and the pictures exist". On any memory
-// and any session; the active form is walked twice, for what it declares and for its pictures.
+// ones unset; owed plus drawn at most 65,535; labels owed only when nothing is recorded, all declared values are set and the pictures exist"; and of paper 02, §3,
+// that no counter runs out within the labels owed. On any memory and any session; the active form is walked twice, for what it declares and for its pictures.
 ghost use mathlib.Core.Path.{_≡_};
 ghost use Prim.Native.Nat.{_+_};
 ghost use lib.Dec.{leb};
@@ -47,7 +47,8 @@ fn recording(directory: &[u8]) -> bool
     }
 }
 
-// "labels owed only when nothing is recorded, all declared values are set and the pictures exist"; d is what the active form declares.
+// "labels owed only when nothing is recorded, all declared values are set and the pictures exist", and no counter runs out within them; d is what the active form
+// declares.
 fn owed_ok(
     owed: u16,
     active: u16,
@@ -67,7 +68,11 @@ fn owed_ok(
         return false;
     }
     let set = values::all_set(d, values, counters);
-    both(set, active_pictures(store, links, directory, active))
+    let lasting = counter_steps::lasts(d, counters, owed);
+    both(
+        set,
+        both(lasting, active_pictures(store, links, directory, active)),
+    )
 }
 
 // "owed plus drawn at most 65,535"

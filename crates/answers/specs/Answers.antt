@@ -1,9 +1,9 @@
--- Paper 01's table: "No. | Given exactly when".
+-- Paper 01's table: "No. | Given exactly when"; and 22 of paper 02.
 -- Assumes nothing.
-use Prim.Native.Nat.{ℕ}
-use mathlib.Core.Bool.{Bool, true, false, cond, _&&_, _||_}
+use Prim.Native.Nat.{ℕ, _+_}
+use mathlib.Core.Bool.{Bool, cond, _&&_, _||_}
 use mathlib.Core.List.{List, [], _∷_}
-use lib.Dec.{eqb, leb}
+use lib.Dec.{eqb, leb, ltb}
 use Rattle.answers.specs.declared.Answer.{Answer}
 use Rattle.answers.specs.declared.Answer.the-variants.{
   Taken,
@@ -25,6 +25,7 @@ use Rattle.answers.specs.declared.Answer.the-variants.{
   Illegal,
   Misfit,
   Unset,
+  RunsOut,
   Full,
   Overlong,
   NoneOwed,
@@ -51,6 +52,7 @@ numberOf (Unfit p) = 15
 numberOf Illegal = 16
 numberOf Misfit = 17
 numberOf Unset = 18
+numberOf RunsOut = 22
 numberOf Full = 19
 numberOf Overlong = 20
 numberOf NoneOwed = 21
@@ -76,6 +78,7 @@ placeOf (Unfit p) = p
 placeOf Illegal = 0
 placeOf Misfit = 0
 placeOf Unset = 0
+placeOf RunsOut = 0
 placeOf Full = 0
 placeOf Overlong = 0
 placeOf NoneOwed = 0
@@ -86,6 +89,14 @@ pointing n = eqb n 6 || (eqb n 7 || (leb 12 n && leb n 15))
 
 unfoldable pub points : Answer → Bool
 points a = pointing (numberOf a)
+
+-- the order of the table: by number, but 22 "after 18 and before 19" (paper 02, §3). Twice the number, so that one more fits between two
+abbrev pub rank : ℕ → ℕ
+rank n = cond (eqb n 22) (18 + 19) (n + n)
+
+-- whether answer n stands before answer m in it
+abbrev pub earlier : ℕ → ℕ → Bool
+earlier n m = ltb (rank n) (rank m)
 
 -- 0: "taken"
 unfoldable pub isTaken : Answer → Bool
@@ -99,7 +110,7 @@ pub record Row : Type 0 where
 abbrev pub row : Answer → Bool → Row
 row a b = record { answer = a; applies = b }
 
--- "The lowest number that applies is given": the rows stand in the table's order, and the first that applies is the answer
+-- "The lowest number that applies is given", and 22 before 19: the rows stand in the table's order, and the first that applies is the answer
 unfoldable pub answerOf : List Row → Answer
 answerOf [] = Taken
 answerOf (r ∷ rs) = cond (r .applies) (r .answer) (answerOf rs)

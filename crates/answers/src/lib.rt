@@ -1,11 +1,12 @@
 // The table of answers: one case a row, and its number.
 //
-// "The lowest number that applies is given", and 0 where none does. Each call's rows stand where they are decided, in the table's order; the enum here is what all
-// of them answer with, so that no number is written twice. specs/Answers.antt gives each answer's number and says which row of a table is the answer.
+// "The lowest number that applies is given", and 0 where none does; 22 stands in the table after 18 and before 19 (paper 02, §3). Each call's rows stand where they are
+// decided, in the table's order; the enum here is what all of them answer with, so that no number is written twice. specs/Answers.antt gives each answer's number
+// and says which row of a table is the answer.
 ghost use mathlib.Core.Path.{_≡_};
 ghost use Rattle.answers.specs.Answers.{numberOf, placeOf, points, isTaken};
 
-// One case a row of paper 01's table, in its order; 6, 7 and 12 to 15 with the place in the line that they point to (paper 02, §2).
+// One case a row of the table, in its order; 6, 7 and 12 to 15 with the place in the line that they point to (paper 02, §2).
 pub enum Answer {
     Taken,
     Lengths,
@@ -26,6 +27,7 @@ pub enum Answer {
     Illegal,
     Misfit,
     Unset,
+    RunsOut,
     Full,
     Overlong,
     NoneOwed,
@@ -55,6 +57,7 @@ pub fn number(a: Answer) -> u8
         Answer::Illegal => 16,
         Answer::Misfit => 17,
         Answer::Unset => 18,
+        Answer::RunsOut => 22,
         Answer::Full => 19,
         Answer::Overlong => 20,
         Answer::NoneOwed => 21,

@@ -10,7 +10,7 @@ use Rattle.cases.specs.Calls.{Stand, start, calls}
 use Rattle.cases.specs.Table.{Case, gives, wrongPicture, table, given, expected}
 use Rattle.cases.proofs.Opened.{computed, bars}
 use Rattle.cases.proofs.Laws.{answered, answer-of}
-use Rattle.cases.proofs.Sample.{w0, s0, sound-0, legal-font, opening, eleven}
+use Rattle.cases.proofs.Sample.{w0, s0, sound-0, legal-font, opening, nine, twelve}
 
 -- ---- (8) to (10): one call after opening
 
@@ -49,14 +49,20 @@ together (c ∷ cs) h = λ i. h .0 i ∷ together cs (h .1) i
 rows : Holds table
 unfolding computed bars
 rows = (
-  ap (λ (t : Stand). t .answers) eleven,
+  ap (λ (t : Stand). t .answers) nine,
   (
-    ap (λ (t : Stand). t .listed) eleven,
+    ap (λ (t : Stand). t .listed) nine,
     (
-      ap (λ (t : Stand). t .black) eleven,
+      ap (λ (t : Stand). counterValue (t .session .counters) 0 ∷ []) nine,
       (
-        ap (λ (t : Stand). counterValue (t .session .counters) 0 ∷ []) eleven,
-        (refl, (refl, (refl, (refl, (refl, (refl, (refl, (q80, (q79, (short, (long, (illegal, tt)))))))))))),
+        ap (λ (t : Stand). t .answers) twelve,
+        (
+          ap (λ (t : Stand). t .black) twelve,
+          (
+            ap (λ (t : Stand). counterValue (t .session .counters) 0 ∷ []) twelve,
+            (refl, (refl, (refl, (refl, (refl, (refl, (refl, (q80, (q79, (short, (long, (illegal, tt)))))))))))),
+          ),
+        ),
       ),
     ),
   ),

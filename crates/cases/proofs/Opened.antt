@@ -34,6 +34,7 @@ use Rattle.content_check.specs.Contents as Contents
 use Rattle.activity_check.specs.Activity as Activity
 use Rattle.declarations.specs.Declarations as Declarations
 use Rattle.counters.specs.Counters as Counters
+use Rattle.counter_steps.specs.Steps as Steps
 use Rattle.stored_values.specs.Stored as Stored
 use Rattle.padding.specs.Padding as Padding
 use Rattle.values.specs.Sound as Values
@@ -72,7 +73,7 @@ memory = true
 
 -- values and data
 unfoldable pub values : Bool
-unfolding Elements.modifierAt Elements.heldAt Elements.elementAt Elements.elementsFrom Elements.elements Declarations.nothing Declarations.withVariable Declarations.withCounter Counters.tenTo Counters.noneSet Counters.counterEntered Counters.moved Counters.movedAt Counters.movedAll Padding.enters Padding.padded Stored.field Stored.fieldAt Stored.valueIn Stored.variableIn Stored.variableEntered Stored.unset Stored.fieldSound Counters.counterSound Values.valuesSound Values.allSet Data.partOf Data.pieceOf
+unfolding Elements.modifierAt Elements.heldAt Elements.elementAt Elements.elementsFrom Elements.elements Declarations.nothing Declarations.withVariable Declarations.withCounter Counters.tenTo Counters.noneSet Counters.counterEntered Steps.onward Steps.inside Steps.lasts Steps.steppedAt Steps.movedAt Steps.movedAll Padding.enters Padding.padded Stored.field Stored.fieldAt Stored.valueIn Stored.variableIn Stored.variableEntered Stored.unset Stored.fieldSound Counters.counterSound Values.valuesSound Values.allSet Data.partOf Data.pieceOf
 values = true
 
 -- forms, pictures and fonts

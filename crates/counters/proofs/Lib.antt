@@ -1,2 +1,3 @@
 pub mod Tens
+pub mod Digits
 pub mod Sound

@@ -1,6 +1,6 @@
--- Sound counters: unset, or declared and below 10^w. Entering and moving keep each so.
-use mathlib.Core.Path.{_≡_, refl, ap, _∙_}
-use mathlib.Core.Bool.{Bool, true, false, cond, _&&_, _||_}
+-- Sound counters: unset, or declared and below 10^w. Entering keeps each so.
+use mathlib.Core.Path.{_≡_, refl, sym, ap, _∙_}
+use mathlib.Core.Bool.{Bool, true, false, cond, _&&_, _||_, true≢false}
 use mathlib.Core.Logic.{_⊎_, inl, inr, ⊎-elim}
 use Prim.Native.Nat.{ℕ, _<_}
 use native.Mathlib.Omega.{arith}
@@ -11,11 +11,10 @@ use borrow.Author.Tests.{lt-ltb, eqb-true, ltb-true}
 use Rattle.ground.proofs.Tests.{or-second, and-left, and-right, and-both}
 use Rattle.declarations.specs.declared.Declared.{Declared}
 use Rattle.declarations.specs.declared.Entered.the-variants.{Taken, Undeclared, Unfit}
-use Rattle.declarations.specs.Declarations.{tenth, widthAt, minusAt, stepAt, counterDeclared}
+use Rattle.declarations.specs.Declarations.{tenth, widthAt, counterDeclared}
 use Rattle.declarations.proofs.Tenths.{tenth-same, tenth-other, tenth-none}
 use Rattle.counters.specs.declared.Counters.{Counters}
-use Rattle.counters.specs.Counters.{tenTo, counters, noneSet, counterSet, counterValue, counted, counterEntered, counterSound, movedAll}
-use Rattle.counters.proofs.Tens.{moved-below, moved-each, moved-yes, moved-no}
+use Rattle.counters.specs.Counters.{tenTo, counters, noneSet, counterSet, counterValue, counted, counterEntered, counterSound}
 
 -- ---- one counter
 
@@ -52,31 +51,25 @@ module _ (d : Declared) (c : Counters) (k : ℕ) where
             ltb-true (counterValue c k) (tenTo (widthAt d k)) (and-right (counterDeclared d k) (ltb (counterValue c k) (tenTo (widthAt d k))) r),
           )
 
+  -- a counter that is set is declared and below 10^w
+  pub set-facts : counterSound d c k ≡ true → counterSet c k ≡ true → (counterDeclared d k ≡ true) × (counterValue c k < tenTo (widthAt d k))
+  set-facts h e = ⊎-elim
+      (λ (x : (tenth (c .set) k ≡ 0) × (counterValue c k ≡ 0)). absurd (true≢false (sym e ∙ ap (λ (n : ℕ). eqb n 1) (x .0))))
+      (λ (x : (counterSet c k ≡ true) × (counterDeclared d k ≡ true) × (counterValue c k < tenTo (widthAt d k))). (x .1, x .2))
+      (counter-sound-facts h)
+
 -- with nothing set, counters are sound under any declarations
 pub none-counter : (d : Declared) (k : ℕ) → counterSound d noneSet k ≡ true
 unfolding noneSet
 none-counter d k = counter-blank-sound d noneSet k (tenth-none k) (tenth-none k)
 
--- ---- moved, and entered
-
-moved-set : (d : Declared) (c : Counters) (k : ℕ) → tenth (movedAll d c .set) k ≡ tenth (c .set) k
-unfolding movedAll
-moved-set d c k = refl
+-- ---- entered
 
 counter-same : (d : Declared) (a b : Counters) (k : ℕ) → tenth (a .set) k ≡ tenth (b .set) k → counterValue a k ≡ counterValue b k → counterSound d a k ≡ counterSound d b k
 unfolding counterSound
 counter-same d a b k p q = rw (p, q)
 
 module _ (d : Declared) (c : Counters) (ten : length (c .value) ≡ 10) (old : (k : ℕ) → k < 10 → counterSound d c k ≡ true) where
-  -- "A label call .. moves counters"
-  pub moved-counter : (k : ℕ) → k < 10 → counterSound d (movedAll d c) k ≡ true
-  moved-counter k l = ⊎-elim
-      (λ (w : (tenth (c .set) k ≡ 0) × (counterValue c k ≡ 0)). counter-blank-sound d (movedAll d c) k (moved-set d c k ∙ w .0) (moved-each d c k ten l ∙ (moved-no d c k (rw (w .0)) ∙ w .1)))
-      (λ (w : (counterSet c k ≡ true) × (counterDeclared d k ≡ true) × (counterValue c k < tenTo (widthAt d k))).
-      counter-set-sound d (movedAll d c) k (ap (λ (x : ℕ). eqb x 1) (moved-set d c k) ∙ w .0) (w .1)
-      (rw (moved-each d c k ten l, moved-yes d c k (w .1) (w .0)) (moved-below (widthAt d k) (minusAt d k) (stepAt d k) (counterValue c k))))
-      (counter-sound-facts d c k (old k l))
-
   module _ (n v : ℕ) (flags : length (c .set) ≡ 10) where
     set-counters : Counters
     set-counters = counters (set (c .set) n 1) (set (c .value) n v)

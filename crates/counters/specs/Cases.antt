@@ -1,24 +1,15 @@
 -- The paper's own counter, computed.
 -- Assumes nothing.
 use mathlib.Core.Path.{_≡_, refl}
-use mathlib.Core.Bool.{true, false}
+use mathlib.Core.Bool.{false}
 use Rattle.declarations.specs.declared.Declared.{Declared}
 use Rattle.declarations.specs.declared.Entered.the-variants.{Undeclared, Unfit}
 use Rattle.declarations.specs.Declarations.{nothing, withCounter}
-use Rattle.counters.specs.declared.Counters.{Counters}
-use Rattle.counters.specs.Counters.{tenTo, noneSet, counterValue, counterEntered, moved, movedAt, movedAll}
+use Rattle.counters.specs.Counters.{tenTo, noneSet, counterEntered}
 
 -- C0 of two digits, step +1
 declared : Declared
 declared = withCounter nothing 0 2 false 1
-
--- (1) `?C0,99`, then two labels: C0 ends at 1
-ninetynine : Counters
-ninetynine = counterEntered declared noneSet 0 99 .counters
-
-case-1 : counterValue (movedAll declared (movedAll declared ninetynine)) 0 ≡ 1
-unfolding ninetynine declared withCounter nothing noneSet counterEntered tenTo moved movedAt movedAll
-case-1 = refl
 
 -- "0 to 10^w-1, else 17"; an undeclared counter is 13
 case-17 : counterEntered declared noneSet 0 100 .answer ≡ Unfit
@@ -28,8 +19,3 @@ case-17 = refl
 case-13 : counterEntered declared noneSet 1 5 .answer ≡ Undeclared
 unfolding declared withCounter nothing counterEntered tenTo
 case-13 = refl
-
--- a step back, larger than 10^w
-case-back : moved 2 true 199 50 ≡ 51
-unfolding moved tenTo
-case-back = refl

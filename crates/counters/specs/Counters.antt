@@ -1,7 +1,7 @@
--- "A counter is its w digits; after each label it moves by s modulo 10^w."
+-- "A counter is its w digits"; its value, set or unset.
 -- Assumes nothing.
 use Prim.Native.Char.{code}
-use Prim.Native.Nat.{ℕ, zero, suc, _+_, _-_, _/_, _%_, _^_, min}
+use Prim.Native.Nat.{ℕ, zero, suc, _+_, _/_, _%_, _^_, min}
 use mathlib.Core.Bool.{Bool, cond, _&&_, _||_}
 use mathlib.Core.List.{List, [], _∷_}
 use lib.ListN.{set, replicate}
@@ -12,7 +12,7 @@ use Rattle.counters.specs.declared.Counters.{Counters}
 use Rattle.declarations.specs.declared.Entered.{Entered}
 use Rattle.declarations.specs.declared.Entered.the-variants.{Taken, Undeclared, Unfit}
 use Rattle.counters.specs.declared.Counted.{Counted}
-use Rattle.declarations.specs.Declarations.{tenth, widthAt, minusAt, stepAt, counterDeclared}
+use Rattle.declarations.specs.Declarations.{tenth, widthAt, counterDeclared}
 
 -- 10^w; a width is at most 9
 unfoldable pub tenTo : ℕ → ℕ
@@ -65,22 +65,3 @@ counterEntered d c n v = cond (counterDeclared d n)
 unfoldable pub counterSound : Declared → Counters → ℕ → Bool
 counterSound d c k =
     (eqb (tenth (c .set) k) 0 && eqb (counterValue c k) 0) || (counterSet c k && (counterDeclared d k && ltb (counterValue c k) (tenTo (widthAt d k))))
-
--- ---- moves
-
--- "it moves by s modulo 10^w": by a step forward, or back (minus). The number below 10^w that step more is n again, modulo 10^w
-unfoldable pub moved : ℕ → Bool → ℕ → ℕ → ℕ
-moved w minus step n = cond minus ((n + (tenTo w - step % tenTo w)) % tenTo w) ((n + step) % tenTo w)
-
--- counter k after a label: it moves if it is declared and set
-unfoldable pub movedAt : Declared → Counters → ℕ → ℕ
-movedAt d c k = cond (counterDeclared d k && counterSet c k) (moved (widthAt d k) (minusAt d k) (stepAt d k) (counterValue c k)) (counterValue c k)
-
--- n of them, from the k-th on
-abbrev pub movedFrom : Declared → Counters → ℕ → ℕ → List ℕ → List ℕ
-movedFrom d c zero k out = out
-movedFrom d c (suc n) k out = movedFrom d c n (suc k) (set out k (movedAt d c k))
-
--- "A label call .. moves counters": all ten, each once
-unfoldable pub movedAll : Declared → Counters → Counters
-movedAll d c = counters (c .set) (movedFrom d c 10 0 (c .value))

@@ -1,11 +1,11 @@
-// Counters: their digits, their values, and their move after each label.
+// Counters: their digits and their values.
 //
-// "A counter is its w digits; after each label it moves by s modulo 10^w." The session keeps ten of them, set or unset (then 0), each a number from 0 to
-// 10^w-1; `?Cn,value` sets one, or is refused as undeclared (13) or unfit (17). The definitions (specs/Counters.antt) say this of any numbers, and
-// each function here gives exactly what they say; that entering and moving keep every counter sound is proved in proofs/Sound.antt. What a counter's
-// width and step are, a form declares (crate `declarations`).
+// "A counter is its w digits." The session keeps ten of them, set or unset (then 0), each a number from 0 to 10^w-1; `?Cn,value` sets one, or is refused as
+// undeclared (13) or unfit (17). The definitions (specs/Counters.antt) say this of any numbers, and each function here gives exactly what they say; that
+// entering keeps every counter sound is proved in proofs/Sound.antt. What a counter's width and step are, a form declares (crate `declarations`); how it
+// moves after each label stands in crate `counter_steps`.
 ghost use mathlib.Core.Path.{_≡_};
-ghost use Rattle.counters.specs.Counters.{tenTo, digitAt, digitsOf, noneSet, counterSet, counterValue, counterEntered, counterSound, moved, movedAt, movedAll};
+ghost use Rattle.counters.specs.Counters.{tenTo, digitAt, digitsOf, noneSet, counterSet, counterValue, counterEntered, counterSound};
 use declarations::Declared;
 use declarations::Entered;
 use declarations::tenth_byte;
@@ -39,7 +39,8 @@ const TENS: [u32; 10] = [
     1000000000,
 ];
 
-fn wide32(x: u32) -> usize
+// A counter's number to reckon with.
+pub fn wide32(x: u32) -> usize
     ensures { λ r. ⌜ r ≡ x ⌝ }
 {
     x as usize
@@ -71,20 +72,6 @@ pub fn digits_of(n: u32, w: usize) -> [u8; 9]
         i += 1;
     }
     out
-}
-
-// A counter of w digits moved by a step.
-pub fn move_by(n: u32, w: usize, minus: bool, step: u32) -> u32
-    ensures { λ r. ⌜ r ≡ moved w minus step n ⌝ }
-{
-    let t = ten(w);
-    let a = n % t;
-    let b = step % t;
-    if minus {
-        (a + (t - b)) % t
-    } else {
-        (a + b) % t
-    }
 }
 
 impl Counters {
@@ -148,30 +135,4 @@ pub fn counter_sound(d: Declared, c: Counters, k: usize) -> bool
     let blank = both(tenth_byte(set, k) == 0, n == 0);
     let below = n < ten(d.width_at(k));
     either(blank, both(c.is_set(k), both(d.counter_declared(k), below)))
-}
-
-// Counter k after a label.
-fn moved_at(d: Declared, c: Counters, k: usize) -> u32
-    ensures { λ r. ⌜ r ≡ movedAt d c k ⌝ }
-{
-    let n = c.value_at(k);
-    if both(d.counter_declared(k), c.is_set(k)) {
-        return move_by(n, d.width_at(k), d.minus_at(k), d.step_at(k));
-    }
-    n
-}
-
-// All ten after a label.
-pub fn move_all(d: Declared, c: Counters) -> Counters
-    ensures { λ r. ⌜ r ≡ movedAll d c ⌝ }
-{
-    let set = c.set;
-    let mut value = c.value;
-    let mut i: usize = 0;
-    while i < 10 {
-        let n = moved_at(d, c, i);
-        value[i] = n;
-        i += 1;
-    }
-    Counters { set, value }
 }

@@ -1,1 +1,2 @@
 pub mod Tenths
+pub mod Every

@@ -1,7 +1,7 @@
 -- What a form declares: ten variables and ten counters, each declared or not.
 -- Assumes nothing.
-use Prim.Native.Nat.{ℕ, min}
-use mathlib.Core.Bool.{Bool, cond}
+use Prim.Native.Nat.{ℕ, zero, suc, min}
+use mathlib.Core.Bool.{Bool, true, cond, _&&_}
 use mathlib.Core.List.{List}
 use lib.ListN.{getD, set, replicate}
 use lib.Dec.{ltb, eqb}
@@ -10,6 +10,11 @@ use Rattle.declarations.specs.declared.Declared.{Declared}
 -- "n 0..9": of ten numbers the one at k, 0 at another place
 abbrev pub tenth : List ℕ → ℕ → ℕ
 tenth l k = cond (ltb k 10) (getD l k 0) 0
+
+-- the test holds of n numbers from k on
+abbrev pub every : (ℕ → Bool) → ℕ → ℕ → Bool
+every q zero k = true
+every q (suc n) k = q k && every q n (suc k)
 
 -- "m 1..32": a variable's length, 0 where it is not declared
 abbrev pub lengthAt : Declared → ℕ → ℕ

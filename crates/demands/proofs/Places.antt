@@ -264,7 +264,7 @@ module _ (w : World) (line : List ℕ) (rows : ℕ) where
     placed-within (Values (EnterVariable v)) Nothing h = zero & entered-within rows line (Values (EnterVariable v)) h & zero & tt
     placed-within (Values (EnterCounter c)) Nothing h = zero & entered-within rows line (Values (EnterCounter c)) h & zero & tt
     placed-within (Values Clear) Nothing h = (zero, tt)
-    placed-within (Values (Print p)) Nothing h = zero & zero & zero & tt
+    placed-within (Values (Print p)) Nothing h = zero & zero & zero & zero & tt
     placed-within (Listing ListForms) Nothing h = zero & zero & tt
     placed-within (Listing ListPictures) Nothing h = zero & zero & tt
     placed-within (Listing (ListForm n)) Nothing h = zero & zero & zero & tt

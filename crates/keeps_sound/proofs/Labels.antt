@@ -1,19 +1,22 @@
 -- A label call leads from a sound world to a sound one, and counts each label once.
 -- Assumes nothing.
 use mathlib.Core.Path.{_≡_, refl, _∙_}
-use mathlib.Core.Bool.{Bool, true, false, not, _&&_, _||_, cond, true≢false}
+use mathlib.Core.Bool.{Bool, true, false, not, _&&_, _||_, cond}
 use mathlib.Core.List.{List}
-use Prim.Native.Nat.{ℕ, zero, suc, _+_, _-_}
+use mathlib.Core.Logic.{⊎-elim}
+use Prim.Native.Nat.{ℕ, _+_, _-_}
 use native.Mathlib.Omega.{arith}
-use lib.ListN.{length, set, length-set}
+use native.Mathlib.Decide.{decLe}
+use lib.ListN.{length}
 use lib.Dec.{eqb}
-use borrow.Author.Tests.{eqb-false, leb-true, le-leb}
+use borrow.Author.Tests.{eqb-true, eqb-false, ne-eqb, leb-true, le-leb}
 use Rattle.finding.specs.Find.{recorded}
-use Rattle.declarations.specs.declared.Declared.{Declared}
 use Rattle.counters.specs.declared.Counters.{Counters}
-use Rattle.counters.specs.Counters.{movedAll, movedFrom, movedAt}
+use Rattle.counter_steps.specs.Steps.{lasts, movedAll, SoundCounters}
+use Rattle.counter_steps.proofs.Moves.{moved-flags, moved-values}
+use Rattle.counter_steps.proofs.Job.{lasts-moved}
 use Rattle.values.specs.Sound.{allSet}
-use Rattle.values.proofs.Sound.{all-set-moved, sound-moved}
+use Rattle.values.proofs.Sound.{sound-counters, sound-moved, all-set-moved}
 use Rattle.forms.specs.Form.{declaredOf, picturesStored}
 use Rattle.recording.specs.Judged.{isAt}
 use Rattle.sound.specs.Sound.{numbersOk, sound}
@@ -29,42 +32,48 @@ use Rattle.results.proofs.Answers.{or-none}
 use Rattle.calls.specs.Outcomes.{Drawn, drawnBy, labelled}
 use Rattle.calls.specs.Table.{labelTable}
 use Rattle.calls.specs.Station.{labelPage, labelSession, labelledBy}
-use Rattle.ground.proofs.Tests.{or-second}
+use Rattle.ground.proofs.Tests.{and-left, and-right, either}
 use Rattle.keeps_sound.specs.Good.{Good}
 use Rattle.keeps_sound.specs.Tens.{Tens}
 use Rattle.keeps_sound.proofs.Layers.{good-sound, sound-good}
 use Rattle.keeps_sound.proofs.Tables.{clear, taken-is}
-use Rattle.keeps_sound.proofs.Stored.{activity-facts, facts-activity}
-
--- ---- counters that move
-
-length-from : (d : Declared) (c : Counters) (n k : ℕ) (out : List ℕ) → length (movedFrom d c n k out) ≡ length out
-length-from d c zero k out = refl
-length-from d c (suc n) k out = length-from d c n (suc k) (set out k (movedAt d c k)) ∙ length-set out k (movedAt d c k)
-
-moved-flags : (d : Declared) (c : Counters) → length (movedAll d c .set) ≡ length (c .set)
-unfolding movedAll
-moved-flags d c = refl
-
-moved-values : (d : Declared) (c : Counters) → length (movedAll d c .value) ≡ length (c .value)
-unfolding movedAll
-moved-values d c = length-from d c 10 0 (c .value)
+use Rattle.keeps_sound.proofs.Stored.{activity-facts, facts-activity, owed-none}
 
 -- ---- labels owed
 
-owed-moved : (n : ℕ) (directory bytes values : List ℕ) (c : Counters) → owedOk n directory bytes values c ≡ true → owedOk n directory bytes values (movedAll (declaredOf bytes) c) ≡ true
+-- "While labels are owed, sound now asks the same of each counter with k their number": a label keeps it, with one owed less
+owed-moved :
+    (n : ℕ) (directory bytes values : List ℕ) (c : Counters) → SoundCounters (declaredOf bytes) c → owedOk n directory bytes values c ≡ true →
+    owedOk (n - 1) directory bytes values (movedAll (declaredOf bytes) c) ≡ true
 unfolding owedOk
-owed-moved n directory bytes values c e = rw (all-set-moved (declaredOf bytes) values c) e
+owed-moved n directory bytes values c s e = elim (decLe n 1) [
+  | yes h ↦ let z : n - 1 ≡ 0 = omega arith in rw z
+  | no h ↦
+      let d = declaredOf bytes in
+      let some : eqb n 0 ≡ false = ne-eqb n 0 (λ z. omega arith) in
+      let more : eqb (n - 1) 0 ≡ false = ne-eqb (n - 1) 0 (λ z. omega arith) in
+      let t : (not (isAt (recorded directory)) && (allSet d values c && (lasts d c n && picturesStored directory bytes))) ≡ true = rw some at e in
+      let u = and-right (not (isAt (recorded directory))) (allSet d values c && (lasts d c n && picturesStored directory bytes)) t in
+      let v = and-right (allSet d values c) (lasts d c n && picturesStored directory bytes) u in
+      let last = and-left (lasts d c n) (picturesStored directory bytes) v in
+      rw (
+        more,
+        all-set-moved d c s n (omega arith) last values,
+        lasts-moved d c s n (omega arith) last,
+        and-left (not (isAt (recorded directory))) (allSet d values c && (lasts d c n && picturesStored directory bytes)) t,
+        and-left (allSet d values c) (lasts d c n && picturesStored directory bytes) u,
+        and-right (lasts d c n) (picturesStored directory bytes) v,
+      )
+]
 
-or-left-no : (a b : Bool) → a ≡ false → (a || b) ≡ true → b ≡ true
-or-left-no true b z e = absurd (true≢false z)
-or-left-no false b z e = e
-
--- what holds while labels are owed holds of any number of them
-owed-other : (n m : ℕ) (directory bytes values : List ℕ) (c : Counters) → eqb n 0 ≡ false → owedOk n directory bytes values c ≡ true → owedOk m directory bytes values c ≡ true
+-- "labels owed only when .. all declared values are set"
+pub owed-set : (s : Session) (w : World) → Good s w → (s .owed ≡ 0 → ⊥) → allSet (activeDeclared w s) (w .values) (s .counters) ≡ true
 unfolding owedOk
-owed-other n m directory bytes values c z e =
-    or-second (eqb m 0) _ (or-left-no (eqb n 0) (not (isAt (recorded directory)) && (allSet (declaredOf bytes) values c && picturesStored directory bytes)) z e)
+owed-set s w g some =
+    let o = activity-facts s (w .directory) (activeOf w s) (w .values) (g .activity) .owed in
+    let rest = lasts (activeDeclared w s) (s .counters) (s .owed) && picturesStored (w .directory) (activeOf w s) in
+    and-left (allSet (activeDeclared w s) (w .values) (s .counters)) rest
+    (and-right (not (isAt (recorded (w .directory)))) (allSet (activeDeclared w s) (w .values) (s .counters) && rest) (rw (ne-eqb (s .owed) 0 some) at o))
 
 -- ---- the session of a label
 
@@ -74,6 +83,21 @@ module _ (s : Session) (w : World) (g : Good s w) (t : Tens s) where
 
   abbrev one-less : Session
   one-less = withLabels (counting s c′) (s .owed - 1) (s .drawn + 1)
+
+  -- its ten counters are sound
+  pub sound-ten : SoundCounters (activeDeclared w s) (s .counters)
+  sound-ten =
+      sound-counters (activeDeclared w s) (w .values) (s .counters) (activity-facts s (w .directory) (activeOf w s) (w .values) (g .activity) .fit) (t .flags) (t .values)
+
+  -- with 65,535 drawn none is owed
+  none-owed : (eqb (s .owed) 0 || eqb (s .drawn) 65535) ≡ true → s .owed ≡ 0
+  none-owed e = ⊎-elim
+      (λ (z : eqb (s .owed) 0 ≡ true). eqb-true (s .owed) 0 z)
+      (λ (z : eqb (s .owed) 0 ≡ false).
+      let full : s .drawn ≡ 65535 = eqb-true (s .drawn) 65535 (rw z at e) in
+      let most = leb-true (s .owed + s .drawn) 65535 (activity-facts s (w .directory) (activeOf w s) (w .values) (g .activity) .counts) in
+      omega (arith, full, most))
+      (either (eqb (s .owed) 0))
 
   counted-good : (b : Bool) → (eqb (s .owed) 0 || eqb (s .drawn) 65535) ≡ b → Good (cond b (counting s c′) one-less) w
   unfolding numbersOk
@@ -87,9 +111,9 @@ module _ (s : Session) (w : World) (g : Good s w) (t : Tens s) where
         contents = g .contents;
         activity = facts-activity (counting s c′) (w .directory) (activeOf w s) (w .values) (record {
           form = a .form;
-          fit = sound-moved (activeDeclared w s) (w .values) (s .counters) (a .fit) (t .values);
+          fit = sound-moved (activeDeclared w s) (w .values) (s .counters) (a .fit) sound-ten;
           counts = a .counts;
-          owed = owed-moved (s .owed) (w .directory) (activeOf w s) (w .values) (s .counters) (a .owed);
+          owed = owed-none (counting s c′) (w .directory) (activeOf w s) (w .values) (none-owed e);
         });
       }
   counted-good false e =
@@ -104,9 +128,9 @@ module _ (s : Session) (w : World) (g : Good s w) (t : Tens s) where
         contents = g .contents;
         activity = facts-activity one-less (w .directory) (activeOf w s) (w .values) (record {
           form = a .form;
-          fit = sound-moved (activeDeclared w s) (w .values) (s .counters) (a .fit) (t .values);
+          fit = sound-moved (activeDeclared w s) (w .values) (s .counters) (a .fit) sound-ten;
           counts = le-leb (s .owed - 1 + (s .drawn + 1)) 65535 (omega (arith, leb-true (s .owed + s .drawn) 65535 (a .counts), some));
-          owed = owed-other (s .owed) (s .owed - 1) (w .directory) (activeOf w s) (w .values) c′ z (owed-moved (s .owed) (w .directory) (activeOf w s) (w .values) (s .counters) (a .owed));
+          owed = owed-moved (s .owed) (w .directory) (activeOf w s) (w .values) (s .counters) sound-ten (a .owed);
         });
       }
 

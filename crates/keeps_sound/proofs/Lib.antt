@@ -15,6 +15,7 @@ pub mod OneLine
 pub mod Judging
 pub mod Recording
 pub mod Calls
+pub mod Counters
 pub mod TenCounters
 pub mod Never
 pub mod Always

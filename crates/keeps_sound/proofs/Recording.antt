@@ -22,6 +22,7 @@ use Rattle.store_sound.proofs.Listing.{shelf-at}
 use Rattle.store_sound.proofs.Grow.{append-moved}
 use Rattle.store_sound.proofs.Finish.{finish-moved}
 use Rattle.declarations.specs.declared.Declared.{Declared}
+use Rattle.counter_steps.specs.Steps.{lasts}
 use Rattle.values.specs.Sound.{allSet}
 use Rattle.read.specs.Commands.{readOf}
 use Rattle.grammar.specs.declared.Item.{Item}
@@ -77,7 +78,9 @@ pub recording-owes-none : (s : Session) (w : World) (i : ℕ) → Good s w → r
 unfolding owedOk
 recording-owes-none s w i g e =
     let o = activity-facts s (w .directory) (activeOf w s) (w .values) (g .activity) .owed in
-    none-left (s .owed) (allSet (activeDeclared w s) (w .values) (s .counters) && picturesStored (w .directory) (activeOf w s)) (rw e at o)
+    none-left (s .owed)
+    (allSet (activeDeclared w s) (w .values) (s .counters) && (lasts (activeDeclared w s) (s .counters) (s .owed) && picturesStored (w .directory) (activeOf w s)))
+    (rw e at o)
 
 -- what is recorded so far is a form
 recorded-form : (s : Session) (w : World) (i : ℕ) → Good s w → i < entries (w .directory) → kind (entry (w .directory) i) ≡ 3 → formOk (contentAt w i) ≡ true

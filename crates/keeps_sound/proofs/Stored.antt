@@ -131,7 +131,7 @@ same-held m m′ j e b h =
 abbrev pub bytesIn : Memory → ℕ → List ℕ
 bytesIn m active = activeBytes (m .store) (m .links) (m .directory) active
 
-bytes-none : (m : Memory) (a : ℕ) → a ≡ 65535 → bytesIn m a ≡ []
+pub bytes-none : (m : Memory) (a : ℕ) → a ≡ 65535 → bytesIn m a ≡ []
 unfolding activeBytes
 bytes-none m a e = rw (eq-eqb a 65535 e)
 

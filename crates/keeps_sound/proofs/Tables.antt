@@ -24,6 +24,7 @@ use Rattle.answers.specs.declared.Answer.the-variants.{
   Illegal,
   Misfit,
   Unset,
+  RunsOut,
   Full,
   Overlong,
   NoneOwed,
@@ -62,6 +63,7 @@ taken-is (Unfit p) e = absurd (false≢true e)
 taken-is Illegal e = absurd (false≢true e)
 taken-is Misfit e = absurd (false≢true e)
 taken-is Unset e = absurd (false≢true e)
+taken-is RunsOut e = absurd (false≢true e)
 taken-is Full e = absurd (false≢true e)
 taken-is Overlong e = absurd (false≢true e)
 taken-is NoneOwed e = absurd (false≢true e)

@@ -23,6 +23,7 @@ use Rattle.counters.specs.declared.Counters.{Counters}
 use Rattle.declarations.specs.declared.Entered.the-variants.{Taken as Enters, Undeclared as NotDeclared, Unfit as DoesNotFit}
 use Rattle.declarations.specs.Declarations.{sideAt, lengthAt, variableDeclared}
 use Rattle.counters.specs.Counters.{noneSet, counterEntered}
+use Rattle.counter_steps.specs.Steps.{lasts}
 use Rattle.padding.specs.Padding.{enters, padded}
 use Rattle.stored_values.specs.Stored.{field, stored, variableEntered, unset}
 use Rattle.values.specs.Sound.{valuesSound, allSet}
@@ -43,7 +44,7 @@ use Rattle.forms.specs.Form.{declaredOf, picturesStored}
 use Rattle.sound.specs.Sound.{numbersOk}
 use Rattle.activity_check.specs.Activity.{activeOk, owedOk}
 use Rattle.session.specs.declared.Session.{Session}
-use Rattle.answers.specs.declared.Answer.the-variants.{Taken, Misplaced, Missing, Unset}
+use Rattle.answers.specs.declared.Answer.the-variants.{Taken, Misplaced, Missing, Unset, RunsOut}
 use Rattle.answers.specs.Answers.{numberOf, isTaken, answerOf}
 use Rattle.session.specs.Session.{blank, activated, counting, owing}
 use Rattle.lent.specs.Lent.{World, rowsOf}
@@ -90,9 +91,9 @@ unset-blank d values = sound-none d values
 
 some-owed :
     (n : ℕ) (directory bytes values : List ℕ) (c : Counters) → recorded directory ≡ Nothing → allSet (declaredOf bytes) values c ≡ true →
-    picturesStored directory bytes ≡ true → owedOk n directory bytes values c ≡ true
+    lasts (declaredOf bytes) c n ≡ true → picturesStored directory bytes ≡ true → owedOk n directory bytes values c ≡ true
 unfolding owedOk
-some-owed n directory bytes values c r a p = or-second (eqb n 0) _ (rw (r, a, p))
+some-owed n directory bytes values c r a l p = or-second (eqb n 0) _ (rw (r, a, l, p))
 
 -- ---- the form that FR finds is a stored one: nothing is recorded
 
@@ -191,14 +192,15 @@ module _ (font : List ℕ) (w : World) (s : Session) (line more : List ℕ) (g :
         owed = owed-none s (w .directory) (activeOf w s) (unset (w .values)) none;
       })
 
-  -- P: its pictures are stored [11] and all declared values set [18]
+  -- P: its pictures are stored [11], all declared values set [18], and no counter runs out [22]
   print-owed : (room : ℕ) (p : PrintOf) → recorded (w .directory) ≡ Nothing → answerOf (runRows w s line more room (Values (Print p))) ≡ Taken
       → owedOk (sixteenBits (p .k)) (w .directory) (activeOf w s) (w .values) (s .counters) ≡ true
   unfolding isTaken numberOf
   print-owed room p quiet e =
       let a = clear Missing (not (picturesStored (w .directory) (activeOf w s))) _ refl (clear Misplaced _ _ refl e .1) in
       let b = clear Unset (not (allSet (activeDeclared w s) (w .values) (s .counters))) _ refl (a .1) in
-      some-owed (sixteenBits (p .k)) (w .directory) (activeOf w s) (w .values) (s .counters) quiet (not-false _ (b .0)) (not-false _ (a .0))
+      let l = clear RunsOut (not (lasts (activeDeclared w s) (s .counters) (sixteenBits (p .k)))) _ refl (b .1) in
+      some-owed (sixteenBits (p .k)) (w .directory) (activeOf w s) (w .values) (s .counters) quiet (not-false _ (b .0)) (not-false _ (l .0)) (not-false _ (a .0))
 
   pub keeps-print : (room : ℕ) (p : PrintOf) → recorded (w .directory) ≡ Nothing → readOf (rowsOf w) line ≡ Reads (Values (Print p))
       → answerOf (runRows w s line more room (Values (Print p))) ≡ Taken

@@ -6,7 +6,7 @@ use mathlib.Core.List.{[], _∷_}
 use lib.Dec.{eqb}
 use Rattle.declarations.specs.declared.Declared.{Declared}
 use Rattle.counters.specs.declared.Counters.{Counters}
-use Rattle.counters.specs.Counters.{movedAll}
+use Rattle.counter_steps.specs.Steps.{movedAll}
 use Rattle.session.specs.declared.Session.{Session}
 pub use Rattle.active_form.specs.Active.{noForm}
 
@@ -80,7 +80,7 @@ activated s active = counting (withActive s active) blank
 abbrev pub owing : Session → ℕ → Session
 owing s k = withLabels s k 0
 
--- a label call "moves counters", those that the active form declares
+-- a label call "moves counters", those that the active form declares; one that runs out becomes unset
 abbrev pub moved : Session → Declared → Session
 moved s declared = counting s (movedAll declared (s .counters))
 

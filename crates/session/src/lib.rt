@@ -154,7 +154,7 @@ impl Session {
         ensures { λ r. ⌜ r ≡ moved self declared ⌝ }
     {
         let counters = self.counters;
-        self.counting(counters::move_all(declared, counters))
+        self.counting(counter_steps::move_all(declared, counters))
     }
 
     // "and counts one drawn": one is taken from owed. With none owed, or 65,535 drawn, neither number moves.

@@ -30,7 +30,8 @@ backgroundOk width length background = whiteOutside width length background
 -- crate `content_check`
 
 -- "the active form a stored one; set values fit its declarations, undeclared ones unset; owed plus drawn at most 65,535; labels owed only when nothing is
--- recorded, all declared values are set and the pictures exist" is `activitySound` of crate `activity_check`
+-- recorded, all declared values are set and the pictures exist", and while labels are owed the same of each counter as for P (paper 02, §3), is `activitySound` of
+-- crate `activity_check`
 
 unfoldable pub sound : Session → World → Bool
 sound s w =

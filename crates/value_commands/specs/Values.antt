@@ -9,6 +9,7 @@ use Rattle.declarations.specs.declared.Entered.{Entered}
 use Rattle.declarations.specs.declared.Entered.the-variants.{Taken as Enters, Undeclared as NotDeclared, Unfit as DoesNotFit}
 use Rattle.declarations.specs.Declarations.{variableDeclared, counterDeclared, sideAt, lengthAt, widthAt}
 use Rattle.counters.specs.Counters.{counterEntered, tenTo}
+use Rattle.counter_steps.specs.Steps.{lasts}
 use Rattle.padding.specs.Padding.{enters}
 use Rattle.stored_values.specs.Stored.{variableEntered}
 use Rattle.values.specs.Sound.{allSet}
@@ -18,7 +19,7 @@ use Rattle.grammar.specs.declared.ValueCommand.the-variants.{Variable, Counter,
 use Rattle.forms.specs.Form.{picturesStored}
 use Rattle.session.specs.declared.Session.{Session}
 use Rattle.answers.specs.declared.Answer.{Answer}
-use Rattle.answers.specs.declared.Answer.the-variants.{Taken, Missing, Undeclared, Misfit, Unset}
+use Rattle.answers.specs.declared.Answer.the-variants.{Taken, Missing, Undeclared, Misfit, Unset, RunsOut}
 use Rattle.answers.specs.Answers.{Row, row, answerOf}
 use Rattle.session.specs.Session.{counting, owing}
 use Rattle.lent.specs.Lent.{World}
@@ -37,7 +38,8 @@ abbrev pub textOf : List ℕ → ℕ → ℕ → List ℕ
 textOf line at n = take n (drop (at + 1) line)
 
 -- [13] "variable or counter not declared" and [17] "value does not fit its declaration", each for itself: a variable that is not declared has length 0 and a
--- counter that is not no digit; for P [11] "when the active form draws an erased picture" and [18] "P while a declared value is unset"
+-- counter that is not no digit; for P [11] "when the active form draws an erased picture", [18] "P while a declared value is unset" and
+-- [22] "counter runs out" (paper 02, §3)
 abbrev pub valueRows : World → Session → List ℕ → ValueCommand → List Row
 valueRows w s line (Variable v) =
     row (Undeclared ENTERED-AT) (not (variableDeclared (activeDeclared w s) (v .n)))
@@ -51,6 +53,7 @@ valueRows w s line Clear = []
 valueRows w s line (Print p) =
     row Missing (not (picturesStored (w .directory) (activeOf w s)))
     ∷ row Unset (not (allSet (activeDeclared w s) (w .values) (s .counters)))
+    ∷ row RunsOut (not (lasts (activeDeclared w s) (s .counters) (sixteenBits (p .k))))
     ∷ []
 
 -- `VC` "unsets variables, not counters"

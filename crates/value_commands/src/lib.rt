@@ -114,6 +114,9 @@ fn owe(
     if !values::all_set(d, values, counters) {
         return answered(Answer::Unset, session);
     }
+    if !counter_steps::lasts(d, counters, k) {
+        return answered(Answer::RunsOut, session);
+    }
     taken(session.owing(k))
 }
 

@@ -1,50 +1,25 @@
 -- The values' part of sound: it holds of unset values, and entering, unsetting and moving keep it.
-use mathlib.Core.Path.{_≡_, refl}
-use mathlib.Core.Bool.{Bool, true, false}
+use mathlib.Core.Path.{_≡_}
+use mathlib.Core.Bool.{true}
 use mathlib.Core.List.{List}
-use Prim.Native.Nat.{ℕ, zero, suc, _+_, _-_, _≤_, _<_}
+use Prim.Native.Nat.{ℕ, _≤_, _<_}
 use native.Mathlib.Omega.{arith}
-use native.Mathlib.Decide.{ℕ-discrete}
 use lib.ListN.{length}
 use Rattle.ground.proofs.Tests.{and-left, and-right, and-both}
 use Rattle.declarations.specs.declared.Declared.{Declared}
+use Rattle.declarations.specs.Declarations.{tenth}
+use Rattle.declarations.proofs.Every.{every-at, every-all, every-same}
 use Rattle.counters.specs.declared.Counters.{Counters}
-use Rattle.counters.specs.Counters.{noneSet, counterEntered, counterSound, movedAll}
-use Rattle.counters.proofs.Sound.{none-counter, moved-counter, counted-counter}
+use Rattle.counters.specs.Counters.{noneSet, counterEntered, counterSound}
+use Rattle.counters.proofs.Sound.{none-counter, counted-counter}
+use Rattle.counter_steps.specs.Steps.{lasts, movedAll, SoundCounters}
+use Rattle.counter_steps.proofs.Moves.{moved-sound}
+use Rattle.counter_steps.proofs.Job.{set-kept}
 use Rattle.stored_values.specs.Stored.{fieldAt, variableEntered, unset, fieldSound}
 use Rattle.stored_values.proofs.Fields.{unset-field, entered-field}
-use Rattle.values.specs.Sound.{every, soundAt, valuesSound, setAt, allSet}
-
--- ---- `every`, along a loop over ten
-
-module _ (q : ℕ → Bool) (k : ℕ) where
-  pub every-more : k < 10 → q k ≡ true → every q (10 - k) k ≡ every q (10 - (k + 1)) (k + 1)
-  every-more h e = go (10 - k) (10 - (k + 1)) (k + 1) (omega arith) (omega arith)
-    where
-      go : (a b j : ℕ) → a ≡ suc b → j ≡ suc k → every q a k ≡ every q b j
-      go a b j p r = rw (p, r, e)
-
-  pub every-stop : k < 10 → q k ≡ false → every q (10 - k) k ≡ false
-  every-stop h e = go (10 - k) (10 - (k + 1)) (omega arith)
-    where
-      go : (a b : ℕ) → a ≡ suc b → every q a k ≡ false
-      go a b p = rw (p, e)
-
-  pub every-end : 10 ≤ k → every q (10 - k) k ≡ true
-  every-end h = let e : 10 - k ≡ 0 = omega arith in rw e
+use Rattle.values.specs.Sound.{soundAt, valuesSound, setAt, allSet}
 
 -- ---- ten at a time
-
-every-at : (q : ℕ → Bool) (n i k : ℕ) → every q n i ≡ true → i ≤ k → k < i + n → q k ≡ true
-every-at q zero i k h a b = absurd (omega arith)
-every-at q (suc n) i k h a b = elim (ℕ-discrete i k) [
-  | yes e ↦ rw (← e) (and-left (q i) (every q n (suc i)) h)
-  | no e ↦ every-at q n (suc i) k (and-right (q i) (every q n (suc i)) h) (omega arith) (omega arith)
-]
-
-every-all : (q : ℕ → Bool) (n i : ℕ) → ((k : ℕ) → i ≤ k → k < i + n → q k ≡ true) → every q n i ≡ true
-every-all q zero i f = refl
-every-all q (suc n) i f = and-both (q i) (every q n (suc i)) (f i (omega arith) (omega arith)) (every-all q n (suc i) (λ k a b. f k (omega arith) (omega arith)))
 
 pub sound-at : (d : Declared) (values : List ℕ) (c : Counters) → valuesSound d values c ≡ true → (k : ℕ) → k < 10 → soundAt d values c k ≡ true
 unfolding valuesSound
@@ -78,11 +53,6 @@ module _ (d : Declared) (values : List ℕ) (c : Counters) where
 pub sound-none : (d : Declared) (values : List ℕ) → valuesSound d (unset values) noneSet ≡ true
 sound-none d values = sound-both d (unset values) noneSet (λ k l. unset-field d values k) (λ k l. none-counter d k)
 
--- moving sets and unsets nothing
-pub all-set-moved : (d : Declared) (values : List ℕ) (c : Counters) → allSet d values (movedAll d c) ≡ allSet d values c
-unfolding allSet movedAll
-all-set-moved d values c = refl
-
 -- `VC` keeps the counters
 pub sound-unset : (d : Declared) (values : List ℕ) (c : Counters) → valuesSound d values c ≡ true → valuesSound d (unset values) c ≡ true
 sound-unset d values c h = sound-both d (unset values) c (λ k l. unset-field d values k) (counter-at d values c h)
@@ -93,12 +63,24 @@ pub sound-entered : (d : Declared) (values : List ℕ) (c : Counters) (n : ℕ) 
 sound-entered d values c n text h whole =
     sound-both d (variableEntered d n text values .values) c (entered-field d values n text whole (field-at d values c h)) (counter-at d values c h)
 
-module _ (d : Declared) (values : List ℕ) (c : Counters) (sound : valuesSound d values c ≡ true) (ten : length (c .value) ≡ 10) where
-  -- "A label call .. moves counters"
-  pub sound-moved : valuesSound d values (movedAll d c) ≡ true
-  sound-moved = sound-both d values (movedAll d c) (field-at d values c sound) (moved-counter d c ten (counter-at d values c sound))
+-- `?C`, taken or refused
+pub sound-counted : (d : Declared) (values : List ℕ) (c : Counters) → valuesSound d values c ≡ true → length (c .value) ≡ 10 → (n v : ℕ) → length (c .set) ≡ 10
+    → valuesSound d values (counterEntered d c n v .counters) ≡ true
+sound-counted d values c sound ten n v flags =
+    sound-both d values (counterEntered d c n v .counters) (field-at d values c sound) (counted-counter d c ten (counter-at d values c sound) n v flags)
 
-  -- `?C`, taken or refused
-  pub sound-counted : (n v : ℕ) → length (c .set) ≡ 10 → valuesSound d values (counterEntered d c n v .counters) ≡ true
-  sound-counted n v flags =
-      sound-both d values (counterEntered d c n v .counters) (field-at d values c sound) (counted-counter d c ten (counter-at d values c sound) n v flags)
+-- ---- a label
+
+pub sound-counters : (d : Declared) (values : List ℕ) (c : Counters) → valuesSound d values c ≡ true → length (c .set) ≡ 10 → length (c .value) ≡ 10 → SoundCounters d c
+sound-counters d values c sound flags ten = record { flags = flags; values = ten; each = counter-at d values c sound }
+
+-- "A label call .. moves counters", and unsets those that run out
+pub sound-moved : (d : Declared) (values : List ℕ) (c : Counters) → valuesSound d values c ≡ true → SoundCounters d c → valuesSound d values (movedAll d c) ≡ true
+sound-moved d values c sound s = sound-both d values (movedAll d c) (field-at d values c sound) (moved-sound d c s .each)
+
+-- with two labels or more to come, none runs out: all that were set are set
+pub all-set-moved : (d : Declared) (c : Counters) → SoundCounters d c → (n : ℕ) → 2 ≤ n → lasts d c n ≡ true → (values : List ℕ)
+    → allSet d values (movedAll d c) ≡ allSet d values c
+unfolding allSet
+all-set-moved d c s n two last values = every-same (setAt d values (movedAll d c)) (setAt d values c) 10 0 (λ k a b.
+    let e : tenth (movedAll d c .set) k ≡ tenth (c .set) k = set-kept d c s n two last k (omega arith) in rw e)

@@ -1,18 +1,13 @@
 -- Sound's clauses on values: "set values fit its declarations, undeclared ones unset", and "all declared values are set".
 -- Assumes nothing.
-use Prim.Native.Nat.{ℕ, zero, suc}
-use mathlib.Core.Bool.{Bool, true, _&&_, _||_, not}
+use Prim.Native.Nat.{ℕ}
+use mathlib.Core.Bool.{Bool, _&&_, _||_, not}
 use mathlib.Core.List.{List}
 use Rattle.declarations.specs.declared.Declared.{Declared}
-use Rattle.declarations.specs.Declarations.{variableDeclared, counterDeclared}
+use Rattle.declarations.specs.Declarations.{every, variableDeclared, counterDeclared}
 use Rattle.counters.specs.declared.Counters.{Counters}
 use Rattle.counters.specs.Counters.{counterSet, counterSound}
 use Rattle.stored_values.specs.Stored.{fieldAt, fieldSet, fieldSound}
-
--- the test holds of n numbers from k on
-abbrev pub every : (ℕ → Bool) → ℕ → ℕ → Bool
-every q zero k = true
-every q (suc n) k = q k && every q n (suc k)
 
 -- variable k and counter k
 abbrev pub soundAt : Declared → List ℕ → Counters → ℕ → Bool

@@ -30,6 +30,7 @@ use Rattle.answers.specs.declared.Answer.the-variants.{
   Illegal,
   Misfit,
   Unset,
+  RunsOut,
   Full,
   Overlong,
   NoneOwed,
@@ -73,6 +74,7 @@ reason-short (Unfit p) = omega arith
 reason-short Illegal = omega arith
 reason-short Misfit = omega arith
 reason-short Unset = omega arith
+reason-short RunsOut = omega arith
 reason-short Full = omega arith
 reason-short Overlong = omega arith
 reason-short NoneOwed = omega arith

@@ -34,6 +34,7 @@ use Rattle.answers.specs.declared.Answer.the-variants.{
   Illegal,
   Misfit,
   Unset,
+  RunsOut,
   Full,
   Overlong,
   NoneOwed,
@@ -85,7 +86,8 @@ table =
     line Unset ++ (
     line Full ++ (
     line Overlong ++ (
-    line NoneOwed)))))))))))))))))))))
+    line NoneOwed ++ (
+    line RunsOut))))))))))))))))))))))
 
 pub words-line : (a : Answer) → lineOf (numberOf a) table ≡ wordsOf a
 unfolding table line wordsOf numberOf fromLine run
@@ -108,6 +110,7 @@ words-line (Unfit p) = refl
 words-line Illegal = refl
 words-line Misfit = refl
 words-line Unset = refl
+words-line RunsOut = refl
 words-line Full = refl
 words-line Overlong = refl
 words-line NoneOwed = refl

@@ -28,6 +28,7 @@ use Rattle.answers.specs.declared.Answer.the-variants.{
   Illegal,
   Misfit,
   Unset,
+  RunsOut,
   Full,
   Overlong,
   NoneOwed,
@@ -54,6 +55,7 @@ wordsOf (Unfit p) = bytes "unfit data"
 wordsOf Illegal = bytes "not a legal picture"
 wordsOf Misfit = bytes "value does not fit its declaration"
 wordsOf Unset = bytes "P while a declared value is unset"
+wordsOf RunsOut = bytes "a counter runs out"
 wordsOf Full = bytes "no empty entry, or too few free portions"
 wordsOf Overlong = bytes "the listing exceeds the output"
 wordsOf NoneOwed = bytes "no label is owed"

@@ -26,7 +26,7 @@ use sentences::put_numbered;
 use writing::put_decimal;
 
 // The words of each answer on a line of its own, in the order of their numbers.
-const WORDS: [u8; 620] = *b"\
+const WORDS: [u8; 639] = *b"\
     taken\n\
     a lent length is wrong\n\
     the font breaks its rules\n\
@@ -48,7 +48,8 @@ const WORDS: [u8; 620] = *b"\
     P while a declared value is unset\n\
     no empty entry, or too few free portions\n\
     the listing exceeds the output\n\
-    no label is owed\n";
+    no label is owed\n\
+    a counter runs out\n";
 
 // How many lines are still to be passed after a byte.
 fn passed(b: u8, left: usize) -> usize

@@ -2,8 +2,9 @@ use Prim.Native.Nat.{_-_}
 use mathlib.Core.Path.{_≡_, sym, _∙_, refl}
 use denote.Ref.{now}
 use native.Mathlib.Omega.{arith}
-use Rattle.values.specs.Sound.{every, setAt, allSet}
-use Rattle.values.proofs.Sound.{every-more, every-stop, every-end}
+use Rattle.declarations.specs.Declarations.{every}
+use Rattle.values.specs.Sound.{setAt, allSet}
+use Rattle.declarations.proofs.Every.{every-more, every-stop, every-end}
 use borrow.Author.Needs.{needs}
 use Rattle.values.proofs.all_set.Statement.{statement}
 use Rattle.values.proofs.all_set.Tie as tie

@@ -2,8 +2,9 @@ use Prim.Native.Nat.{_-_}
 use mathlib.Core.Path.{_≡_, sym, _∙_, refl}
 use denote.Ref.{now}
 use native.Mathlib.Omega.{arith}
-use Rattle.values.specs.Sound.{every, soundAt, valuesSound}
-use Rattle.values.proofs.Sound.{every-more, every-stop, every-end}
+use Rattle.declarations.specs.Declarations.{every}
+use Rattle.values.specs.Sound.{soundAt, valuesSound}
+use Rattle.declarations.proofs.Every.{every-more, every-stop, every-end}
 use borrow.Author.Needs.{needs}
 use Rattle.values.proofs.values_sound.Statement.{statement}
 use Rattle.values.proofs.values_sound.Tie as tie
