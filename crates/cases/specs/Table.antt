@@ -87,7 +87,7 @@ wrongPicture = header ++ (192 ∷ 195 ∷ 0 ∷ 15 ∷ 194 ∷ 255 ∷ [])
 abbrev pub sampleSession : List Part
 sampleSession = Reads 9 sample ∷ []
 
--- and on from there: its one label is taken and drawn, "the counter becomes unset", and the next P is refused for that
+-- and on from there: P1 is taken and its label drawn, "the counter becomes unset", and the next P is refused for that
 abbrev pub lastLabel : List Part
 lastLabel = Reads 9 sample ∷ Reads 1 (bytes "P1\n") ∷ Draws 1 ∷ Reads 1 (bytes "P1\n") ∷ []
 

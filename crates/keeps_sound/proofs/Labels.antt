@@ -1,7 +1,7 @@
 -- A label call leads from a sound world to a sound one, and counts each label once.
 -- Assumes nothing.
 use mathlib.Core.Path.{_≡_, refl, _∙_}
-use mathlib.Core.Bool.{Bool, true, false, not, _&&_, _||_, cond}
+use mathlib.Core.Bool.{Bool, true, false, not, _||_, cond}
 use mathlib.Core.List.{List}
 use mathlib.Core.Logic.{⊎-elim}
 use Prim.Native.Nat.{ℕ, _+_, _-_}
@@ -9,16 +9,14 @@ use native.Mathlib.Omega.{arith}
 use native.Mathlib.Decide.{decLe}
 use lib.ListN.{length}
 use lib.Dec.{eqb}
-use borrow.Author.Tests.{eqb-true, eqb-false, ne-eqb, leb-true, le-leb}
-use Rattle.finding.specs.Find.{recorded}
+use borrow.Author.Tests.{eqb-true, eqb-false, leb-true, le-leb}
 use Rattle.counters.specs.declared.Counters.{Counters}
 use Rattle.counter_steps.specs.Steps.{lasts, movedAll, SoundCounters}
 use Rattle.counter_steps.proofs.Moves.{moved-flags, moved-values}
 use Rattle.counter_steps.proofs.Job.{lasts-moved}
 use Rattle.values.specs.Sound.{allSet}
 use Rattle.values.proofs.Sound.{sound-counters, sound-moved, all-set-moved}
-use Rattle.forms.specs.Form.{declaredOf, picturesStored}
-use Rattle.recording.specs.Judged.{isAt}
+use Rattle.forms.specs.Form.{declaredOf}
 use Rattle.sound.specs.Sound.{numbersOk, sound}
 use Rattle.activity_check.specs.Activity.{owedOk}
 use Rattle.session.specs.declared.Session.{Session}
@@ -32,12 +30,12 @@ use Rattle.results.proofs.Answers.{or-none}
 use Rattle.calls.specs.Outcomes.{Drawn, drawnBy, labelled}
 use Rattle.calls.specs.Table.{labelTable}
 use Rattle.calls.specs.Station.{labelPage, labelSession, labelledBy}
-use Rattle.ground.proofs.Tests.{and-left, and-right, either}
+use Rattle.ground.proofs.Tests.{either}
 use Rattle.keeps_sound.specs.Good.{Good}
 use Rattle.keeps_sound.specs.Tens.{Tens}
 use Rattle.keeps_sound.proofs.Layers.{good-sound, sound-good}
 use Rattle.keeps_sound.proofs.Tables.{clear, taken-is}
-use Rattle.keeps_sound.proofs.Stored.{activity-facts, facts-activity, owed-none}
+use Rattle.keeps_sound.proofs.Stored.{activity-facts, facts-activity, owed-none, owed-facts, facts-owed}
 
 -- ---- labels owed
 
@@ -49,31 +47,20 @@ unfolding owedOk
 owed-moved n directory bytes values c s e = elim (decLe n 1) [
   | yes h ↦ let z : n - 1 ≡ 0 = omega arith in rw z
   | no h ↦
-      let d = declaredOf bytes in
-      let some : eqb n 0 ≡ false = ne-eqb n 0 (λ z. omega arith) in
-      let more : eqb (n - 1) 0 ≡ false = ne-eqb (n - 1) 0 (λ z. omega arith) in
-      let t : (not (isAt (recorded directory)) && (allSet d values c && (lasts d c n && picturesStored directory bytes))) ≡ true = rw some at e in
-      let u = and-right (not (isAt (recorded directory))) (allSet d values c && (lasts d c n && picturesStored directory bytes)) t in
-      let v = and-right (allSet d values c) (lasts d c n && picturesStored directory bytes) u in
-      let last = and-left (lasts d c n) (picturesStored directory bytes) v in
-      rw (
-        more,
-        all-set-moved d c s n (omega arith) last values,
-        lasts-moved d c s n (omega arith) last,
-        and-left (not (isAt (recorded directory))) (allSet d values c && (lasts d c n && picturesStored directory bytes)) t,
-        and-left (allSet d values c) (lasts d c n && picturesStored directory bytes) u,
-        and-right (lasts d c n) (picturesStored directory bytes) v,
-      )
+      let o = owed-facts n directory bytes values c e (λ z. omega arith) in
+      facts-owed (n - 1) directory bytes values (movedAll (declaredOf bytes) c) (record {
+        quiet = o .quiet;
+        set = all-set-moved (declaredOf bytes) c s n (omega arith) (o .lasts) values ∙ o .set;
+        lasts = lasts-moved (declaredOf bytes) c s n (omega arith) (o .lasts);
+        pictures = o .pictures;
+      })
 ]
 
 -- "labels owed only when .. all declared values are set"
 pub owed-set : (s : Session) (w : World) → Good s w → (s .owed ≡ 0 → ⊥) → allSet (activeDeclared w s) (w .values) (s .counters) ≡ true
-unfolding owedOk
 owed-set s w g some =
-    let o = activity-facts s (w .directory) (activeOf w s) (w .values) (g .activity) .owed in
-    let rest = lasts (activeDeclared w s) (s .counters) (s .owed) && picturesStored (w .directory) (activeOf w s) in
-    and-left (allSet (activeDeclared w s) (w .values) (s .counters)) rest
-    (and-right (not (isAt (recorded (w .directory)))) (allSet (activeDeclared w s) (w .values) (s .counters) && rest) (rw (ne-eqb (s .owed) 0 some) at o))
+    let a = activity-facts s (w .directory) (activeOf w s) (w .values) (g .activity) in
+    owed-facts (s .owed) (w .directory) (activeOf w s) (w .values) (s .counters) (a .owed) some .set
 
 -- ---- the session of a label
 

@@ -1,14 +1,16 @@
 -- While a form is recorded: a line is kept behind it, FE ends it.
 -- Assumes nothing.
 use mathlib.Core.Path.{_≡_, refl, sym, ap, _∙_}
-use mathlib.Core.Bool.{Bool, true, false, _&&_, _||_, false≢true, cond}
+use mathlib.Core.Bool.{Bool, true, false, not, _&&_, false≢true, cond}
 use mathlib.Core.List.{List, [], _∷_, _++_}
 use Prim.Native.Nat.{ℕ, _≤_, _<_}
 use native.Mathlib.Omega.{arith}
+use native.Mathlib.Decide.{ℕ-discrete}
 use lib.ListN.{length, length-append}
 use lib.Dec.{eqb, leb}
 use borrow.Author.Tests.{eq-eqb, eqb-true, le-leb}
 use Rattle.cells.proofs.Scan.{lowest-passes}
+use Rattle.finding.specs.declared.Found.{Found}
 use Rattle.finding.specs.declared.Found.the-variants.{At}
 use Rattle.store.specs.Entry.{entries, entry, kind, name}
 use Rattle.finding.specs.Find.{isRecording, recorded}
@@ -22,8 +24,6 @@ use Rattle.store_sound.proofs.Listing.{shelf-at}
 use Rattle.store_sound.proofs.Grow.{append-moved}
 use Rattle.store_sound.proofs.Finish.{finish-moved}
 use Rattle.declarations.specs.declared.Declared.{Declared}
-use Rattle.counter_steps.specs.Steps.{lasts}
-use Rattle.values.specs.Sound.{allSet}
 use Rattle.read.specs.Commands.{readOf}
 use Rattle.grammar.specs.declared.Item.{Item}
 use Rattle.grammar.specs.declared.Command.{Command}
@@ -36,16 +36,15 @@ use Rattle.normal.proofs.Short.{normal-short}
 use Rattle.recording.specs.declared.Verdict.{Verdict}
 use Rattle.recording.specs.declared.Verdict.the-variants.{Taken as Fine, Again as Before, Undeclared as Unknown, Past as Reaches, Unfit as Wrong}
 use Rattle.kept_line.specs.declared.Stored.the-variants.{Holds, Nothing as NoItem}
-use Rattle.recording.specs.Judged.{judged, isTaken as isFine}
-use Rattle.forms.specs.Form.{formOk, declaredOf, takesStored, takes, picturesStored}
+use Rattle.recording.specs.Judged.{isAt, judged, isTaken as isFine}
+use Rattle.forms.specs.Form.{formOk, declaredOf, takesStored, takes}
 use Rattle.kept_line.specs.Held.{itemIn, heldRead}
 use Rattle.forms.proofs.Growing.{formOk-grows}
-use Rattle.activity_check.specs.Activity.{owedOk}
 use Rattle.session.specs.declared.Session.{Session}
 use Rattle.answers.specs.declared.Answer.the-variants.{Taken, Misplaced, Missing, Again, Undeclared, Past, Unfit, Full}
 use Rattle.answers.specs.Answers.{Row, isTaken, numberOf, answerOf}
 use Rattle.lent.specs.Lent.{World, rowsOf}
-use Rattle.session.specs.Active.{activeOf, activeDeclared}
+use Rattle.session.specs.Active.{activeOf}
 use Rattle.results.specs.World.{memoryOf, contentAt}
 use Rattle.item_commands.specs.Items.{fitRows, verdictAnswer}
 use Rattle.item_commands.proofs.First.{first-verdict}
@@ -56,7 +55,7 @@ use Rattle.keeps_sound.specs.Good.{Good}
 use Rattle.keeps_sound.proofs.Tables.{clear, not-no}
 use Rattle.keeps_sound.proofs.OneLine.{normal-inside}
 use Rattle.keeps_sound.proofs.Judging.{normal-judged}
-use Rattle.keeps_sound.proofs.Stored.{heldOk, contents-at, activity-facts, good-moved}
+use Rattle.keeps_sound.proofs.Stored.{heldOk, contents-at, activity-facts, owed-facts, good-moved}
 
 -- ---- the form that is recorded
 
@@ -66,21 +65,17 @@ recorded-is directory i e =
     let t : isRecording directory i ≡ true = ap (isRecording directory) (sym (a .0)) ∙ lowest-passes (isRecording directory) (entries directory) (omega (arith, a .0, a .1)) in
     (a .1, eqb-true _ 3 t)
 
-none-left : (n : ℕ) (b : Bool) → (eqb n 0 || (false && b)) ≡ true → n ≡ 0
-none-left n b h = go (eqb n 0) refl h
-  where
-    go : (t : Bool) → eqb n 0 ≡ t → (t || false) ≡ true → n ≡ 0
-    go true e k = eqb-true n 0 e
-    go false e k = absurd (false≢true k)
-
 -- "labels owed only when nothing is recorded"
 pub recording-owes-none : (s : Session) (w : World) (i : ℕ) → Good s w → recorded (w .directory) ≡ At i → s .owed ≡ 0
-unfolding owedOk
 recording-owes-none s w i g e =
-    let o = activity-facts s (w .directory) (activeOf w s) (w .values) (g .activity) .owed in
-    none-left (s .owed)
-    (allSet (activeDeclared w s) (w .values) (s .counters) && (lasts (activeDeclared w s) (s .counters) (s .owed) && picturesStored (w .directory) (activeOf w s)))
-    (rw e at o)
+    let a = activity-facts s (w .directory) (activeOf w s) (w .values) (g .activity) in
+    elim (ℕ-discrete (s .owed) 0) [
+      | yes z ↦ z
+      | no some ↦ absurd
+          (false≢true
+          (sym (ap (λ (f : Found). not (isAt f)) e)
+          ∙ owed-facts (s .owed) (w .directory) (activeOf w s) (w .values) (s .counters) (a .owed) some .quiet))
+    ]
 
 -- what is recorded so far is a form
 recorded-form : (s : Session) (w : World) (i : ℕ) → Good s w → i < entries (w .directory) → kind (entry (w .directory) i) ≡ 3 → formOk (contentAt w i) ≡ true

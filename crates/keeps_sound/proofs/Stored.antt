@@ -12,6 +12,7 @@ use borrow.Author.Tests.{eq-eqb, ne-eqb, eqb-true, leb-true, leb-false, le-ltb}
 use Rattle.cells.specs.Cell.{cell}
 use Rattle.cells.proofs.Counts.{all-at, all-of}
 use Rattle.store.specs.Entry.{entries, entry, kind, ofKind}
+use Rattle.finding.specs.Find.{recorded}
 use Rattle.contents.specs.Content.{contentOf}
 use Rattle.memory.specs.Memory.{Memory}
 use Rattle.store_sound.specs.Sound.{lentOk, storeSound}
@@ -21,9 +22,13 @@ use Rattle.store_sound.proofs.Listing.{shelf-at}
 use Rattle.store_sound.proofs.Moving.{Moved, moved-other, moved-here}
 use Rattle.pcx.specs.Rules.{legal}
 use Rattle.stored_values.specs.Stored.{unset}
+use Rattle.counters.specs.declared.Counters.{Counters}
 use Rattle.counters.specs.Counters.{noneSet}
+use Rattle.counter_steps.specs.Steps.{lasts}
+use Rattle.values.specs.Sound.{allSet}
 use Rattle.values.proofs.Sound.{sound-none}
-use Rattle.forms.specs.Form.{formOk, declaredOf}
+use Rattle.forms.specs.Form.{formOk, declaredOf, picturesStored}
+use Rattle.recording.specs.Judged.{isAt}
 use Rattle.sound.specs.Sound.{numbersOk, activeBytes}
 use Rattle.content_check.specs.Contents.{contentOk, contentsOk}
 use Rattle.activity_check.specs.Activity.{activeOk, valuesOk, countsOk, owedOk, activitySound}
@@ -32,7 +37,7 @@ use Rattle.session.specs.Session.{activated}
 use Rattle.lent.specs.Lent.{World, pageWrong, storeWrong, lengthsWrong}
 use Rattle.results.specs.World.{memoryOf, withMemory, unsetIn}
 use Rattle.results.proofs.Answers.{or-none}
-use Rattle.ground.proofs.Tests.{same?, and-left, and-right, and-both, either}
+use Rattle.ground.proofs.Tests.{same?, or-second, and-left, and-right, and-both, either}
 use Rattle.keeps_sound.specs.Good.{Good}
 
 -- ---- contents
@@ -98,6 +103,33 @@ module _ (s : Session) (directory bytes values : List ℕ) where
   pub owed-none : s .owed ≡ 0 → owedOk (s .owed) directory bytes values (s .counters) ≡ true
   unfolding owedOk
   owed-none z = rw (eq-eqb (s .owed) 0 z)
+
+-- what labels that are owed ask for
+module _ (n : ℕ) (directory bytes values : List ℕ) (c : Counters) where
+  pub record Owed : Type 0 where
+    pub quiet : not (isAt (recorded directory)) ≡ true
+    pub set : allSet (declaredOf bytes) values c ≡ true
+    pub lasts : lasts (declaredOf bytes) c n ≡ true
+    pub pictures : picturesStored directory bytes ≡ true
+
+  pub owed-facts : owedOk n directory bytes values c ≡ true → (n ≡ 0 → ⊥) → Owed
+  unfolding owedOk
+  owed-facts e some =
+      let d = declaredOf bytes in
+      let rest = lasts d c n && picturesStored directory bytes in
+      let t : (not (isAt (recorded directory)) && (allSet d values c && rest)) ≡ true = rw (ne-eqb n 0 some) at e in
+      let u = and-right (not (isAt (recorded directory))) (allSet d values c && rest) t in
+      let v = and-right (allSet d values c) rest u in
+      record {
+        quiet = and-left (not (isAt (recorded directory))) (allSet d values c && rest) t;
+        set = and-left (allSet d values c) rest u;
+        lasts = and-left (lasts d c n) (picturesStored directory bytes) v;
+        pictures = and-right (lasts d c n) (picturesStored directory bytes) v;
+      }
+
+  pub facts-owed : Owed → owedOk n directory bytes values c ≡ true
+  unfolding owedOk
+  facts-owed o = or-second (eqb n 0) _ (rw (o .quiet, o .set, o .lasts, o .pictures))
 
 -- past the end no entry has a kind
 kind-past : (directory : List ℕ) (i : ℕ) → length directory ≤ i * 16 → kind (entry directory i) ≡ 0

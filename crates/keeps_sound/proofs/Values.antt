@@ -19,7 +19,6 @@ use Rattle.store.specs.Entry.{entries, entry, kind, ofKind}
 use Rattle.finding.specs.Find.{isRecording, recorded, sameName, titled, titledAt}
 use Rattle.finding.proofs.Finding.{at-says, nothing-says}
 use Rattle.declarations.specs.declared.Declared.{Declared}
-use Rattle.counters.specs.declared.Counters.{Counters}
 use Rattle.declarations.specs.declared.Entered.the-variants.{Taken as Enters, Undeclared as NotDeclared, Unfit as DoesNotFit}
 use Rattle.declarations.specs.Declarations.{sideAt, lengthAt, variableDeclared}
 use Rattle.counters.specs.Counters.{noneSet, counterEntered}
@@ -40,7 +39,8 @@ use Rattle.grammar.specs.declared.ListingCommand.the-variants.{Forms as ListFor
 use Rattle.read.specs.declared.Read.the-variants.{Taken as Reads}
 use Rattle.read.specs.Commands.{readOf}
 use Rattle.parts.specs.Names.{packedOf}
-use Rattle.forms.specs.Form.{declaredOf, picturesStored}
+use Rattle.forms.specs.Form.{picturesStored}
+use Rattle.recording.specs.Judged.{isAt}
 use Rattle.sound.specs.Sound.{numbersOk}
 use Rattle.activity_check.specs.Activity.{activeOk, owedOk}
 use Rattle.session.specs.declared.Session.{Session}
@@ -62,7 +62,7 @@ use Rattle.keeps_sound.specs.Good.{Good}
 use Rattle.keeps_sound.specs.Tens.{Tens}
 use Rattle.keeps_sound.proofs.Layers.{first-of}
 use Rattle.keeps_sound.proofs.Facts.{lent-facts, numbers-facts}
-use Rattle.keeps_sound.proofs.Stored.{Active, activity-facts, facts-activity, owed-none, good-ended}
+use Rattle.keeps_sound.proofs.Stored.{Active, activity-facts, facts-activity, owed-none, facts-owed, good-ended}
 use Rattle.keeps_sound.proofs.Tables.{clear}
 use Rattle.keeps_sound.proofs.Opening.{white-zeros}
 use Rattle.keeps_sound.proofs.Numbers.{background-good}
@@ -86,14 +86,6 @@ length-entered d n text values = go (variableDeclared d n) (enters (sideAt d n) 
 unset-blank : (d : Declared) (values : List ℕ) → valuesSound d (unset values) blank ≡ true
 unfolding noneSet
 unset-blank d values = sound-none d values
-
--- ---- what labels that are owed ask for
-
-some-owed :
-    (n : ℕ) (directory bytes values : List ℕ) (c : Counters) → recorded directory ≡ Nothing → allSet (declaredOf bytes) values c ≡ true →
-    lasts (declaredOf bytes) c n ≡ true → picturesStored directory bytes ≡ true → owedOk n directory bytes values c ≡ true
-unfolding owedOk
-some-owed n directory bytes values c r a l p = or-second (eqb n 0) _ (rw (r, a, l, p))
 
 -- ---- the form that FR finds is a stored one: nothing is recorded
 
@@ -200,7 +192,12 @@ module _ (font : List ℕ) (w : World) (s : Session) (line more : List ℕ) (g :
       let a = clear Missing (not (picturesStored (w .directory) (activeOf w s))) _ refl (clear Misplaced _ _ refl e .1) in
       let b = clear Unset (not (allSet (activeDeclared w s) (w .values) (s .counters))) _ refl (a .1) in
       let l = clear RunsOut (not (lasts (activeDeclared w s) (s .counters) (sixteenBits (p .k)))) _ refl (b .1) in
-      some-owed (sixteenBits (p .k)) (w .directory) (activeOf w s) (w .values) (s .counters) quiet (not-false _ (b .0)) (not-false _ (l .0)) (not-false _ (a .0))
+      facts-owed (sixteenBits (p .k)) (w .directory) (activeOf w s) (w .values) (s .counters) (record {
+        quiet = ap (λ (f : Found). not (isAt f)) quiet;
+        set = not-false _ (b .0);
+        lasts = not-false _ (l .0);
+        pictures = not-false _ (a .0);
+      })
 
   pub keeps-print : (room : ℕ) (p : PrintOf) → recorded (w .directory) ≡ Nothing → readOf (rowsOf w) line ≡ Reads (Values (Print p))
       → answerOf (runRows w s line more room (Values (Print p))) ≡ Taken
