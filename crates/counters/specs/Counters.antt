@@ -25,10 +25,6 @@ unfoldable pub digits : ℕ → ℕ → List ℕ
 digits zero n = []
 digits (suc w) n = (code "0" + n / 10 ^ w % 10) ∷ digits w n
 
--- serves the code alone: the digit that stands before k others
-abbrev pub digitAt : ℕ → ℕ → ℕ
-digitAt n k = code "0" + n / tenTo k % 10
-
 -- serves the code alone: the w digits at the front of nine bytes, zeros behind
 unfoldable pub digitsOf : ℕ → ℕ → List ℕ
 digitsOf n w = sets (replicate 9 0) 0 (digits (min w 9) n)

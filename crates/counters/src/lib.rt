@@ -5,13 +5,12 @@
 // entering keeps every counter sound is proved in proofs/Sound.antt. What a counter's width and step are, a form declares (crate `declarations`); how it
 // moves after each label stands in crate `counter_steps`.
 ghost use mathlib.Core.Path.{_≡_};
-ghost use Rattle.counters.specs.Counters.{tenTo, digitAt, digitsOf, noneSet, counterSet, counterValue, counterEntered, counterSound};
+ghost use Rattle.counters.specs.Counters.{tenTo, digitsOf, noneSet, counterSet, counterValue, counterEntered, counterSound};
 use declarations::Declared;
 use declarations::Entered;
 use declarations::tenth_byte;
 use declarations::tenth_number;
 use ground::both;
-use ground::either;
 use ground::least;
 
 // The session's ten counters: set (0 or 1) and value (0 where unset).
@@ -26,19 +25,6 @@ pub struct Counted {
     pub counters: Counters,
 }
 
-const TENS: [u32; 10] = [
-    1,
-    10,
-    100,
-    1000,
-    10000,
-    100000,
-    1000000,
-    10000000,
-    100000000,
-    1000000000,
-];
-
 // A counter's number to reckon with.
 pub fn wide32(x: u32) -> usize
     ensures { λ r. ⌜ r ≡ x ⌝ }
@@ -46,30 +32,31 @@ pub fn wide32(x: u32) -> usize
     x as usize
 }
 
-// A power of ten, up to the ninth.
+// A power of ten, up to the ninth: worked out, so that no list of them takes room.
 pub fn ten(w: usize) -> u32
     ensures { λ r. ⌜ r ≡ tenTo w ⌝ }
 {
-    if w < 10 { TENS[w] } else { 1000000000 }
+    let width = least(w, 9);
+    let mut power: u32 = 1;
+    let mut i: usize = 0;
+    while i < width {
+        power *= 10;
+        i += 1;
+    }
+    power
 }
 
-// The digit that stands before k others.
-fn digit_at(n: u32, k: usize) -> u8
-    ensures { λ r. ⌜ r ≡ digitAt n k ⌝ }
-{
-    (n / ten(k) % 10) as u8 + b'0'
-}
-
-// A counter's w digits, at the front of nine bytes.
+// A counter's w digits, at the front of nine bytes; the last is written first, so that no power of ten is asked for.
 pub fn digits_of(n: u32, w: usize) -> [u8; 9]
     ensures { λ r. ⌜ r ≡ digitsOf n w ⌝ }
 {
-    let width = least(w, 9);
     let mut out = [0u8; 9];
-    let mut i = 0;
-    while i < width {
-        out[i] = digit_at(n, width - 1 - i);
-        i += 1;
+    let mut rest = n;
+    let mut left = least(w, 9);
+    while 0 < left {
+        left -= 1;
+        out[left] = (rest % 10) as u8 + b'0';
+        rest /= 10;
     }
     out
 }
@@ -126,13 +113,15 @@ pub fn set_counter(d: Declared, c: Counters, n: usize, value: usize) -> Counted
     }
 }
 
-// Whether counter k is sound under a form's declarations.
+// Whether counter k is sound under a form's declarations. Mostly it is unset, and then no power is worked out.
 pub fn counter_sound(d: Declared, c: Counters, k: usize) -> bool
     ensures { λ r. ⌜ r ≡ counterSound d c k ⌝ }
 {
     let set = c.set;
     let n = c.value_at(k);
-    let blank = both(tenth_byte(set, k) == 0, n == 0);
+    if both(tenth_byte(set, k) == 0, n == 0) {
+        return true;
+    }
     let below = n < ten(d.width_at(k));
-    either(blank, both(c.is_set(k), both(d.counter_declared(k), below)))
+    both(c.is_set(k), both(d.counter_declared(k), below))
 }

@@ -8,7 +8,7 @@ use native.Mathlib.Numerals.{add-one}
 use native.Mathlib.Omega.{arith}
 use native.Mathlib.Decide.{decLe}
 use lib.ListN.{length, getD, set, take, drop, replicate, length-drop, drop-of-length-le}
-use lib.Seq.{sets, take-all, drop-cons, set-out, sets-eq}
+use lib.Seq.{sets, take-all, drop-cons, set-out, set-comm, sets-eq}
 
 -- ---- a part of a slice, cut at its end
 
@@ -23,6 +23,12 @@ past-none l a h = past-all l (length l) ∙ (drop-of-length-le l (let e : length
 pub sets-append : (l : List ℕ) (i : ℕ) (a b : List ℕ) → sets l i (a ++ b) ≡ sets (sets l i a) (i + length a) b
 sets-append l i [] b = rw add-zero
 sets-append l i (x ∷ a) b = sets-append (set l i x) (suc i) a b ∙ ap (λ (k : ℕ). sets (sets (set l i x) (suc i) a) k b) (let e : suc i + length a ≡ i + suc (length a) = omega arith in e)
+
+-- a later place may be set first
+pub sets-set : (xs l : List ℕ) (i j x : ℕ) → i + length xs ≤ j → sets (set l j x) i xs ≡ set (sets l i xs) j x
+sets-set [] l i j x h = refl
+sets-set (y ∷ ys) l i j x h =
+    ap (λ m. sets m (suc i) ys) (set-comm l j i x y (omega arith)) ∙ sets-set ys (set l i y) (suc i) j x (omega arith)
 
 pub sets-out : (l : List ℕ) (at : ℕ) (t : List ℕ) → length l ≤ at → sets l at t ≡ l
 sets-out l at [] h = refl

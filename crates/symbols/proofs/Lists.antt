@@ -1,4 +1,4 @@
--- Laws of `sets`, `digits` and `each`: widths written side by side.
+-- Laws of `digits` and `each`: widths written side by side.
 -- Assumes nothing.
 use mathlib.Core.Path.{_≡_, refl, sym, ap, _∙_}
 use mathlib.Core.List.{List, [], _∷_, _++_}
@@ -6,18 +6,10 @@ use Prim.Native.Nat.{ℕ, zero, suc, _+_, _-_, _*_, _/_, _%_, _≤_, _<_}
 use native.Mathlib.Numerals.{add-one}
 use native.Mathlib.Omega.{arith}
 use lib.ListN.{length, getD, set, drop, length-append, length-set, drop-of-length-le}
-use lib.Seq.{sets, length-sets, set-comm, drop-cons}
-use Rattle.ground.proofs.Stores.{sets-append}
+use lib.Seq.{sets, length-sets, drop-cons}
+use Rattle.ground.proofs.Stores.{sets-append, sets-set}
 use Rattle.code128.specs.Widths.{digits, each}
 use Rattle.symbols.specs.Laid.{Put}
-
--- ---- `sets`
-
--- a later place may be set first
-pub sets-set : (xs l : List ℕ) (i j x : ℕ) → i + length xs ≤ j → sets (set l j x) i xs ≡ set (sets l i xs) j x
-sets-set [] l i j x h = refl
-sets-set (y ∷ ys) l i j x h =
-    ap (λ m. sets m (suc i) ys) (set-comm l j i x y (omega arith)) ∙ sets-set ys (set l i y) (suc i) j x (omega arith)
 
 -- ---- `digits`
 

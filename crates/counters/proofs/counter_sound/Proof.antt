@@ -12,6 +12,12 @@ tenth-byte-requires c κs = search needs
 both-requires : tie.Need-both-requires
 both-requires c κs = search needs
 
+returns : tie.Need-returns
+unfolding counterSound
+returns c =
+    let c1 = c .before in let c2 = c1 .before in let c3 = c2 .before in
+    rw (← c3 .value-at .ensures, ← c2 .tenth-byte .ensures, ← c1 .both .ensures, c .if1 .taken)
+
 width-at-requires : tie.Need-width-at-requires
 width-at-requires c κs = search needs
 
@@ -30,14 +36,11 @@ both-requires-2 c κs = search needs
 both-requires-3 : tie.Need-both-requires-3
 both-requires-3 c κs = search needs
 
-either-requires : tie.Need-either-requires
-either-requires c κs = search needs
-
-returns : tie.Need-returns
+returns-2 : tie.Need-returns-2
 unfolding counterSound
-returns c =
+returns-2 c =
     let c1 = c .before in let c2 = c1 .before in let c3 = c2 .before in let c4 = c3 .before in let c5 = c4 .before in let c6 = c5 .before in let c7 = c6 .before in let c8 = c7 .before in let c9 = c8 .before in
-    rw (c .either .ensures, c1 .both3 .ensures, c2 .both2 .ensures, c3 .counter-declared .ensures, c4 .is-set .ensures, c5 .ten .ensures, c6 .width-at .ensures, c7 .both .ensures, c8 .tenth-byte .ensures, c9 .value-at .ensures)
+    rw (c .both3 .ensures, c1 .both2 .ensures, c2 .counter-declared .ensures, c3 .is-set .ensures, c4 .ten .ensures, c5 .width-at .ensures, ← c9 .value-at .ensures, ← c8 .tenth-byte .ensures, ← c7 .both .ensures, c6 .if1 .left)
 
 pub counter-sound-spec : {M : Type 1} → statement M
 counter-sound-spec =
@@ -46,11 +49,11 @@ counter-sound-spec =
     value-at-requires
     tenth-byte-requires
     both-requires
+    returns
     width-at-requires
     ten-requires
     is-set-requires
     counter-declared-requires
     both-requires-2
     both-requires-3
-    either-requires
-    returns)
+    returns-2)
