@@ -1,5 +1,5 @@
 -- Powers of ten, the digits of a counter as a loop writes them, and a value entered.
-use mathlib.Core.Path.{_≡_, refl, sym, ap, _∙_}
+use mathlib.Core.Path.{_≡_, refl, ap, _∙_}
 use mathlib.Core.List.{List, [], _∷_, _++_}
 use Prim.Native.Nat.{ℕ, zero, suc, _+_, _-_, _*_, _/_, _%_, _^_, _≤_, _<_, min}
 use native.Mathlib.Nat.{pow-le-pow-right, pow-zero, pow-suc, div-one, mul-comm, div-div-eq-div-mul}
@@ -8,7 +8,7 @@ use native.Mathlib.Omega.{arith}
 use lib.ListN.{length, set, replicate}
 use lib.Seq.{sets}
 use borrow.Author.Tests.{lt-ltb, le-ltb}
-use Rattle.ground.proofs.Stores.{sets-append, sets-set}
+use Rattle.ground.proofs.Stores.{sets-last}
 use Rattle.declarations.specs.declared.Declared.{Declared}
 use Rattle.counters.specs.declared.Counters.{Counters}
 use Rattle.declarations.specs.declared.Entered.the-variants.{Taken, Undeclared, Unfit}
@@ -63,9 +63,8 @@ digits-next out rest left h = go left (left - 1) (omega arith)
     go : (a b : ℕ) → a ≡ suc b → sets (set out b (rest % 10 + 48)) 0 (digits b (rest / 10)) ≡ sets out 0 (digits a rest)
     go a b p = let before = digits b (rest / 10) in let last = 48 + rest % 10 in
         rw (p, turn, digits-last b rest)
-        (sets-set before out 0 b last (omega (arith, length-digits b (rest / 10)))
-        ∙ ap (λ (k : ℕ). set (sets out 0 before) k last) (omega (arith, length-digits b (rest / 10)))
-        ∙ sym (sets-append out 0 before (last ∷ [])))
+        (ap (λ (k : ℕ). sets (set out k last) 0 before) (let e : b ≡ 0 + length before = omega (arith, length-digits b (rest / 10)) in e)
+        ∙ sets-last out 0 before last)
 
 pub digits-none : (out : List ℕ) (rest left : ℕ) → left ≤ 0 → sets out 0 (digits left rest) ≡ out
 unfolding digits

@@ -24,11 +24,14 @@ pub sets-append : (l : List ℕ) (i : ℕ) (a b : List ℕ) → sets l i (a ++ b
 sets-append l i [] b = rw add-zero
 sets-append l i (x ∷ a) b = sets-append (set l i x) (suc i) a b ∙ ap (λ (k : ℕ). sets (sets (set l i x) (suc i) a) k b) (let e : suc i + length a ≡ i + suc (length a) = omega arith in e)
 
--- a later place may be set first
-pub sets-set : (xs l : List ℕ) (i j x : ℕ) → i + length xs ≤ j → sets (set l j x) i xs ≡ set (sets l i xs) j x
+sets-set : (xs l : List ℕ) (i j x : ℕ) → i + length xs ≤ j → sets (set l j x) i xs ≡ set (sets l i xs) j x
 sets-set [] l i j x h = refl
 sets-set (y ∷ ys) l i j x h =
     ap (λ m. sets m (suc i) ys) (set-comm l j i x y (omega arith)) ∙ sets-set ys (set l i y) (suc i) j x (omega arith)
+
+-- the last of a run may be stored first
+pub sets-last : (l : List ℕ) (at : ℕ) (xs : List ℕ) (x : ℕ) → sets (set l (at + length xs) x) at xs ≡ sets l at (xs ++ (x ∷ []))
+sets-last l at xs x = sets-set xs l at (at + length xs) x (omega arith) ∙ sym (sets-append l at xs (x ∷ []))
 
 pub sets-out : (l : List ℕ) (at : ℕ) (t : List ℕ) → length l ≤ at → sets l at t ≡ l
 sets-out l at [] h = refl

@@ -7,7 +7,7 @@ use native.Mathlib.Numerals.{add-one}
 use native.Mathlib.Omega.{arith}
 use lib.ListN.{length, getD, set, drop, length-append, length-set, drop-of-length-le}
 use lib.Seq.{sets, length-sets, drop-cons}
-use Rattle.ground.proofs.Stores.{sets-append, sets-set}
+use Rattle.ground.proofs.Stores.{sets-append, sets-last}
 use Rattle.code128.specs.Widths.{digits, each}
 use Rattle.symbols.specs.Laid.{Put}
 
@@ -22,9 +22,8 @@ length-digits (suc n) r = length-append (digits n (r / 10)) (r % 10 ∷ []) ∙ 
 pub sets-digit : (l : List ℕ) (at n r : ℕ) → sets (set l (at + n) (r % 10)) at (digits n (r / 10)) ≡ sets l at (digits (n + 1) r)
 unfolding digits
 sets-digit l at n r =
-    sets-set (digits n (r / 10)) l at (at + n) (r % 10) (omega (arith, length-digits n (r / 10)))
-    ∙ ap (λ m. set (sets l at (digits n (r / 10))) (at + m) (r % 10)) (sym (length-digits n (r / 10)))
-    ∙ sym (sets-append l at (digits n (r / 10)) (r % 10 ∷ []))
+    ap (λ m. sets (set l (at + m) (r % 10)) at (digits n (r / 10))) (sym (length-digits n (r / 10)))
+    ∙ sets-last l at (digits n (r / 10)) (r % 10)
     ∙ ap (λ m. sets l at (digits m r)) (sym (add-one n))
 
 -- ---- `Put`, one after another
