@@ -5,7 +5,8 @@
  * After each call the answer, the three counts, the session and every lent byte must be the same, and so must the bytes beyond
  * what was lent. Of the peer alone it is also asked that a refusal changes nothing, that a call changes only what it may, that
  * only 6, 7 and 12 to 15 point and none past the line's LF, that memory is sound after every taken call, that within one job a
- * counter with a step never shows a value twice, and that only a job's last label unsets one. The first difference is told with
+ * counter with a step never shows a value twice, that only a job's last label unsets one, and that 19 and 23 are given by what was
+ * free and empty before the call, to no line but those that may ask for it. The first difference is told with
  * the seed of its session and ends the run. At the end: how often each call gave each answer, and of the answers that point how
  * many places they were seen to point to, how many of these more than nine times, and how often to the LF. With -DSELF the station
  * is the peer again, which tries the generator and this program alone. */
@@ -189,6 +190,50 @@ static int is_sound(const struct pair *p, const struct event *e, struct facts *f
     return sound(&m, &session, facts);
 }
 
+/* ---- which kind of full ---- */
+
+static unsigned free_before(const struct pair *p, const struct event *e)
+{
+    unsigned free = 0;
+
+    for (size_t i = 0; i < e->length[LINKS]; i++)
+        free += p->before.bytes[LINKS][2 * i] == 0xff && p->before.bytes[LINKS][2 * i + 1] == 0xff;
+    return free;
+}
+
+static int kind_before(const struct pair *p, const struct event *e, uint8_t kind)
+{
+    for (size_t at = 0; at < e->length[DIRECTORY]; at += ENTRY)
+        if (p->before.bytes[DIRECTORY][at] == kind)
+            return 1;
+    return 0;
+}
+
+/* Of an FS or GM that has its written form. "A starting form takes one portion." */
+static unsigned portions_needed(const struct event *e)
+{
+    const char *name = (const char *)e->bytes + 3;
+
+    if (e->bytes[0] == 'F')
+        return 1;
+    return (unsigned)(strtoul(strchr(name, '"') + 2, NULL, 10) + PORTION - 1) / PORTION;
+}
+
+/* "Give 19 for too few free portions and another number for no empty entry. When both hold, 19 is given." Only FS and GM ask for an
+ * entry; of all other lines only a recorded one asks for a portion, and for no more than one. */
+static int full_so(const struct pair *p, const struct event *e, unsigned answer)
+{
+    bool asks_entry = e->count > 2 && (memcmp(e->bytes, "FS", 2) == 0 || memcmp(e->bytes, "GM", 2) == 0);
+
+    if (e->call != COMMAND || (answer != TAKEN && answer != TOO_FEW_PORTIONS && answer != NO_EMPTY_ENTRY))
+        return 1;
+    if (!asks_entry)
+        return answer == TAKEN || (answer == TOO_FEW_PORTIONS && free_before(p, e) == 0 && kind_before(p, e, RECORDING));
+    if (free_before(p, e) < portions_needed(e))
+        return answer == TOO_FEW_PORTIONS;
+    return answer == (kind_before(p, e, EMPTY) ? TAKEN : NO_EMPTY_ENTRY);
+}
+
 static void check_promises(const struct pair *p, const struct generator *g, const struct event *e, unsigned answer, uint64_t calls)
 {
     struct facts facts;
@@ -213,6 +258,12 @@ static void check_promises(const struct pair *p, const struct generator *g, cons
     if (answer == 0 && !job_goes_on(p, e, &facts)) {
         tell_difference(g, e, calls);
         printf("the peer drew the label, and a counter has shown its value before or did not go on by its step\n");
+        exit(1);
+    }
+    if (!full_so(p, e, answer)) {
+        tell_difference(g, e, calls);
+        printf("the peer answered %u with %u portions free and %s entry\n", answer, free_before(p, e),
+               kind_before(p, e, EMPTY) ? "an empty" : "no empty");
         exit(1);
     }
 }

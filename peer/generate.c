@@ -50,6 +50,7 @@ struct view {
     unsigned recording, active, owed;       /* 65535 none */
     struct declared of_recording, of_active;
     unsigned unset;                         /* declared values of the active form that are not set */
+    unsigned portions, entries;             /* free and empty ones */
 };
 
 static const uint8_t *entry(const struct generator *g, unsigned i)
@@ -128,9 +129,13 @@ static void look(const struct generator *g, struct view *v)
     v->recording = 65535;
     v->active = low_first(session + 9);
     v->owed = low_first(session + 11);
-    for (unsigned i = 0; i < g->entries; i++)
+    for (unsigned i = 0; i < g->entries; i++) {
         if (entry(g, i)[0] == RECORDING)
             v->recording = i;
+        v->entries += entry(g, i)[0] == EMPTY;
+    }
+    for (unsigned i = 0; i < g->portions; i++)
+        v->portions += link_of(g, i) == FREE;
     if (v->recording != 65535)
         declared_in(g, v->recording, &v->of_recording);
     if (v->active < g->entries)
@@ -946,13 +951,9 @@ static struct shape greatest_shape(struct generator *g)
     return s;
 }
 
-/* A legal picture, but for some at the edge; its size is given. */
-static size_t make_picture(struct generator *g, uint8_t *out, size_t room)
+static void put_head(struct generator *g, uint8_t *out, struct shape s)
 {
     static const uint8_t versions[] = {0, 2, 3, 4, 5};
-    struct shape s = chance(g, 4) ? edge_shape(g)
-                   : room == MOST_PICTURE && chance(g, 15) ? greatest_shape(g)
-                                                           : usual_shape(g, room);
     unsigned left = below(g, 3), top = below(g, 3);
 
     for (unsigned i = 0; i < PICTURE_HEAD; i++)
@@ -965,7 +966,44 @@ static size_t make_picture(struct generator *g, uint8_t *out, size_t room)
     put_word_at(out, 8, left + s.width - 1);
     put_word_at(out, 10, top + s.height - 1);
     put_word_at(out, 66, s.line);
+}
+
+/* A legal picture, but for some at the edge; its size is given. */
+static size_t make_picture(struct generator *g, uint8_t *out, size_t room)
+{
+    struct shape s = chance(g, 4) ? edge_shape(g)
+                   : room == MOST_PICTURE && chance(g, 15) ? greatest_shape(g)
+                                                           : usual_shape(g, room);
+
+    put_head(g, out, s);
     return PICTURE_HEAD + pack_picture(g, out + PICTURE_HEAD, (size_t)s.line * s.height, room - PICTURE_HEAD);
+}
+
+/* A legal picture of just so many bytes, 130 or more: half of them or more are bytes by themselves, the others make runs of one. */
+static size_t make_sized_picture(struct generator *g, uint8_t *out, size_t size)
+{
+    unsigned body = (unsigned)size - PICTURE_HEAD, least = body / 2 / 4000 + 1, most = body / 4 < 128 ? body / 4 : 128;
+    struct shape s = {0, 0, 2 * between(g, least, most < least ? least : most)};
+
+    s.height = body / s.line;
+    s.width = 8 * s.line - below(g, 8);
+    put_head(g, out, s);
+    return PICTURE_HEAD + pack_to_size(g, out + PICTURE_HEAD, (size_t)s.line * s.height, body);
+}
+
+/* The size of a picture that needs about as many portions as are free: one more, just as many, one less or some more. In its last portion
+ * it has mostly one byte or all of them. */
+static size_t size_about_full(struct generator *g, const struct view *v)
+{
+    unsigned portions = v->portions + (chance(g, 85) ? below(g, 3) : between(g, 3, 8)), most = MOST_PICTURE / PORTION;
+    unsigned last = chance(g, 35) ? 1 : chance(g, 55) ? PORTION : between(g, 1, PORTION);
+    size_t size;
+
+    portions = portions < 2 ? 1 : portions - 1;
+    if (portions > most)
+        portions = most - (chance(g, 80) ? 0 : below(g, most));
+    size = (portions - 1) * PORTION + last;
+    return size < LEAST_PICTURE + 1 ? between(g, LEAST_PICTURE + 1, PORTION) : size;
 }
 
 static size_t damage_picture(struct generator *g, uint8_t *picture, size_t size)
@@ -994,15 +1032,16 @@ static void put_load_line(struct generator *g, unsigned size)
         put_digits(g, size);
 }
 
-/* GM with its bytes after the LF. */
-static void put_load(struct generator *g)
+/* GM with its bytes after the LF. Near a full memory every second picture is as large as the room that is left, or about so. */
+static void put_load(struct generator *g, const struct view *v)
 {
     static uint8_t picture[MOST_PICTURE + 100];
     size_t room = g->small ? 400 : chance(g, g->portions > 300 ? 40 : 5) ? MOST_PICTURE : chance(g, 30) ? 3000 : 700;
-    size_t size = make_picture(g, picture, room);
+    bool about = v->portions < (g->small ? 4 : 12) ? chance(g, 50) : !g->small && chance(g, 8);
+    size_t size = about ? make_sized_picture(g, picture, size_about_full(g, v)) : make_picture(g, picture, room);
     size_t told;
 
-    if (chance(g, 30))
+    if (chance(g, about ? 12 : 30))
         size = damage_picture(g, picture, size);
     told = size;
     if (chance(g, 4))
@@ -1083,10 +1122,56 @@ static void put_strange(struct generator *g)
     put_text(g, between(g, 238, 242));
 }
 
+static void put_named_or_load(struct generator *g, const struct view *v, unsigned stored)
+{
+    if (chance(g, 50))
+        put_named(g, "FS", FORM, stored);
+    else
+        put_load(g, v);
+}
+
+/* Text of so many bytes with its LF, 16 to 256 of them: quoted, and behind it elements of no bytes. */
+static void put_line_of(struct generator *g, unsigned length)
+{
+    unsigned text = length - 16, pairs = text > MOST_DATA ? (text - MOST_DATA + 1) / 2 : 0;
+
+    put(g, 'A');
+    put(g, (uint8_t)('0' + below(g, 10)));
+    put(g, ',');
+    put(g, (uint8_t)('0' + below(g, 10)));
+    put_words(g, ",0,1,1,N,");
+    put_quoted(g, text - 2 * pairs);
+    while (pairs--)
+        put_words(g, "\"\"");
+}
+
+/* A line that just fills the form's last portion, or has some bytes more and needs another. */
+static void put_filling_line(struct generator *g, const struct view *v)
+{
+    uint32_t size = entry_size(entry(g, v->recording));
+    unsigned length = portions_for(size) * PORTION - size + (chance(g, 35) ? 0 : chance(g, 55) ? 1 : between(g, 2, 40));
+
+    put_line_of(g, length >= 16 && length <= 256 && chance(g, 85) ? length : chance(g, 20) ? 256 : between(g, 16, 256));
+}
+
+/* Nothing more goes in, or soon will not. */
+static bool nearly_full(const struct view *v)
+{
+    return v->entries == 0 || v->portions < 2;
+}
+
 static void put_recording_line(struct generator *g, const struct view *v)
 {
     unsigned k = below(g, 100);
 
+    if (chance(g, nearly_full(v) ? 20 : 6)) {
+        put_filling_line(g, v);
+        return;
+    }
+    if (nearly_full(v) && chance(g, 3)) {
+        put_named_or_load(g, v, 30);  /* which has no place now */
+        return;
+    }
     if (k < 12)
         put_variable(g, &v->of_recording);
     else if (k < 28)
@@ -1100,7 +1185,7 @@ static void put_recording_line(struct generator *g, const struct view *v)
     else if (k < 99)
         put_print(g, v);
     else
-        put_load(g);
+        put_named_or_load(g, v, 10);
 }
 
 static void put_listing(struct generator *g)
@@ -1154,12 +1239,19 @@ static bool put_leading_line(struct generator *g, const struct view *v)
     return true;
 }
 
-/* Nothing recorded, nothing owed: first what leads to a label, else anything. */
+/* Nothing recorded, nothing owed: near a full memory often what would fill it, or an erasure; then what leads to a label, else anything. */
 static void put_idle_line(struct generator *g, const struct view *v)
 {
     static const struct declared nothing;
     unsigned k = below(g, 100);
 
+    if (nearly_full(v) && chance(g, 25)) {
+        if (chance(g, 85))
+            put_named_or_load(g, v, 12);
+        else
+            put_erasure(g);
+        return;
+    }
     if (put_leading_line(g, v))
         return;
     if (k < 18)
@@ -1169,7 +1261,7 @@ static void put_idle_line(struct generator *g, const struct view *v)
     else if (k < 48)
         put_drawing(g, &nothing);
     else if (k < 64)
-        put_load(g);
+        put_load(g, v);
     else if (k < 71)
         put_erasure(g);
     else if (k < 80)
@@ -1661,6 +1753,26 @@ static void forge_form(struct generator *g)
     poke_number(g, DIRECTORY, 16 * i + 12, (unsigned)size, 4);
 }
 
+/* Forms of no lines are put into all empty entries or all but one, as far as there are free portions: so great directories are full at times too. */
+static void fill_directory(struct generator *g)
+{
+    bool taken[MOST_PORTIONS] = {false};
+    unsigned left = chance(g, g->entries > 30 ? 40 : 70) ? 65535 : some_empty(g);
+
+    for (unsigned i = 0; i < g->entries; i++) {
+        unsigned portion = some_free(g, taken);
+        if (portion == 65535)
+            return;
+        if (entry(g, i)[0] != EMPTY || i == left)
+            continue;
+        taken[portion] = true;
+        poke_number(g, LINKS, 2 * portion, CHAIN_END, 2);
+        poke_number(g, DIRECTORY, 16 * i, FORM | 3 << 8, 2);
+        poke_number(g, DIRECTORY, 16 * i + 2, '#' | (i % 26 + 'A') << 8 | (i / 26 + 'A') << 16, 3);
+        poke_number(g, DIRECTORY, 16 * i + 10, portion, 2);
+    }
+}
+
 static void damage_values(struct generator *g)
 {
     unsigned n = below(g, 10);
@@ -1772,6 +1884,8 @@ static void damage(struct generator *g)
     g->poke_count = g->poke_next = 0;
     if (chance(g, labels_owed(g) > 0 ? 70 : 10))
         damage_job(g);
+    else if (chance(g, g->entries > 30 ? 60 : 10))
+        fill_directory(g);
     else if (k < 20)
         damage_session(g);
     else if (k < 28)
@@ -1847,11 +1961,32 @@ uint64_t session_seed(const struct generator *g)
     return g->seed - 1;
 }
 
+/* One kind of full comes soon: portions to spare and few entries, entries to spare and few portions, or few of both. Rarely a great directory,
+ * which only forms put in by hand can fill, and portions for them. */
+static void choose_tight(struct generator *g)
+{
+    g->entries = between(g, 1, 3);
+    switch (below(g, 4)) {
+    case 0: g->portions = g->entries + below(g, 4); break;
+    case 1:
+        g->entries = between(g, 3, 12);
+        g->portions = between(g, 1, 4);
+        break;
+    default: g->portions = between(g, 6, chance(g, 80) ? 30 : 150); break;
+    }
+    if (chance(g, 6)) {
+        g->entries = between(g, 31, chance(g, 60) ? 80 : 512);
+        g->portions = g->entries + between(g, 0, 10) - (chance(g, 30) ? 5 : 0);
+    }
+}
+
 static void choose_sizes(struct generator *g)
 {
     g->rows = chance(g, 90) ? between(g, 1, chance(g, 40) ? 60 : 200) : chance(g, 90) ? between(g, 1, 400) : between(g, 1, 4000);
     g->portions = chance(g, 90) ? between(g, 1, 20) : chance(g, 85) ? between(g, 1, 150) : between(g, 1, 2024);
     g->entries = chance(g, 90) ? between(g, 1, 6) : chance(g, 85) ? between(g, 1, 30) : between(g, 1, 512);
+    if (chance(g, 30))
+        choose_tight(g);
     if (rarely(g, 4))
         g->rows = 4000;
     if (rarely(g, 4))
@@ -1860,8 +1995,8 @@ static void choose_sizes(struct generator *g)
         g->entries = 512;
     if (g->small) {
         g->rows = 40;
-        g->portions = 16;
-        g->entries = 4;
+        g->portions = chance(g, 50) ? 16 : between(g, 2, 8);
+        g->entries = chance(g, 50) ? 4 : between(g, 1, 3);
     }
 }
 
@@ -1886,8 +2021,12 @@ static void new_session(struct generator *g, struct event *e)
     usual_room(e->room, g->length, MOST_FONT, MOST_INPUT);
     for (int s = 0; s < SLICES; s++)
         e->room[s] += beyond[s];
-    if (g->small)
+    if (g->small) {
+        e->room[STORE] = 18 * PORTION;
+        e->room[LINKS] = 18 * 2;
+        e->room[DIRECTORY] = 6 * ENTRY;
         e->room[OUTPUT] = 256;
+    }
 }
 
 static void font_event(struct generator *g, struct event *e)
@@ -1943,7 +2082,7 @@ static void spoil_something(struct generator *g)
 {
     if (g->damaged || g->font_damaged || !g->opened)
         return;
-    if (rarely(g, labels_owed(g) > 0 ? 120 : 45))
+    if (rarely(g, labels_owed(g) > 0 ? 120 : g->entries > 30 ? 150 : 45))
         damage(g);
     else if (rarely(g, 12)) {
         make_bad_font(g);

@@ -26,7 +26,7 @@ struct event {
     size_t count;
 };
 
-enum { MOST_POKES = 1200, MOST_INPUT = 70000, MOST_FONT = 30000 };
+enum { MOST_POKES = 5000, MOST_INPUT = 70000, MOST_FONT = 30000 };
 
 struct poke {
     enum slice slice;
@@ -39,7 +39,7 @@ struct line {
     size_t length;
 };
 
-/* small: memories of a fixed small size, for stored vectors. */
+/* small: small memories, on a desk whose room is always the same, for stored vectors. */
 struct generator {
     uint64_t seed, state;
     bool small;

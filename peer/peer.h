@@ -23,14 +23,14 @@ enum answer {
     TAKEN = 0, BAD_LENGTH = 1, BAD_FONT = 2, NOT_SOUND = 3, NOT_ALL_THERE = 4, LINE_TOO_LONG = 5, NOT_WRITTEN_SO = 6,
     OUTSIDE_LIMITS = 7, LABELS_OWED = 8, NO_PLACE = 9, NAME_IN_USE = 10, NAME_NOT_FOUND = 11, DECLARED_BEFORE = 12,
     NOT_DECLARED = 13, PAST_LENGTH = 14, UNFIT_DATA = 15, NOT_A_PICTURE = 16, VALUE_UNFIT = 17, VALUE_UNSET = 18,
-    NO_ROOM = 19, OUTPUT_TOO_SHORT = 20, NONE_OWED = 21, RUNS_OUT = 22
+    TOO_FEW_PORTIONS = 19, OUTPUT_TOO_SHORT = 20, NONE_OWED = 21, RUNS_OUT = 22, NO_EMPTY_ENTRY = 23
 };
 
 enum {
     ROW_BYTES = 76, MOST_ROWS = 4000, PORTION = 256, MOST_PORTIONS = 2024, ENTRY = 16, MOST_ENTRIES = 512,
     FIELD = 34, VALUE_FIELDS = 10, VALUES = 340, IMAGE = 65, CHAIN_END = 65534, FREE = 65535, NO_FORM = 65535,
     MOST_LINE = 255, MOST_DATA = 128, MOST_PICTURE = 32768, LEAST_PICTURE = 129, PICTURE_HEAD = 128,
-    ANSWERS = 23
+    ANSWERS = 24
 };
 
 /* ---- the session and the lent memory ---- */
@@ -179,10 +179,10 @@ enum { NOT_THERE = 65535 };
 unsigned find_entry(const struct memory *m, uint8_t kind, const struct name *name);
 void erase_entry(const struct memory *m, unsigned i);
 
-/* [19] or 0: a new entry with content of size bytes, all zero or as given. */
+/* [19], [23] or 0: a new entry with content of size bytes, all zero or as given. */
 enum answer new_entry(const struct memory *m, uint8_t kind, const struct name *name, const uint8_t *content, uint32_t size);
 
-/* [19] or 0: bytes put after the content of entry i. */
+/* [19] or 0: bytes put after the content of entry i, which is there, so never [23]. */
 enum answer append(const struct memory *m, unsigned i, const uint8_t *bytes, unsigned length);
 
 /* [20] or 0: the listing of a kind, or a form's bytes. */

@@ -1,5 +1,5 @@
 /* selftest.c: paper 01's sample session, as paper 02 changed it, and its ten proof cases, as far as the three calls show them,
- * paper 02's line under the bars, places of refusals and counters that run out, and drawing dot by dot.
+ * paper 02's line under the bars, places of refusals, counters that run out and two kinds of full, and drawing dot by dot.
  *
  *   selftest                   runs all of them
  *   selftest bars TYPE W DATA  writes the modules of one symbol, narrow 1 and wide W, as 1 (bar) and 0, for zint-check
@@ -36,14 +36,21 @@ static void lend_font(struct bench *b, const uint8_t *font, size_t length)
     b->length[FONT] = length;
 }
 
-static void open_bench(struct bench *b, unsigned rows, const uint8_t *font, size_t font_length)
+/* Not open yet, with the empty font. */
+static void lay_out(struct bench *b, unsigned rows, unsigned portions, unsigned entries, size_t output)
 {
     size_t room[SLICES];
 
     memset(b, 0, sizeof *b);
-    usual_lengths(b->length, rows, 64, 8, 65536);
+    usual_lengths(b->length, rows, portions, entries, output);
     usual_room(room, b->length, 65536, 65536);
     set_up_desk(&b->desk, room, 0xa5);
+    lend_font(b, empty_font, sizeof empty_font);
+}
+
+static void open_bench(struct bench *b, unsigned rows, const uint8_t *font, size_t font_length)
+{
+    lay_out(b, rows, 64, 8, 65536);
     lend_font(b, font, font_length);
     if (call_station(&peer_station, &b->desk, OPEN, b->length) != 0)
         abort();
@@ -1095,6 +1102,432 @@ static void running_cases(void)
     clear_away(&b.desk);
 }
 
+/* ---- which kind of full ---- */
+
+static uint64_t digest_of(const struct bench *b)
+{
+    uint64_t digest = 14695981039346656037u;
+
+    for (int s = 0; s < SLICES; s++)
+        for (size_t i = 0; s != COUNTS && s != FONT && s != INPUT && i < b->desk.room[s]; i++)
+            digest = (digest ^ b->desk.bytes[s][i]) * 1099511628211u;
+    return digest;
+}
+
+/* Answers these bytes; 255 if it was a refusal that changed something, pointed or did not read all but the last three bytes, which are
+ * the next command. */
+static unsigned answer_to(struct bench *b, const void *bytes, size_t length)
+{
+    uint64_t before = digest_of(b);
+    unsigned answer = send_bytes(b, bytes, length);
+
+    if (count(b, 0) != length - 3 || count(b, 1) != 0 || count(b, 2) != 0)
+        return 255;
+    return answer == 0 || digest_of(b) == before ? answer : 255;
+}
+
+static unsigned ask(struct bench *b, const char *line)
+{
+    char text[600];
+    int length = snprintf(text, sizeof text, "%s\nFI\n", line);
+
+    return answer_to(b, text, (size_t)length);
+}
+
+/* GM with a legal picture of just so many bytes, 130 or more: most stand for themselves, and some of the first are runs of one. */
+static unsigned load(struct bench *b, const char *name, unsigned size)
+{
+    static uint8_t bytes[MOST_PICTURE + 64];
+    unsigned head = (unsigned)snprintf((char *)bytes, 40, "GM\"%s\",%u\n", name, size);
+    unsigned body = size - PICTURE_HEAD, line = body > 8000 ? 16 : 2, pairs = body % line;
+    uint8_t *picture = bytes + head;
+
+    memset(picture, 0, PICTURE_HEAD);
+    memset(picture + PICTURE_HEAD, 85, body);
+    memcpy(picture, (const uint8_t[]){10, 5, 1, 1, 0, 0, 0, 0, 7}, 9);
+    picture[10] = (uint8_t)(body / line - 1);
+    picture[11] = (uint8_t)((body / line - 1) >> 8);
+    picture[65] = 1;
+    picture[66] = (uint8_t)line;
+    for (unsigned i = 0; i < pairs; i++)
+        picture[PICTURE_HEAD + 2 * i] = 193;
+    memcpy(picture + size, "FI\n", 3);
+    return answer_to(b, bytes, head + size + 3);
+}
+
+/* A line of text of so many bytes with its LF, 16 to 256. */
+static unsigned record_line(struct bench *b, unsigned length)
+{
+    char line[300] = "A0,0,0,1,1,N,\"";
+    unsigned text = length - 16 > MOST_DATA ? MOST_DATA - length % 2 : length - 16;
+
+    memset(line + 14, 'a', text);
+    memset(line + 14 + text, '"', length - 15 - text);
+    line[length - 1] = 0;
+    return ask(b, line);
+}
+
+static unsigned form(struct bench *b, const char *name)
+{
+    char line[40];
+    unsigned answer;
+
+    snprintf(line, sizeof line, "FS\"%s\"", name);
+    answer = ask(b, line);
+    return answer == 0 ? ask(b, "FE") : answer;
+}
+
+/* A new session with so much lent, and so many forms of one portion in it. */
+static void begin(struct bench *b, unsigned portions, unsigned entries, unsigned forms)
+{
+    size_t output = b->length[OUTPUT], font = b->length[FONT];
+
+    usual_lengths(b->length, 40, portions, entries, output);
+    b->length[FONT] = font;
+    if (call_station(&peer_station, &b->desk, OPEN, b->length) != 0)
+        abort();
+    for (char name[] = "1"; forms-- > 0; name[0]++)
+        if (form(b, name) != 0)
+            check("there is room for a form, which is taken", 0);
+}
+
+static uint8_t kind_at(const struct bench *b, unsigned i)
+{
+    return b->desk.bytes[DIRECTORY][ENTRY * i];
+}
+
+static void full_of_forms(struct bench *b)
+{
+    unsigned wrong = 0;
+
+    for (unsigned n = 1; n <= 7; n++) {
+        begin(b, n, 8, n);
+        wrong += ask(b, "FS\"F\"") != 19;
+    }
+    check("FS: all portions taken and an entry empty is 19", wrong == 0);
+    wrong = 0;
+    for (unsigned n = 1; n <= 8; n++)
+        for (unsigned left = 1; left <= 3; left++) {
+            begin(b, n + left, n, n);
+            wrong += ask(b, "FS\"F\"") != 23;
+        }
+    check("FS: all entries taken and portions free is 23", wrong == 0);
+    wrong = 0;
+    for (unsigned n = 1; n <= 8; n++) {
+        begin(b, n, n, n);
+        wrong += ask(b, "FS\"F\"") != 19;
+    }
+    check("FS: neither left is 19", wrong == 0);
+    begin(b, 3, 4, 0);
+    check("FS: one portion left is enough, none is not",
+          load(b, "P", 512) == 0 && form(b, "F") == 0 && ask(b, "FS\"G\"") == 19 && kind_at(b, 1) == FORM && kind_at(b, 2) == EMPTY);
+}
+
+/* With so many portions free and an entry empty or not, pictures that need all of them and one more; what the one that fits is answered. */
+static int loads_at_edge(struct bench *b, unsigned left, unsigned empty, unsigned fitting)
+{
+    unsigned wrong = 0;
+
+    begin(b, left + 2, 2 + empty, 2);
+    wrong += load(b, "P", PORTION * left + 1) != 19 || load(b, "P", PORTION * left + PORTION) != 19 || load(b, "P", PORTION * left + 700) != 19;
+    wrong += load(b, "P", PORTION * left) != fitting;
+    begin(b, left + 2, 2 + empty, 2);
+    wrong += load(b, "P", left == 1 ? 130 : PORTION * (left - 1) + 1) != fitting;
+    return wrong == 0;
+}
+
+static void full_of_pictures(struct bench *b)
+{
+    int fits = 1, full = 1;
+
+    begin(b, 2, 3, 0);
+    check("GM: all portions taken and an entry empty is 19", load(b, "P", 512) == 0 && load(b, "Q", 130) == 19 && load(b, "Q", 257) == 19);
+    begin(b, 64, 2, 1);
+    check("GM: all entries taken and portions free is 23",
+          load(b, "P", 130) == 0 && load(b, "Q", 130) == 23 && load(b, "Q", 256) == 23 && load(b, "Q", 257) == 23 && load(b, "Q", 15872) == 23);
+    check("GM: there too few of them are 19, though some are free", load(b, "Q", 15873) == 19 && load(b, "Q", 32768) == 19 && ask(b, "FS\"F\"") == 23);
+    begin(b, 2, 2, 2);
+    check("GM: neither left is 19", load(b, "Q", 130) == 19 && load(b, "Q", 256) == 19 && load(b, "Q", 257) == 19);
+    for (unsigned left = 1; left <= 6; left++) {
+        fits &= loads_at_edge(b, left, 1, 0);
+        full &= loads_at_edge(b, left, 0, 23);
+    }
+    check("GM: as many portions as needed are enough, one less is 19", fits);
+    check("GM: with no entry left the same is 23 and 19", full);
+}
+
+static void greatest_pictures(struct bench *b)
+{
+    unsigned wrong;
+
+    begin(b, 128, 2, 0);
+    wrong = load(b, "P", 32768) != 0 || load(b, "Q", 130) != 19;
+    begin(b, 127, 1, 0);
+    wrong += load(b, "P", 32768) != 19 || load(b, "P", 32512) != 0;
+    begin(b, 129, 1, 1);
+    wrong += load(b, "P", 32768) != 23;
+    begin(b, 128, 1, 1);
+    check("the greatest picture needs 128 portions", wrong == 0 && load(b, "P", 32768) == 19 && load(b, "P", 32512) == 23);
+}
+
+/* The greatest directory with a form in each entry; then the places of some are emptied and filled again. */
+static void greatest_directory(void)
+{
+    static const unsigned places[] = {0, 1, 30, 127, 128, 254, 255, 256, 257, 383, 510, 511};
+    struct bench b;
+    unsigned wrong = 0;
+
+    lay_out(&b, 40, 514, 512, 64);
+    begin(&b, 514, 512, 0);
+    for (unsigned i = 0; i < 512; i++)
+        wrong += send_number(&b, "FS\"%lld\"", i) + send(&b, "FE") != 0;
+    for (unsigned i = 0; i < sizeof places / sizeof places[0]; i++) {
+        wrong += ask(&b, "FS\"F\"") != 23 || load(&b, "P", 512) != 23 || load(&b, "P", 513) != 19;
+        wrong += send_number(&b, "FK\"%lld\"", places[i]) + send_number(&b, "FS\"%lld\"", places[i]) != 0 || kind_at(&b, places[i]) != RECORDING;
+        wrong += send(&b, "FE") != 0;
+    }
+    check("of 512 entries the one that is empty is found", wrong == 0);
+    clear_away(&b.desk);
+}
+
+/* "A recorded line asks for no entry, so it never gives 23." */
+static void full_while_recording(struct bench *b)
+{
+    begin(b, 3, 1, 0);
+    check("a line takes a portion though no entry is empty",
+          ask(b, "FS\"F\"") == 0 && record_line(b, 256) == 0 && record_line(b, 16) == 0 && record_line(b, 240) == 0 && ask(b, "R0,0") == 0);
+    check("neither left: 19, and the recording goes on",
+          record_line(b, 252) == 19 && record_line(b, 251) == 0 && ask(b, "R0,0") == 19 && ask(b, "FE") == 0 && ask(b, "FS\"G\"") == 19);
+    begin(b, 1, 2, 0);
+    check("no portion left and an entry empty: 19",
+          ask(b, "FS\"F\"") == 0 && record_line(b, 200) == 0 && record_line(b, 57) == 19 && record_line(b, 56) == 0 && record_line(b, 16) == 19 && ask(b, "FE") == 0);
+    begin(b, 2, 1, 0);
+    check("a line over two portions needs one more, and has it",
+          ask(b, "FS\"F\"") == 0 && record_line(b, 200) == 0 && record_line(b, 256) == 0 && record_line(b, 57) == 19 && record_line(b, 56) == 0);
+    begin(b, 64, 1, 0);
+    check("the form being recorded has the entry: 9, then 23",
+          ask(b, "FS\"F\"") == 0 && kind_at(b, 0) == RECORDING && ask(b, "FS\"G\"") == 9 && load(b, "P", 130) == 9 && ask(b, "FE") == 0
+              && ask(b, "FS\"G\"") == 23 && load(b, "P", 130) == 23);
+}
+
+/* FS and GM with answers below 19, in a memory that is full as the caller says. There are forms 1 and so on and no picture, or a form less
+ * and the picture P. */
+static int answered_before(struct bench *b, unsigned portions, unsigned entries, unsigned full)
+{
+    unsigned stored = portions < entries ? portions : entries;
+    int well;
+
+    begin(b, portions, entries, stored);
+    well = ask(b, "FS\"F\"") == full && ask(b, "FS\"1\"") == 10 && ask(b, "FS\"F\"x") == 255 && send(b, "FS\"F\"x") == 6 && send(b, "FS\"*\"") == 7;
+    well &= answer_to(b, "GM\"P\",5\nabcdeFI\n", 16) == 16 && send_bytes(b, "GM\"P\",5\nabcd", 12) == 4 && count(b, 0) == 0 && send(b, "GM\"P\",0") == 7;
+    well &= ask(b, "P1") == 0 && ask(b, "FS\"F\"") == 8 && load(b, "P", 130) == 8;
+    begin(b, portions, entries, stored - 1);
+    well &= load(b, "P", 130) == 0 && load(b, "Q", 130) == full && load(b, "p", 130) == 10 && answer_to(b, "GM\"P\",5\nabcdeFI\n", 16) == 10;
+    begin(b, portions, entries, stored - 1);
+    return well && ask(b, "FS\"F\"") == 0 && ask(b, "FS\"G\"") == 9 && ask(b, "FS\"F\"") == 9 && load(b, "P", 130) == 9
+        && answer_to(b, "GM\"P\",5\nabcdeFI\n", 16) == 9;
+}
+
+static void before_full(struct bench *b)
+{
+    check("4 and 6 to 10 and 16 come before 19", answered_before(b, 2, 4, 19) && answered_before(b, 3, 3, 19) && answered_before(b, 1, 1, 19));
+    check("they come before 23", answered_before(b, 4, 2, 23) && answered_before(b, 64, 1, 23) && answered_before(b, 9, 8, 23));
+}
+
+/* The bench erases something, and what was refused is taken: in the entry that is empty now. */
+static void after_erasing(struct bench *b)
+{
+    char line[] = "FK\"1\"";
+    int well = 1;
+
+    begin(b, 64, 3, 2);
+    check("after erasing one picture the same FS is taken",
+          load(b, "P", 600) == 0 && ask(b, "FS\"F\"") == 23 && ask(b, "GK\"P\"") == 0 && ask(b, "FS\"F\"") == 0 && kind_at(b, 2) == RECORDING);
+    begin(b, 64, 3, 3);
+    check("after erasing one form the same GM is taken",
+          load(b, "P", 600) == 23 && ask(b, "FK\"2\"") == 0 && load(b, "P", 600) == 0 && kind_at(b, 1) == PICTURE && load(b, "Q", 600) == 23);
+    for (unsigned i = 0; i < 5; i++, line[3]++) {
+        begin(b, 64, 5, 5);
+        well &= ask(b, "FS\"F\"") == 23 && ask(b, line) == 0 && ask(b, "FS\"F\"") == 0 && kind_at(b, i) == RECORDING && ask(b, "FE") == 0 && ask(b, "FS\"G\"") == 23;
+    }
+    check("the empty entry may stand anywhere", well);
+    begin(b, 64, 4, 2);
+    well = load(b, "P", 300) == 0 && load(b, "Q", 300) == 0 && ask(b, "FS\"F\"") == 23 && ask(b, "FK\"*\"") == 0 && form(b, "F") == 0 && form(b, "G") == 0;
+    well = well && form(b, "H") == 23 && ask(b, "GK\"*\"") == 0 && load(b, "R", 300) == 0 && form(b, "H") == 0 && form(b, "I") == 23;
+    check("FK\"*\" and GK\"*\" give their entries back", well);
+    begin(b, 4, 2, 1);
+    well = load(b, "P", 512) == 0 && load(b, "Q", 512) == 19 && load(b, "Q", 256) == 23 && ask(b, "FK\"1\"") == 0 && load(b, "Q", 513) == 19;
+    check("erasing gives portions back as well as an entry", well && load(b, "Q", 512) == 0 && ask(b, "FS\"F\"") == 19);
+}
+
+/* What is lent to the call counts, not what was lent at opening. */
+static void lent_to_the_call(struct bench *b)
+{
+    int well;
+
+    begin(b, 8, 8, 1);
+    b->length[DIRECTORY] = ENTRY;
+    well = ask(b, "FS\"F\"") == 23 && load(b, "P", 7 * PORTION) == 23 && load(b, "P", 7 * PORTION + 1) == 19;
+    b->length[STORE] = PORTION;
+    b->length[LINKS] = 1;
+    well &= ask(b, "FS\"F\"") == 19 && load(b, "P", 130) == 19;
+    b->length[DIRECTORY] = 2 * ENTRY;
+    well &= ask(b, "FS\"F\"") == 19 && load(b, "P", 130) == 19;
+    b->length[STORE] = 2 * PORTION;
+    b->length[LINKS] = 2;
+    check("entries and portions are those lent to the call", well && load(b, "P", 257) == 19 && ask(b, "FS\"F\"") == 0);
+}
+
+/* ---- the rule told again, on paper ---- */
+
+/* What a paper beside the station says is stored: names A to F of each kind, and their sizes. */
+struct on_paper {
+    unsigned portions, entries;
+    bool stored[2][6];  /* forms, pictures */
+    unsigned size[2][6];
+    int recording;      /* the name of the form being recorded, or -1 */
+};
+
+struct full_twice {
+    unsigned steps, too_few[2], no_entry[2], line_too_few, wrong;
+};
+
+/* Portion by portion, without a division. */
+static unsigned sheets(unsigned size)
+{
+    unsigned number = 1;
+
+    for (; size > PORTION; size -= PORTION)
+        number++;
+    return number;
+}
+
+static unsigned free_on_paper(const struct on_paper *p)
+{
+    unsigned taken = 0;
+
+    for (unsigned i = 0; i < 12; i++)
+        taken += p->stored[i / 6][i % 6] ? sheets(p->size[i / 6][i % 6]) : 0;
+    return p->portions - taken;
+}
+
+static bool entry_on_paper(const struct on_paper *p)
+{
+    unsigned taken = 0;
+
+    for (unsigned i = 0; i < 12; i++)
+        taken += p->stored[i / 6][i % 6];
+    return taken < p->entries;
+}
+
+/* FS or GM: what it must be answered, and if it is taken it stands on the paper. */
+static unsigned add_on_paper(struct on_paper *p, unsigned kind, unsigned name, unsigned size)
+{
+    if (p->recording >= 0)
+        return 9;
+    if (p->stored[kind][name])
+        return 10;
+    if (free_on_paper(p) < sheets(size))
+        return 19;
+    if (!entry_on_paper(p))
+        return 23;
+    p->stored[kind][name] = true;
+    p->size[kind][name] = size;
+    if (kind == 0)
+        p->recording = (int)name;
+    return 0;
+}
+
+static unsigned line_on_paper(struct on_paper *p, unsigned length)
+{
+    unsigned *size = p->recording >= 0 ? &p->size[0][p->recording] : NULL;
+
+    if (!size)
+        return 0;
+    if (sheets(*size + length) > sheets(*size) + free_on_paper(p))
+        return 19;
+    *size += length;
+    return 0;
+}
+
+static unsigned erase_on_paper(struct on_paper *p, unsigned kind, unsigned name)
+{
+    if (p->recording >= 0)
+        return 9;
+    if (!p->stored[kind][name])
+        return 11;
+    p->stored[kind][name] = false;
+    return 0;
+}
+
+static unsigned end_on_paper(struct on_paper *p)
+{
+    unsigned answer = p->recording >= 0 ? 0 : 9;
+
+    p->recording = -1;
+    return answer;
+}
+
+/* One command by chance to both. */
+static void step_twice(struct bench *b, struct on_paper *p, struct full_twice *t)
+{
+    unsigned what = (unsigned)(chance_number() % 16), name = (unsigned)(chance_number() % 6), kind = what % 2, must, answer;
+    unsigned size = 130 + (unsigned)(chance_number() % (chance_number() % 2 ? 130 : 1200)), length = 16 + (unsigned)(chance_number() % 241);
+    char line[] = {"FG"[kind], 'K', '"', (char)('A' + name), '"', 0};
+
+    t->steps++;
+    if (what < 6) {
+        line[1] = 'S';
+        must = add_on_paper(p, kind, name, kind ? size : 0);
+        answer = kind ? load(b, (const char[]){(char)('A' + name), 0}, size) : ask(b, line);
+        t->too_few[kind] += must == 19;
+        t->no_entry[kind] += must == 23;
+    } else if (what < 8) {
+        must = erase_on_paper(p, kind, name);
+        answer = ask(b, line);
+    } else if (what < 15) {
+        must = line_on_paper(p, length);
+        answer = record_line(b, length);
+        t->line_too_few += must == 19;
+    } else {
+        must = end_on_paper(p);
+        answer = ask(b, "FE");
+    }
+    t->wrong += answer != must;
+}
+
+static void full_told_again(struct bench *b)
+{
+    struct full_twice t = {0};
+    char text[80];
+
+    while (t.steps < 12000) {
+        struct on_paper p = {.portions = 1 + (unsigned)(chance_number() % 9), .entries = 1 + (unsigned)(chance_number() % 5), .recording = -1};
+        begin(b, p.portions, p.entries, 0);
+        for (unsigned i = 0; i < 40; i++)
+            step_twice(b, &p, &t);
+    }
+    snprintf(text, sizeof text, "told again: FS %u are 19, %u are 23; GM %u, %u; line %u", t.too_few[0], t.no_entry[0], t.too_few[1], t.no_entry[1], t.line_too_few);
+    check(text, t.wrong == 0);
+}
+
+static void full_cases(void)
+{
+    struct bench b;
+
+    lay_out(&b, 40, 130, 8, 64);
+    full_of_forms(&b);
+    full_of_pictures(&b);
+    greatest_pictures(&b);
+    greatest_directory();
+    full_while_recording(&b);
+    before_full(&b);
+    after_erasing(&b);
+    lent_to_the_call(&b);
+    full_told_again(&b);
+    clear_away(&b.desk);
+}
+
 /* ---- rectangles, the turned page, a picture ---- */
 
 /* Rectangles in each ink, kept dot by dot in a second page. */
@@ -1211,6 +1644,7 @@ int main(int argc, char **argv)
     word_cases();
     pointing_cases();
     running_cases();
+    full_cases();
     rectangle_cases();
     picture_case();
     return failures != 0;

@@ -35,8 +35,10 @@
  * All other answers give place 0. If counts has another length than 3, the answer is 1 and counts is left as it is.
  *
  * The result of each call is its answer: 0 taken, 1 to 21 refused (paper 01's table), 22 a counter runs out (paper 02: a P of so
- * many labels that some counter of the active form would leave its digits before the last of them). After a refusal the session and
- * all lent memory are as before; only the counts are stored. A refused opening leaves the session image all zero.
+ * many labels that some counter of the active form would leave its digits before the last of them), 23 no empty entry (paper 02: an FS
+ * or GM for which there are portions enough, but the directory is full). 19 is fewer free portions than needed and nothing else; it is
+ * given when both ran out. 22 goes before 19, and 23 directly after it, before 20. After a refusal the session and all lent memory are as
+ * before; only the counts are stored. A refused opening leaves the session image all zero.
  */
 #ifndef STATION_H
 #define STATION_H

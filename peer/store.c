@@ -176,13 +176,16 @@ static unsigned take_portions(const struct memory *m, unsigned count, const uint
     }
 }
 
+/* "When both hold, 19 is given": so the portions are asked for first. */
 enum answer new_entry(const struct memory *m, uint8_t kind, const struct name *name, const uint8_t *content, uint32_t size)
 {
     unsigned i = lowest_empty(m), first;
     uint8_t *entry;
 
-    if (i == NOT_THERE || !free_portions(m, portions_for(size)))
-        return NO_ROOM;
+    if (!free_portions(m, portions_for(size)))
+        return TOO_FEW_PORTIONS;
+    if (i == NOT_THERE)
+        return NO_EMPTY_ENTRY;
     first = take_portions(m, portions_for(size), content, size);
     entry = entry_at(m, i);
     entry[0] = kind;
@@ -214,7 +217,7 @@ enum answer append(const struct memory *m, unsigned i, const uint8_t *bytes, uns
     if (part < length) {
         unsigned taken = lowest_free(m, 0);
         if (taken == m->portions)
-            return NO_ROOM;
+            return TOO_FEW_PORTIONS;
         m->links[last] = (uint16_t)taken;
         m->links[taken] = CHAIN_END;
         memcpy(portion_at(m, taken), bytes + part, length - part);

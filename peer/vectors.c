@@ -2,9 +2,10 @@
  *
  *   vectors INPUT-FILE LINES-FILE [FIRST-SEED [SESSIONS]]
  *
- * Without a seed it writes what is kept in peer/vectors: eight sessions by chance, which give each of the 23 answers, behind
- * them a ninth that is written here and draws every word of the line under the bars, a tenth of lines that are refused, in which
- * every kind of piece is once at fault, and an eleventh of jobs that take counters to their end.
+ * Without a seed it writes what is kept in peer/vectors: seven sessions by chance, which give each of the 24 answers, behind
+ * them an eighth that is written here and draws every word of the line under the bars, a ninth of lines that are refused, in which
+ * every kind of piece is once at fault, a tenth of jobs that take counters to their end, and an eleventh in which portions and entries
+ * run out, each alone and both.
  *
  * INPUT-FILE is a row of records, all numbers low byte first. A record starts with its letter:
  *
@@ -330,16 +331,19 @@ static void damaged_job(struct record *r, struct event *e)
 /* A form whose picture is erased before its P: 11 goes before 22. */
 static const char *const drawn_form[] = {"FS\"ONE\"", "GG0,0,\"P\"", "C0,1,+5,\"\"", "FE", "FR\"ONE\"", "?C0,9", "P2", "GK\"P\"", "P2"};
 
-static void send_picture(struct record *r, struct event *e)
+/* A picture of just so many bytes, 130 or more, 8 dots wide; its bytes stand for themselves, but for a run of one if their number is odd. */
+static void send_picture(struct record *r, struct event *e, const char *name, unsigned size)
 {
-    static uint8_t line[140] = "GM\"P\",130\n";  /* 8 by 1 dots */
+    uint8_t line[1024] = {0}, *picture = line + sprintf((char *)line, "GM\"%s\",%u\n", name, size);
 
-    memcpy(line + 10, (const uint8_t[]){10, 5, 1, 1, 0, 0, 0, 0, 7}, 9);
-    line[10 + 65] = 1;
-    line[10 + 66] = 2;
+    memcpy(picture, (const uint8_t[]){10, 5, 1, 1, 0, 0, 0, 0, 7, 0, (uint8_t)((size - PICTURE_HEAD) / 2 - 1), (uint8_t)(((size - PICTURE_HEAD) / 2 - 1) >> 8)}, 12);
+    picture[65] = 1;
+    picture[66] = 2;
+    if (size % 2)
+        picture[PICTURE_HEAD] = 193;
     e->call = COMMAND;
     e->bytes = line;
-    e->count = e->length[INPUT] = sizeof line;
+    e->count = e->length[INPUT] = (size_t)(picture - line) + size;
     make_call(r, e);
 }
 
@@ -363,8 +367,96 @@ static void running_session(struct record *r, struct event e)
     send_lines(r, &e, fourth_job, sizeof fourth_job / sizeof fourth_job[0]);
     draw_label(r, &e);
     send_lines(r, &e, unset_again, 1);
-    send_picture(r, &e);
+    send_picture(r, &e, "P", 130);
     send_lines(r, &e, drawn_form, sizeof drawn_form / sizeof drawn_form[0]);
+}
+
+/* ---- which kind of full ---- */
+
+#define SEND_LINES(r, e, lines) send_lines(r, e, lines, sizeof lines / sizeof lines[0])
+
+/* A line of text of so many bytes with its LF, 16 to 144. */
+static void send_text(struct record *r, struct event *e, unsigned length)
+{
+    char text[160] = "A1,2,0,1,1,N,\"";
+    const char *line[] = {text};
+
+    memset(text + 14, '7', length - 16);
+    text[length - 2] = '"';
+    send_lines(r, e, line, 1);
+}
+
+static void open_with(struct record *r, struct event *e, unsigned portions, unsigned entries)
+{
+    size_t font = e->length[FONT];
+
+    usual_lengths(e->length, 40, portions, entries, 256);
+    e->length[FONT] = font;
+    e->call = OPEN;
+    e->count = 0;
+    make_call(r, e);
+}
+
+/* Two entries, five portions. A form and a picture take the entries and leave two portions, so FS is 23 and GM is 23 or 19; 10 and 16 go before both. */
+static void full_directory(struct record *r, struct event *e)
+{
+    static const char *const form[] = {"FS\"A\"", "FE"}, *const refused[] = {"FS\"B\"", "FS\"a\""}, *const illegal[] = {"GM\"Q\",3\nabc"};
+    static const char *const erased[] = {"GK\"P\"", "FS\"B\""};
+
+    open_with(r, e, 5, 2);
+    SEND_LINES(r, e, form);
+    send_picture(r, e, "P", 300);
+    SEND_LINES(r, e, refused);
+    send_picture(r, e, "Q", 512);
+    send_picture(r, e, "Q", 513);
+    send_picture(r, e, "p", 130);
+    SEND_LINES(r, e, illegal);
+    SEND_LINES(r, e, erased);
+}
+
+/* The form B has the last entry and three portions are free. Its lines take them: the first by a line over the edge, the others when the portion
+ * before is just full. The last one is filled to its end; then there is neither portion nor entry. 9 goes before both. */
+static void full_recording(struct record *r, struct event *e)
+{
+    static const unsigned lengths[] = {144, 144, 144, 80, 144, 112, 144, 113, 112};
+    static const char *const full[] = {"R0,0", "FS\"C\"", "FE", "FS\"C\""}, *const erased[] = {"FK\"A\"", "FS\"C\"", "FE", "FK\"*\"", "FI"};
+
+    send_lines(r, e, full + 1, 1);
+    for (unsigned i = 0; i < sizeof lengths / sizeof lengths[0]; i++)
+        send_text(r, e, lengths[i]);
+    SEND_LINES(r, e, full);
+    send_picture(r, e, "P", 130);
+    SEND_LINES(r, e, erased);
+}
+
+/* Two portions, four entries, where 10 and 16 go before 19; then one entry, and three portions of which two stay free. */
+static void full_store(struct record *r, struct event *e)
+{
+    static const char *const form[] = {"FS\"A\"", "FE", "FS\"B\"", "FS\"a\"", "GM\"Q\",3\nabc"}, *const erased[] = {"FK\"A\""}, *const owed[] = {"GI", "FS\"B\"", "P1", "FS\"B\""};
+
+    open_with(r, e, 2, 4);
+    send_picture(r, e, "P", 256);
+    SEND_LINES(r, e, form);
+    send_picture(r, e, "Q", 131);
+    send_picture(r, e, "P", 130);
+    SEND_LINES(r, e, erased);
+    send_picture(r, e, "Q", 257);
+    send_picture(r, e, "Q", 256);
+    open_with(r, e, 3, 1);
+    send_picture(r, e, "P", 130);
+    send_picture(r, e, "Q", 512);
+    send_picture(r, e, "Q", 513);
+    SEND_LINES(r, e, owed);
+    draw_label(r, e);
+}
+
+static void full_session(struct record *r, struct event e)
+{
+    set_up(r, &e);
+    lend_digits(r, &e, 4, 3);
+    full_directory(r, &e);
+    full_recording(r, &e);
+    full_store(r, &e);
 }
 
 static void tell_places(const struct record *r)
@@ -392,7 +484,7 @@ static FILE *open_file(const char *path)
 int main(int argc, char **argv)
 {
     static struct record r;
-    uint64_t seed = argc > 3 ? strtoull(argv[3], NULL, 10) : 405;
+    uint64_t seed = argc > 3 ? strtoull(argv[3], NULL, 10) : 966;
     unsigned missing = 0;
     struct event room;
 
@@ -402,10 +494,11 @@ int main(int argc, char **argv)
     }
     r.input = open_file(argv[1]);
     r.lines = open_file(argv[2]);
-    room = chance_sessions(&r, seed, argc > 4 ? (unsigned)atoi(argv[4]) : 8);
+    room = chance_sessions(&r, seed, argc > 4 ? (unsigned)atoi(argv[4]) : 7);
     lined_session(&r, room);
     pointing_session(&r, room);
     running_session(&r, room);
+    full_session(&r, room);
     for (unsigned a = 0; a < ANSWERS; a++)
         missing += r.reached[a] == 0;
     fprintf(stderr, "%u calls, %ld bytes, %u of the %u answers not reached\n", r.calls, ftell(r.input), missing, ANSWERS);

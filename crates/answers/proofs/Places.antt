@@ -33,7 +33,8 @@ use Rattle.answers.specs.declared.Answer.the-variants.{
   Misfit,
   Unset,
   RunsOut,
-  Full,
+  FewPortions,
+  NoEntry,
   Overlong,
   NoneOwed,
 }
@@ -62,13 +63,14 @@ points-nowhere Illegal e = refl
 points-nowhere Misfit e = refl
 points-nowhere Unset e = refl
 points-nowhere RunsOut e = refl
-points-nowhere Full e = refl
+points-nowhere FewPortions e = refl
+points-nowhere NoEntry e = refl
 points-nowhere Overlong e = refl
 points-nowhere NoneOwed e = refl
 
 -- the rows of the table that point nowhere, by their place in it
 abbrev pub others : List ℕ
-others = 0 ∷ 1 ∷ 2 ∷ 3 ∷ 4 ∷ 5 ∷ 8 ∷ 9 ∷ 10 ∷ 11 ∷ 16 ∷ 17 ∷ 18 ∷ 19 ∷ 20 ∷ 21 ∷ 22 ∷ []
+others = 0 ∷ 1 ∷ 2 ∷ 3 ∷ 4 ∷ 5 ∷ 8 ∷ 9 ∷ 10 ∷ 11 ∷ 16 ∷ 17 ∷ 18 ∷ 19 ∷ 20 ∷ 21 ∷ 22 ∷ 23 ∷ []
 
 -- so an answer that is none of the six points nowhere
 pub other-nowhere : (a : Answer) → OneOf others (Enum.tagOf Answers.the-type a) → points a ≡ false
@@ -93,7 +95,8 @@ other-nowhere Illegal h = refl
 other-nowhere Misfit h = refl
 other-nowhere Unset h = refl
 other-nowhere RunsOut h = refl
-other-nowhere Full h = refl
+other-nowhere FewPortions h = refl
+other-nowhere NoEntry h = refl
 other-nowhere Overlong h = refl
 other-nowhere NoneOwed h = refl
 

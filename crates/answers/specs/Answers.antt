@@ -1,4 +1,4 @@
--- Paper 01's table: "No. | Given exactly when"; and 22 of paper 02.
+-- Paper 01's table: "No. | Given exactly when"; and 22 and 23 of paper 02.
 -- Assumes nothing.
 use Prim.Native.Nat.{ℕ, _+_}
 use mathlib.Core.Bool.{Bool, cond, _&&_, _||_}
@@ -26,7 +26,8 @@ use Rattle.answers.specs.declared.Answer.the-variants.{
   Misfit,
   Unset,
   RunsOut,
-  Full,
+  FewPortions,
+  NoEntry,
   Overlong,
   NoneOwed,
 }
@@ -53,7 +54,8 @@ numberOf Illegal = 16
 numberOf Misfit = 17
 numberOf Unset = 18
 numberOf RunsOut = 22
-numberOf Full = 19
+numberOf FewPortions = 19
+numberOf NoEntry = 23
 numberOf Overlong = 20
 numberOf NoneOwed = 21
 
@@ -79,7 +81,8 @@ placeOf Illegal = 0
 placeOf Misfit = 0
 placeOf Unset = 0
 placeOf RunsOut = 0
-placeOf Full = 0
+placeOf FewPortions = 0
+placeOf NoEntry = 0
 placeOf Overlong = 0
 placeOf NoneOwed = 0
 
@@ -90,13 +93,18 @@ pointing n = eqb n 6 || (eqb n 7 || (leb 12 n && leb n 15))
 unfoldable pub points : Answer → Bool
 points a = pointing (numberOf a)
 
--- the order of the table: by number, but 22 "after 18 and before 19" (paper 02, §3). Twice the number, so that one more fits between two
+-- the order of the table: by number, but 22 "after 18 and before 19" (paper 02, §3) and 23 "directly after 19" (§5). Twice the number, so that one more fits
+-- between two
 abbrev pub rank : ℕ → ℕ
-rank n = cond (eqb n 22) (18 + 19) (n + n)
+rank n = cond (eqb n 22) (18 + 19) (cond (eqb n 23) (19 + 20) (n + n))
 
 -- whether answer n stands before answer m in it
 abbrev pub earlier : ℕ → ℕ → Bool
 earlier n m = ltb (rank n) (rank m)
+
+-- paper 02, §5: "Which kind of full?": 19 or 23
+unfoldable pub isFull : Answer → Bool
+isFull a = eqb (numberOf a) 19 || eqb (numberOf a) 23
 
 -- 0: "taken"
 unfoldable pub isTaken : Answer → Bool
@@ -110,7 +118,7 @@ pub record Row : Type 0 where
 abbrev pub row : Answer → Bool → Row
 row a b = record { answer = a; applies = b }
 
--- "The lowest number that applies is given", and 22 before 19: the rows stand in the table's order, and the first that applies is the answer
+-- "The lowest number that applies is given": the rows stand in the table's order, and the first that applies is the answer
 unfoldable pub answerOf : List Row → Answer
 answerOf [] = Taken
 answerOf (r ∷ rs) = cond (r .applies) (r .answer) (answerOf rs)

@@ -1,10 +1,10 @@
 // The table of answers: one case a row, and its number.
 //
-// "The lowest number that applies is given", and 0 where none does; 22 stands in the table after 18 and before 19 (paper 02, §3). Each call's rows stand where they are
-// decided, in the table's order; the enum here is what all of them answer with, so that no number is written twice. specs/Answers.antt gives each answer's number
-// and says which row of a table is the answer.
+// "The lowest number that applies is given", and 0 where none does; in the table 22 stands after 18 and before 19 (paper 02, §3), and 23 directly after 19 (§5). Each
+// call's rows stand where they are decided, in the table's order; the enum here is what all of them answer with, so that no number is written twice.
+// specs/Answers.antt gives each answer's number and says which row of a table is the answer.
 ghost use mathlib.Core.Path.{_≡_};
-ghost use Rattle.answers.specs.Answers.{numberOf, placeOf, points, isTaken};
+ghost use Rattle.answers.specs.Answers.{numberOf, placeOf, points, isFull, isTaken};
 
 // One case a row of the table, in its order; 6, 7 and 12 to 15 with the place in the line that they point to (paper 02, §2).
 pub enum Answer {
@@ -28,7 +28,8 @@ pub enum Answer {
     Misfit,
     Unset,
     RunsOut,
-    Full,
+    FewPortions,
+    NoEntry,
     Overlong,
     NoneOwed,
 }
@@ -58,7 +59,8 @@ pub fn number(a: Answer) -> u8
         Answer::Misfit => 17,
         Answer::Unset => 18,
         Answer::RunsOut => 22,
-        Answer::Full => 19,
+        Answer::FewPortions => 19,
+        Answer::NoEntry => 23,
         Answer::Overlong => 20,
         Answer::NoneOwed => 21,
     }
@@ -86,6 +88,16 @@ pub fn points(a: Answer) -> bool
     match number(a) {
         6 | 7 => true,
         12..=15 => true,
+        _ => false,
+    }
+}
+
+// Whether an answer says that portions or entries ran out.
+pub fn is_full(a: Answer) -> bool
+    ensures { λ r. ⌜ r ≡ isFull a ⌝ }
+{
+    match number(a) {
+        19 | 23 => true,
         _ => false,
     }
 }

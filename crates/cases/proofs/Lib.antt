@@ -2,3 +2,4 @@ pub mod Opened
 pub mod Laws
 pub mod Sample
 pub mod Cases
+pub mod Full

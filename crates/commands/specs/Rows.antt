@@ -24,7 +24,7 @@ use Rattle.forms.specs.Form.{declaredOf}
 use Rattle.kept_line.specs.Held.{heldCommand}
 use Rattle.session.specs.declared.Session.{Session}
 use Rattle.answers.specs.declared.Answer.{Answer}
-use Rattle.answers.specs.declared.Answer.the-variants.{Unwritten, Limits, Owing, Misplaced, Full}
+use Rattle.answers.specs.declared.Answer.the-variants.{Unwritten, Limits, Owing, Misplaced, FewPortions}
 use Rattle.answers.specs.Answers.{Row, row}
 use Rattle.lent.specs.Lent.{World}
 use Rattle.results.specs.World.{contentAt}
@@ -37,11 +37,11 @@ use Rattle.places.specs.Places.{placesOf}
 
 -- ---- 9 and later
 
--- an item recorded in entry i: [19] "fewer free portions than needed" for the line and its LF. FE has no rows
+-- an item recorded in entry i: [19] "fewer free portions than needed" for the line and its LF. It makes no entry, so [23] is none of its rows. FE has no rows
 abbrev pub keptRows : World → List ℕ → ℕ → Stored → List Row
 keptRows w line i (Holds it) =
     itemRows (declaredOf (contentAt w i)) (w .directory) line it
-    (row Full (not (canGrow (w .links) (entry (w .directory) i) (length (normal line) + 1))) ∷ [])
+    (row FewPortions (not (canGrow (w .links) (entry (w .directory) i) (length (normal line) + 1))) ∷ [])
 keptRows w line i NoItem = []
 
 -- while the form of entry i is recorded

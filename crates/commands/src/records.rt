@@ -10,7 +10,7 @@ ghost use Rattle.grammar.specs.declared.Command.the-variants.{Item as It, End};
 ghost use Rattle.normal.specs.Written.{normal};
 ghost use Rattle.forms.specs.Form.{declaredOf};
 ghost use Rattle.room.specs.Room.{canGrow};
-ghost use Rattle.answers.specs.declared.Answer.the-variants.{Full};
+ghost use Rattle.answers.specs.declared.Answer.the-variants.{FewPortions};
 ghost use Rattle.answers.specs.Answers.{row, answerOf};
 ghost use Rattle.lent.specs.Lent.{world};
 ghost use Rattle.results.specs.Result.{ran};
@@ -38,7 +38,7 @@ fn record_answer(
     n: usize,
 ) -> Answer
     requires { ⌜ n < 256 ⌝ }
-    ensures { λ r. ⌜ r ≡ answerOf (itemRows (declaredOf (content (now (store .entry)) (now (links .entry)) (now (directory .entry)) i)) (now (directory .entry)) (now (line .entry)) item (row Full (not (canGrow (now (links .entry)) (entry (now (directory .entry)) i) (n + 1))) ∷ [])) ⌝ }
+    ensures { λ r. ⌜ r ≡ answerOf (itemRows (declaredOf (content (now (store .entry)) (now (links .entry)) (now (directory .entry)) i)) (now (directory .entry)) (now (line .entry)) item (row FewPortions (not (canGrow (now (links .entry)) (entry (now (directory .entry)) i) (n + 1))) ∷ [])) ⌝ }
 {
     let d = forms::declared_at(store, links, directory, i);
     let a = item_answer(directory, line, item, d);
@@ -48,7 +48,7 @@ fn record_answer(
     if room::can_grow(links, directory, i, n + 1) {
         return Answer::Taken;
     }
-    Answer::Full
+    Answer::FewPortions
 }
 
 // "A recorded line is checked and kept, not run", in normal form and with its LF.

@@ -50,7 +50,7 @@ use Rattle.front.specs.declared.Front.the-variants.{Short, Long as LongLine, Id
 use Rattle.front.specs.Front.{frontOf}
 use Rattle.session.specs.declared.Session.{Session}
 use Rattle.answers.specs.declared.Answer.{Answer}
-use Rattle.answers.specs.declared.Answer.the-variants.{Full}
+use Rattle.answers.specs.declared.Answer.the-variants.{FewPortions}
 use Rattle.answers.specs.Answers.{Row, row, answerOf, placeOf}
 use Rattle.lent.specs.Lent.{World, rowsOf}
 use Rattle.forms.specs.Form.{declaredOf}
@@ -245,7 +245,7 @@ module _ (w : World) (line : List ℕ) (rows : ℕ) where
     placed-within : (c : Command) (f : Found) → readOf rows line ≡ Reads c → Within (length line) (placedRows w s line more room c f)
     unfolding placeOf
     placed-within (item it) (At i) h =
-        let full : Row = row Full (not (canGrow (w .links) (entry (w .directory) i) (length (normal line) + 1))) in
+        let full : Row = row FewPortions (not (canGrow (w .links) (entry (w .directory) i) (length (normal line) + 1))) in
         (zero, item-within (declaredOf (contentAt w i)) it (full ∷ []) h (zero, tt))
     placed-within End (At i) h = (zero, tt)
     placed-within (Page c) (At i) h = (zero, tt)
@@ -256,10 +256,10 @@ module _ (w : World) (line : List ℕ) (rows : ℕ) where
     placed-within (item it) Nothing h = (zero, item-within nothing it [] h tt)
     placed-within End Nothing h = (zero, tt)
     placed-within (Page c) Nothing h = (zero, tt)
-    placed-within (Forms (Start n)) Nothing h = zero & zero & zero & tt
+    placed-within (Forms (Start n)) Nothing h = zero & zero & zero & zero & tt
     placed-within (Forms (Retrieve n)) Nothing h = zero & zero & tt
     placed-within (Forms (EraseForm n)) Nothing h = zero & zero & tt
-    placed-within (Pictures (Store p)) Nothing h = zero & zero & zero & zero & tt
+    placed-within (Pictures (Store p)) Nothing h = zero & zero & zero & zero & zero & tt
     placed-within (Pictures (ErasePicture n)) Nothing h = zero & zero & tt
     placed-within (Values (EnterVariable v)) Nothing h = zero & entered-within rows line (Values (EnterVariable v)) h & zero & tt
     placed-within (Values (EnterCounter c)) Nothing h = zero & entered-within rows line (Values (EnterCounter c)) h & zero & tt

@@ -7,9 +7,6 @@ use Prim.Native.Nat.{ℕ}
 use lib.Dec.{eqb}
 use Rattle.finding.specs.declared.Found.{Found}
 use Rattle.finding.specs.declared.Found.the-variants.{At, Nothing}
-use Rattle.memory.specs.Memory.{Memory}
-use Rattle.room.specs.Room.{hasRoom}
-use Rattle.starting.specs.Start.{started, begun}
 use Rattle.grammar.specs.declared.FormCommand.{FormCommand}
 use Rattle.grammar.specs.declared.FormCommand.the-variants.{Start, Retrieve, Erase}
 use Rattle.session.specs.declared.Session.{Session}
@@ -24,9 +21,6 @@ use Rattle.results.specs.Named.{placeOf, named, notFound, erasedNamed, erasedEv
 use Rattle.results.proofs.Answers.{cond-map}
 use Rattle.results.proofs.Parts.{onForms}
 use Rattle.form_commands.specs.Forms.{formRows, formRuns, formBy}
-
-pub start-room : (m : Memory) (k : ℕ) (n : List ℕ) → hasRoom (m .links) (m .directory) 0 ≡ true → started m k n ≡ begun m k n
-start-room m k n e = rw e
 
 -- an erasure in a memory is that in the lists around it
 erase-in :

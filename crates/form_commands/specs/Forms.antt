@@ -1,28 +1,28 @@
 -- FS, FR, FK: their rows of the table, and what they do.
 -- Assumes nothing.
 use Prim.Native.Nat.{ℕ}
-use mathlib.Core.Bool.{true, false, not, cond}
+use mathlib.Core.Bool.{true, false, cond}
 use mathlib.Core.List.{List, [], _∷_}
 use lib.Dec.{eqb}
 use Rattle.finding.specs.declared.Found.{Found}
-use Rattle.room.specs.Room.{hasRoom}
 use Rattle.starting.specs.Start.{started}
 use Rattle.grammar.specs.declared.FormCommand.{FormCommand}
 use Rattle.grammar.specs.declared.FormCommand.the-variants.{Start, Retrieve, Erase}
 use Rattle.parts.specs.Names.{packedOf}
 use Rattle.recording.specs.Judged.{isAt}
 use Rattle.session.specs.declared.Session.{Session}
-use Rattle.answers.specs.declared.Answer.the-variants.{InUse, Missing, Full}
+use Rattle.answers.specs.declared.Answer.the-variants.{InUse, Missing}
 use Rattle.answers.specs.Answers.{Row, row, answerOf}
 use Rattle.session.specs.Session.{activated}
+use Rattle.full.specs.Full.{fullRows}
 use Rattle.lent.specs.Lent.{World}
 use Rattle.results.specs.World.{State, state, memoryOf, withMemory, unsetIn, inactive}
 use Rattle.results.specs.Result.{Ran, ranBy}
 use Rattle.results.specs.Named.{placeOf, named, notFound, erasedNamed, erasedEvery}
 
--- [10] "name in use (FS, GM)", [19] "no empty entry, or fewer free portions than needed"; [11] "name not found (FR, FK ..)"
+-- [10] "name in use (FS, GM)", then [19] and [23], whether there is room for a form of no bytes; [11] "name not found (FR, FK ..)"
 abbrev pub formRows : World → List ℕ → FormCommand → List Row
-formRows w line (Start n) = row InUse (isAt (named w false line n)) ∷ row Full (not (hasRoom (w .links) (w .directory) 0)) ∷ []
+formRows w line (Start n) = row InUse (isAt (named w false line n)) ∷ fullRows (w .links) (w .directory) 0
 formRows w line (Retrieve n) = row Missing (notFound w false line n) ∷ []
 formRows w line (Erase n) = row Missing (notFound w false line n) ∷ []
 

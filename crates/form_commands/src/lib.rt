@@ -9,6 +9,8 @@ ghost use Rattle.lent.specs.Lent.{world};
 ghost use Rattle.results.specs.Result.{ran};
 ghost use Rattle.form_commands.specs.Forms.{formBy};
 use answers::Answer;
+use answers::is_taken;
+use full::full_answer;
 use grammar::FormCommand;
 use grammar::Named;
 use parts::packed;
@@ -40,8 +42,9 @@ fn start_form(
     if is_at(finding::find(directory, false, title)) {
         return answered(Answer::InUse, session);
     }
-    if !room::has_room(links, directory, 0) {
-        return answered(Answer::Full, session);
+    let full = full_answer(links, directory, 0);
+    if !is_taken(full) {
+        return answered(full, session);
     }
     starting::start(store, links, directory, 3, title);
     taken(session)

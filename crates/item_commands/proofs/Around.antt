@@ -13,7 +13,7 @@ use Rattle.grammar.specs.declared.Item.{Item}
 use Rattle.recording.specs.Judged.{hasPicture}
 use Rattle.session.specs.declared.Session.{Session}
 use Rattle.answers.specs.declared.Answer.{Answer}
-use Rattle.answers.specs.declared.Answer.the-variants.{Taken, Missing, Again, Undeclared, Past, Unfit, Full}
+use Rattle.answers.specs.declared.Answer.the-variants.{Taken, Missing, Again, Undeclared, Past, Unfit, FewPortions}
 use Rattle.answers.specs.Answers.{Row, row, answerOf, isTaken, numberOf}
 use Rattle.lent.specs.Lent.{world}
 use Rattle.answers.proofs.Rows.{answer-skip, answer-stop}
@@ -67,17 +67,17 @@ item-passed d dir line it rest a b e f n =
 pub item-room :
     (d : Declared) (dir line : List ℕ) (it : Item) (a : Answer) (b g : Bool) →
     a ≡ answerOf (itemRows d dir line it []) → b ≡ isTaken a → not b ≡ false → g ≡ true →
-    Taken ≡ answerOf (itemRows d dir line it (row Full (not g) ∷ []))
+    Taken ≡ answerOf (itemRows d dir line it (row FewPortions (not g) ∷ []))
 unfolding answerOf
 item-room d dir line it a b g e f n k =
-    sym (item-passed d dir line it (row Full (not g) ∷ []) a b e f n ∙ answer-skip Full (not g) [] (ap not k))
+    sym (item-passed d dir line it (row FewPortions (not g) ∷ []) a b e f n ∙ answer-skip FewPortions (not g) [] (ap not k))
 
 pub item-full :
     (d : Declared) (dir line : List ℕ) (it : Item) (a : Answer) (b g : Bool) →
     a ≡ answerOf (itemRows d dir line it []) → b ≡ isTaken a → not b ≡ false → g ≡ false →
-    Full ≡ answerOf (itemRows d dir line it (row Full (not g) ∷ []))
+    FewPortions ≡ answerOf (itemRows d dir line it (row FewPortions (not g) ∷ []))
 item-full d dir line it a b g e f n k =
-    sym (item-passed d dir line it (row Full (not g) ∷ []) a b e f n ∙ answer-stop Full (not g) [] (ap not k))
+    sym (item-passed d dir line it (row FewPortions (not g) ∷ []) a b e f n ∙ answer-stop FewPortions (not g) [] (ap not k))
 
 pub item-after :
     (d d' : Declared) (dir line : List ℕ) (it : Item) (a : Answer) → a ≡ answerOf (itemRows d dir line it []) → d ≡ d' →

@@ -41,7 +41,7 @@ use Rattle.forms.specs.Form.{formOk, declaredOf, takesStored, takes}
 use Rattle.kept_line.specs.Held.{itemIn, heldRead}
 use Rattle.forms.proofs.Growing.{formOk-grows}
 use Rattle.session.specs.declared.Session.{Session}
-use Rattle.answers.specs.declared.Answer.the-variants.{Taken, Misplaced, Missing, Again, Undeclared, Past, Unfit, Full}
+use Rattle.answers.specs.declared.Answer.the-variants.{Taken, Misplaced, Missing, Again, Undeclared, Past, Unfit, FewPortions}
 use Rattle.answers.specs.Answers.{Row, isTaken, numberOf, answerOf}
 use Rattle.lent.specs.Lent.{World, rowsOf}
 use Rattle.session.specs.Active.{activeOf}
@@ -159,7 +159,7 @@ module _ (s : Session) (w : World) (g : Good s w) (i : ℕ) (e : recorded (w .di
       let c₀ = clear Misplaced _ _ refl c in
       let c₁ = clear Missing _ _ refl (c₀ .1) in
       let c₂ = fit-fine (declaredOf (contentAt w i)) line it _ (c₁ .1) in
-      let c₃ = clear Full _ _ refl (c₂ .1) in
+      let c₃ = clear FewPortions _ _ refl (c₂ .1) in
       let more : List ℕ = normal line ++ (10 ∷ []) in
       let can : canGrow (w .links) (entry (w .directory) i) (length more) ≡ true =
       ap (canGrow (w .links) (entry (w .directory) i)) (length-append (normal line) (10 ∷ [])) ∙ not-no _ (c₃ .0) in

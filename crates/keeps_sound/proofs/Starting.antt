@@ -31,8 +31,9 @@ use Rattle.parts.specs.Names.{packedOf}
 use Rattle.recording.specs.Judged.{isAt}
 use Rattle.forms.proofs.Growing.{formOk-empty}
 use Rattle.session.specs.declared.Session.{Session}
-use Rattle.answers.specs.declared.Answer.the-variants.{Taken, Misplaced, InUse, Illegal, Full}
+use Rattle.answers.specs.declared.Answer.the-variants.{Taken, Misplaced, InUse, Illegal}
 use Rattle.answers.specs.Answers.{isTaken, numberOf, answerOf}
+use Rattle.full.proofs.Full.{taken-room}
 use Rattle.lent.specs.Lent.{World, rowsOf}
 use Rattle.results.specs.World.{memoryOf}
 use Rattle.results.specs.Named.{lookup, named}
@@ -67,9 +68,8 @@ module _ (s : Session) (w : World) (g : Good s w) (z : s .owed ≡ 0) (quiet : r
   unfolding isTaken numberOf
   keeps-start font line more room n r c =
       let c₁ = clear InUse _ _ refl (clear Misplaced _ _ refl c .1) in
-      let c₂ = clear Full _ _ refl (c₁ .1) in
       let title : List ℕ = packedOf line (n .at) (n .length) in
-      let can : hasRoom (w .links) (w .directory) 0 ≡ true = not-no _ (c₂ .0) in
+      let can : hasRoom (w .links) (w .directory) 0 ≡ true = taken-room (w .links) (w .directory) 0 (c₁ .1) in
       let may : MayStart (w .store) (w .links) (w .directory) 3 title = record {
         sound = g .store;
         some = omega arith;
@@ -91,10 +91,9 @@ module _ (s : Session) (w : World) (g : Good s w) (z : s .owed ≡ 0) (quiet : r
   keeps-picture font line more room p r c =
       let c₁ = clear InUse _ _ refl (clear Misplaced _ _ refl c .1) in
       let c₂ = clear Illegal _ _ refl (c₁ .1) in
-      let c₃ = clear Full _ _ refl (c₂ .1) in
       let title : List ℕ = packedOf line (p .at) (p .length) in
       let fine : legal more ≡ true = not-no _ (c₂ .0) in
-      let can : hasRoom (w .links) (w .directory) (length more) ≡ true = not-no _ (c₃ .0) in
+      let can : hasRoom (w .links) (w .directory) (length more) ≡ true = taken-room (w .links) (w .directory) (length more) (c₂ .1) in
       let keep : canKeep (memoryOf w) (length more) ≡ true = and-both _ _ (lt-ltb (length more) 4294967296 (omega (arith, legal-says more fine .header .long))) can in
       let may : MayStart (w .store) (w .links) (w .directory) 2 title = record {
         sound = g .store;

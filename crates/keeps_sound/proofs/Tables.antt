@@ -25,7 +25,8 @@ use Rattle.answers.specs.declared.Answer.the-variants.{
   Misfit,
   Unset,
   RunsOut,
-  Full,
+  FewPortions,
+  NoEntry,
   Overlong,
   NoneOwed,
 }
@@ -64,6 +65,7 @@ taken-is Illegal e = absurd (false≢true e)
 taken-is Misfit e = absurd (false≢true e)
 taken-is Unset e = absurd (false≢true e)
 taken-is RunsOut e = absurd (false≢true e)
-taken-is Full e = absurd (false≢true e)
+taken-is FewPortions e = absurd (false≢true e)
+taken-is NoEntry e = absurd (false≢true e)
 taken-is Overlong e = absurd (false≢true e)
 taken-is NoneOwed e = absurd (false≢true e)

@@ -5,27 +5,26 @@ use mathlib.Core.Bool.{true, not, cond}
 use mathlib.Core.List.{List, [], _∷_}
 use lib.ListN.{length}
 use Rattle.pcx.specs.Rules.{legal as legalPicture}
-use Rattle.room.specs.Room.{hasRoom}
 use Rattle.growing.specs.Keep.{kept}
 use Rattle.grammar.specs.declared.PictureCommand.{PictureCommand}
 use Rattle.grammar.specs.declared.PictureCommand.the-variants.{Store, Erase}
 use Rattle.parts.specs.Names.{packedOf}
 use Rattle.recording.specs.Judged.{isAt}
 use Rattle.session.specs.declared.Session.{Session}
-use Rattle.answers.specs.declared.Answer.the-variants.{InUse, Missing, Illegal, Full}
+use Rattle.answers.specs.declared.Answer.the-variants.{InUse, Missing, Illegal}
 use Rattle.answers.specs.Answers.{Row, row, answerOf}
+use Rattle.full.specs.Full.{fullRows}
 use Rattle.lent.specs.Lent.{World}
 use Rattle.results.specs.World.{State, state, memoryOf, withMemory}
 use Rattle.results.specs.Result.{Ran, ranBy}
 use Rattle.results.specs.Named.{lookup, named, notFound, erasedNamed, erasedEvery}
 
--- [10] "name in use (FS, GM)", [16] "not a legal picture", [19] "no empty entry, or fewer free portions than needed"; [11] "name not found (.. GK ..)"
+-- [10] "name in use (FS, GM)", [16] "not a legal picture", then [19] and [23], whether there is room for its bytes; [11] "name not found (.. GK ..)"
 abbrev pub pictureRows : World → List ℕ → List ℕ → PictureCommand → List Row
 pictureRows w line more (Store p) =
     row InUse (isAt (lookup w true line (p .at) (p .length)))
     ∷ row Illegal (not (legalPicture more))
-    ∷ row Full (not (hasRoom (w .links) (w .directory) (length more)))
-    ∷ []
+    ∷ fullRows (w .links) (w .directory) (length more)
 pictureRows w line more (Erase n) = row Missing (notFound w true line n) ∷ []
 
 -- `GK"*"` "erases all, none included"

@@ -9,6 +9,8 @@ ghost use Rattle.lent.specs.Lent.{world};
 ghost use Rattle.results.specs.Result.{ran};
 ghost use Rattle.picture_commands.specs.Pictures.{pictureBy};
 use answers::Answer;
+use answers::is_taken;
+use full::full_answer;
 use grammar::Named;
 use grammar::PictureCommand;
 use grammar::StorePicture;
@@ -42,8 +44,9 @@ fn keep_picture(
     if !pcx::is_legal(more) {
         return answered(Answer::Illegal, session);
     }
-    if !room::has_room(links, directory, more.len()) {
-        return answered(Answer::Full, session);
+    let full = full_answer(links, directory, more.len());
+    if !is_taken(full) {
+        return answered(full, session);
     }
     growing::keep(store, links, directory, 2, title, more);
     taken(session)

@@ -66,11 +66,19 @@ fn refill(run: Run, window: &mut [u8]) -> Run {
     r
 }
 
-// A line that was refused.
-fn refused(s: Settings, run: Run, answer: Answer, line: &[u8]) -> Run {
+// A line that was refused, and what is left of the store where there is no room in it.
+fn refused(
+    s: Settings,
+    run: Run,
+    answer: Answer,
+    line: &[u8],
+    links: &[u16],
+    directory: &[u8],
+) -> Run {
     let mut r = run;
     r.refused = capped_sum(run.refused, 1);
     saying::answer(s, run.file, run.line, answer, line);
+    saying::left(s, run.file, run.line, answer, links, directory);
     r
 }
 
@@ -139,9 +147,16 @@ fn blank(line: &[u8]) -> bool {
 }
 
 // What a line did: said and counted.
-fn told(s: Settings, run: Run, line: &[u8], answer: Answer) -> Run {
+fn told(
+    s: Settings,
+    run: Run,
+    line: &[u8],
+    answer: Answer,
+    links: &[u16],
+    directory: &[u8],
+) -> Run {
     if !is_taken(answer) {
-        return refused(s, run, answer, line);
+        return refused(s, run, answer, line, links, directory);
     }
     if blank(line) {
         return run;
@@ -205,7 +220,7 @@ pub fn command(
         values,
         file,
     );
-    let after = told(s, saved, line, answer);
+    let after = told(s, saved, line, answer, links, directory);
     say(s, front(&output, o.written));
     after
 }

@@ -1,6 +1,7 @@
 // What is said: on standard output what was done, on standard error what was refused or failed.
 use crate::Settings;
 use answers::Answer;
+use answers::is_full;
 use answers::is_taken;
 use answers::points;
 use ground::front;
@@ -47,13 +48,27 @@ fn say_file(s: Settings, file: usize, taken: bool) {
     }
 }
 
+// A line about a refusal, behind the name of its file.
+fn complain_of(s: Settings, file: usize, text: &[u8]) {
+    say_file(s, file, false);
+    complain(text);
+}
+
 // The mark under a refused line, where its answer points to a place.
 fn point(s: Settings, file: usize, k: usize, a: Answer) {
     if points(a) {
         let mut text = [0u8; 512];
         let n = words::mark(k, a, &mut text);
-        say_file(s, file, false);
-        complain(front(&text, n));
+        complain_of(s, file, front(&text, n));
+    }
+}
+
+// How much is left of portions and entries, under a line that is refused because one of them ran out.
+pub fn left(s: Settings, file: usize, k: usize, a: Answer, links: &[u16], directory: &[u8]) {
+    if is_full(a) {
+        let mut text = [0u8; 512];
+        let n = words::left(k, links, directory, &mut text);
+        complain_of(s, file, front(&text, n));
     }
 }
 
@@ -61,12 +76,11 @@ fn point(s: Settings, file: usize, k: usize, a: Answer) {
 pub fn answer(s: Settings, file: usize, k: usize, a: Answer, line: &[u8]) {
     let mut text = [0u8; 512];
     let n = words::said(k, a, front(line, 255), &mut text);
-    let taken = is_taken(a);
-    say_file(s, file, taken);
-    if taken {
+    if is_taken(a) {
+        say_file(s, file, true);
         say(s, front(&text, n));
     } else {
-        complain(front(&text, n));
+        complain_of(s, file, front(&text, n));
         point(s, file, k, a);
     }
 }

@@ -1,24 +1,24 @@
 -- Room, as the code asks for it.
 use mathlib.Core.Path.{_≡_, sym, _∙_}
 use mathlib.Core.List.{List}
-use mathlib.Core.Bool.{false, true, not}
+use mathlib.Core.Bool.{Bool, false, true, not}
 use Prim.Native.Nat.{ℕ, _+_, _-_, _≤_, _<_}
 use native.Mathlib.Omega.{arith}
-use lib.Dec.{eqb, ltb, leb}
+use lib.Dec.{eqb, ltb}
 use borrow.Author.Tests.{eq-eqb, ne-eqb, lt-ltb, le-ltb, ltb-true}
 use Rattle.ground.proofs.Tests.{and-left, and-right}
-use Rattle.store.specs.Chain.{needed, freeCount}
-use Rattle.store.specs.Entry.{entries, kind, size}
-use Rattle.room.specs.Room.{lowestEntry, hasRoom, canGrow}
+use Rattle.store.specs.Chain.{needed}
+use Rattle.store.specs.Entry.{kind, size}
+use Rattle.room.specs.Room.{hasPortions, hasEntry, hasRoom, canGrow}
 
-module _ (ls dir : List ℕ) (size at : ℕ) (e : at ≡ lowestEntry dir) where
-  pub room-none : entries dir ≤ at → false ≡ hasRoom ls dir size
+module _ (ls dir : List ℕ) (size : ℕ) where
+  pub room-none : (r : Bool) → r ≡ hasEntry dir → r ≡ false → false ≡ hasRoom ls dir size
   unfolding hasRoom
-  room-none h = rw (le-ltb (lowestEntry dir) (entries dir) (omega arith))
+  room-none r q e = rw (← q, e)
 
-  pub room-free : (n f : ℕ) → at < entries dir → n ≡ needed size → f ≡ freeCount ls → leb n f ≡ hasRoom ls dir size
+  pub room-free : (r p : Bool) (n : ℕ) → r ≡ hasEntry dir → r ≡ true → n ≡ needed size → p ≡ hasPortions ls n → p ≡ hasRoom ls dir size
   unfolding hasRoom
-  room-free n f h en ef = rw (lt-ltb (lowestEntry dir) (entries dir) (omega arith), en, ef)
+  room-free r p n q e en ep = rw (← q, e, ep, en)
 
 -- whether bytes can be put behind an entry
 
@@ -31,10 +31,10 @@ module _ (ls e : List ℕ) (k s more : ℕ) (ek : k ≡ kind e) (es : s ≡ size
   unfolding canGrow
   grow-long n h = rw (ne-eqb (kind e) 0 (λ z. n (ek ∙ z)), le-ltb (size e + more) 4294967296 (omega arith))
 
-  pub grow-free : (a b f : ℕ) → (k ≡ 0 → ⊥) → s < 4294967296 → more ≤ 4294967295 - s → a ≡ needed (s + more) → b ≡ needed s → f ≡ freeCount ls → leb (a - b) f ≡ canGrow ls e more
+  pub grow-free : (a b : ℕ) (p : Bool) → (k ≡ 0 → ⊥) → s < 4294967296 → more ≤ 4294967295 - s → a ≡ needed (s + more) → b ≡ needed s → p ≡ hasPortions ls (a - b) → p ≡ canGrow ls e more
   unfolding canGrow
-  grow-free a b f n small h ea eb ef =
-      rw (ne-eqb (kind e) 0 (λ z. n (ek ∙ z)), lt-ltb (size e + more) 4294967296 (omega arith), ← es, ea, eb, ef)
+  grow-free a b p n small h ea eb ep =
+      rw (ne-eqb (kind e) 0 (λ z. n (ek ∙ z)), lt-ltb (size e + more) 4294967296 (omega arith), ← es, ep, ea, eb)
 
 -- what can grow has a size that can be written
 pub can-small : (ls e : List ℕ) (more : ℕ) → canGrow ls e more ≡ true → size e + more < 4294967296

@@ -5,7 +5,7 @@ use Rattle.cells.specs.Cell.{cell}
 use Rattle.cells.specs.Scan.{lowestFrom}
 use Rattle.store.specs.Entry.{entry, size}
 use Rattle.store.specs.Samples.{links, directory}
-use Rattle.room.specs.Room.{lowestPortion, lowestEntry, hasRoom, canGrow}
+use Rattle.room.specs.Room.{lowestPortion, lowestEntry, emptyCount, hasRoom, canGrow}
 
 -- the lowest free, not the highest
 portion : lowestPortion links ≡ 1
@@ -15,6 +15,10 @@ portion = refl
 an-entry : lowestEntry directory ≡ 1
 unfolding lowestFrom cell
 an-entry = refl
+
+one-empty : emptyCount directory ≡ 1
+unfolding cell
+one-empty = refl
 
 -- 512 bytes take the last portions that are free; for one more there is no room
 fills : hasRoom links directory 512 ≡ true

@@ -1,8 +1,8 @@
-// Room in the store (paper 01): "New entries and portions are the lowest free", and 19 is "no empty entry, or fewer free portions than needed". Where the
-// next portion and the next entry are, and whether something new fits or something stored can grow: all from links and directory alone, on any memory.
+// Room in the store (paper 01): "New entries and portions are the lowest free". Where the next portion and the next entry are, and whether something new fits or
+// something stored can grow: all from links and directory alone, on any memory. Portions and entries run out apart (paper 02, §5), so each is asked for by itself.
 ghost use mathlib.Core.Path.{_≡_};
 ghost use Rattle.store.specs.Entry.{entry};
-ghost use Rattle.room.specs.Room.{lowestPortion, lowestEntry, hasRoom, canGrow};
+ghost use Rattle.room.specs.Room.{lowestPortion, lowestEntry, emptyCount, hasPortions, hasEntry, hasRoom, canGrow};
 use finding::Found;
 use store::BYTES_AN_ENTRY;
 use store::MOST_SIZE;
@@ -27,14 +27,44 @@ pub fn lowest_entry(directory: &[u8]) -> usize
     }
 }
 
+// How many entries are empty.
+pub fn empty_count(directory: &[u8]) -> usize
+    ensures { λ r. ⌜ r ≡ emptyCount (now (directory .entry)) ⌝ }
+{
+    let entries = directory.len() / BYTES_AN_ENTRY;
+    let mut n: usize = 0;
+    let mut i = 0;
+    while i < entries {
+        if store::kind_at(directory, i) == 0 {
+            n += 1;
+        }
+        i += 1;
+    }
+    n
+}
+
+// Whether so many portions are free.
+pub fn has_portions(links: &[u16], n: usize) -> bool
+    ensures { λ r. ⌜ r ≡ hasPortions (now (links .entry)) n ⌝ }
+{
+    n <= store::free_count(links)
+}
+
+// Whether an entry is empty.
+pub fn has_entry(directory: &[u8]) -> bool
+    ensures { λ r. ⌜ r ≡ hasEntry (now (directory .entry)) ⌝ }
+{
+    lowest_entry(directory) < directory.len() / BYTES_AN_ENTRY
+}
+
 // Whether there is room for a new entry of a size: an empty entry, and as many free portions as are needed.
 pub fn has_room(links: &[u16], directory: &[u8], size: usize) -> bool
     ensures { λ r. ⌜ r ≡ hasRoom (now (links .entry)) (now (directory .entry)) size ⌝ }
 {
-    if directory.len() / BYTES_AN_ENTRY <= lowest_entry(directory) {
-        return false;
+    if has_entry(directory) {
+        return has_portions(links, store::needed_for(size));
     }
-    store::needed_for(size) <= store::free_count(links)
+    false
 }
 
 // Whether so many bytes can be put behind entry i.
@@ -48,5 +78,5 @@ pub fn can_grow(links: &[u16], directory: &[u8], i: usize, more: usize) -> bool
     if MOST_SIZE - s < more {
         return false;
     }
-    store::needed_for(s + more) - store::needed_for(s) <= store::free_count(links)
+    has_portions(links, store::needed_for(s + more) - store::needed_for(s))
 }

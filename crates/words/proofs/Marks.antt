@@ -31,7 +31,8 @@ use Rattle.answers.specs.declared.Answer.the-variants.{
   Misfit,
   Unset,
   RunsOut,
-  Full,
+  FewPortions,
+  NoEntry,
   Overlong,
   NoneOwed,
 }
@@ -75,7 +76,8 @@ reason-short Illegal = omega arith
 reason-short Misfit = omega arith
 reason-short Unset = omega arith
 reason-short RunsOut = omega arith
-reason-short Full = omega arith
+reason-short FewPortions = omega arith
+reason-short NoEntry = omega arith
 reason-short Overlong = omega arith
 reason-short NoneOwed = omega arith
 

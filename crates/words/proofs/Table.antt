@@ -35,7 +35,8 @@ use Rattle.answers.specs.declared.Answer.the-variants.{
   Misfit,
   Unset,
   RunsOut,
-  Full,
+  FewPortions,
+  NoEntry,
   Overlong,
   NoneOwed,
 }
@@ -84,10 +85,11 @@ table =
     line Illegal ++ (
     line Misfit ++ (
     line Unset ++ (
-    line Full ++ (
+    line FewPortions ++ (
     line Overlong ++ (
     line NoneOwed ++ (
-    line RunsOut))))))))))))))))))))))
+    line RunsOut ++ (
+    line NoEntry)))))))))))))))))))))))
 
 pub words-line : (a : Answer) → lineOf (numberOf a) table ≡ wordsOf a
 unfolding table line wordsOf numberOf fromLine run
@@ -111,6 +113,7 @@ words-line Illegal = refl
 words-line Misfit = refl
 words-line Unset = refl
 words-line RunsOut = refl
-words-line Full = refl
+words-line FewPortions = refl
+words-line NoEntry = refl
 words-line Overlong = refl
 words-line NoneOwed = refl

@@ -1,9 +1,12 @@
--- The answers in words, the line of a call, and the mark under a line that is refused. Assumes nothing.
+-- The answers in words, the line of a call, the mark under a line that is refused, and what is left where there is no room. Assumes nothing.
 use Prim.Native.Nat.{ℕ, _+_, min}
 use Prim.Native.Char.{code}
-use mathlib.Core.List.{List, _++_}
+use mathlib.Core.List.{List, [], _++_}
 use lib.ListN.{length, replicate}
 use Rattle.kinds.specs.Text.{bytes}
+use Rattle.store.specs.Chain.{freeCount}
+use Rattle.store.specs.Entry.{entries}
+use Rattle.room.specs.Room.{emptyCount}
 use Rattle.writing.specs.Writing.{decimal}
 use Rattle.sentences.specs.Texts.{numbered}
 use Rattle.answers.specs.Answers.{numberOf, placeOf}
@@ -29,7 +32,8 @@ use Rattle.answers.specs.declared.Answer.the-variants.{
   Misfit,
   Unset,
   RunsOut,
-  Full,
+  FewPortions,
+  NoEntry,
   Overlong,
   NoneOwed,
 }
@@ -56,7 +60,8 @@ wordsOf Illegal = bytes "not a legal picture"
 wordsOf Misfit = bytes "value does not fit its declaration"
 wordsOf Unset = bytes "P while a declared value is unset"
 wordsOf RunsOut = bytes "a counter runs out"
-wordsOf Full = bytes "no empty entry, or too few free portions"
+wordsOf FewPortions = bytes "too few free portions"
+wordsOf NoEntry = bytes "no empty entry"
 wordsOf Overlong = bytes "the listing exceeds the output"
 wordsOf NoneOwed = bytes "no label is owed"
 
@@ -80,3 +85,13 @@ blanks n = replicate n (code " ")
 -- of a line is past 255
 unfoldable pub markOf : ℕ → Answer → List ℕ
 markOf k a = leadOf k ++ (blanks (length (reasonOf a) + min 255 (placeOf a)) ++ bytes "^\n")
+
+-- `N of M`, and what these are
+unfoldable pub shareOf : ℕ → ℕ → List ℕ → List ℕ
+shareOf n m text = numbered [] n ++ (numbered (bytes " of ") m ++ text)
+
+-- paper 02, §5: "Which kind of full?": the same lead again, and how much is left of both: `F of P portions are free, E of D entries are empty`
+unfoldable pub leftOf : ℕ → List ℕ → List ℕ → List ℕ
+leftOf k links directory =
+    leadOf k
+    ++ (shareOf (freeCount links) (length links) (bytes " portions are free, ") ++ shareOf (emptyCount directory) (entries directory) (bytes " entries are empty\n"))

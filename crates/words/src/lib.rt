@@ -1,14 +1,14 @@
 // The answers in words: the line that the station's program says of a call.
 //
 // Paper 01's table gives each answer a number; specs/Words.antt gives it its words, and the line `line K: A, WORDS: LINE`. Under a line that is refused with
-// a place a second one has a mark; it stands under its byte (proofs/Marks.antt, `mark-under`). Each function writes the text of its definition into a buffer, as
-// far as there is room, and answers the place after it.
+// a place a second one has a mark; it stands under its byte (proofs/Marks.antt, `mark-under`). Under a line that is refused because portions or entries ran out a
+// second one says how much is left of both. Each function writes the text of its definition into a buffer, as far as there is room, and answers the place after it.
 ghost use mathlib.Core.Path.{_≡_};
 ghost use Prim.Native.Nat.{_+_, min};
 ghost use lib.ListN.{length, drop};
 ghost use Rattle.writing.specs.Writing.{Wrote};
 ghost use Rattle.answers.specs.Answers.{placeOf};
-ghost use Rattle.words.specs.Words.{wordsOf, leadOf, reasonOf, saidOf, blanks, markOf};
+ghost use Rattle.words.specs.Words.{wordsOf, leadOf, reasonOf, saidOf, blanks, markOf, shareOf, leftOf};
 ghost use Rattle.words.specs.Lines.{linesLeft, fromLine, lineOf};
 use answers::Answer;
 use answers::number;
@@ -23,10 +23,11 @@ use ground::least;
 use ground::less;
 use sentences::put;
 use sentences::put_numbered;
+use store::BYTES_AN_ENTRY;
 use writing::put_decimal;
 
 // The words of each answer on a line of its own, in the order of their numbers.
-const WORDS: [u8; 639] = *b"\
+const WORDS: [u8; 635] = *b"\
     taken\n\
     a lent length is wrong\n\
     the font breaks its rules\n\
@@ -46,10 +47,11 @@ const WORDS: [u8; 639] = *b"\
     not a legal picture\n\
     value does not fit its declaration\n\
     P while a declared value is unset\n\
-    no empty entry, or too few free portions\n\
+    too few free portions\n\
     the listing exceeds the output\n\
     no label is owed\n\
-    a counter runs out\n";
+    a counter runs out\n\
+    no empty entry\n";
 
 // How many lines are still to be passed after a byte.
 fn passed(b: u8, left: usize) -> usize
@@ -141,4 +143,25 @@ pub fn mark(k: usize, a: Answer, out: &mut [u8]) -> usize
     let reason = put_lead(k, out);
     let end = put_blanks(out, reason, indent(a));
     put(out, end, b"^\n")
+}
+
+// `N of M`, and what these are.
+fn put_share(n: usize, m: usize, text: &[u8], out: &mut [u8], at: usize) -> usize
+    ensures { λ r. ⌜ Wrote (now (out .entry)) at (shareOf n m (now (text .entry))) r (now (out .exit)) ⌝ }
+{
+    let of = put_numbered(out, at, b"", n);
+    let end = put_numbered(out, of, b" of ", m);
+    put(out, end, text)
+}
+
+// The lead of a refused line again, and how much is left of both, portions and entries.
+pub fn left(k: usize, links: &[u16], directory: &[u8], out: &mut [u8]) -> usize
+    ensures { λ r. ⌜ Wrote (now (out .entry)) 0 (leftOf k (now (links .entry)) (now (directory .entry))) r (now (out .exit)) ⌝ }
+{
+    let portions = put_lead(k, out);
+    let free = store::free_count(links);
+    let entries = put_share(free, links.len(), b" portions are free, ", out, portions);
+    let empty = room::empty_count(directory);
+    let all = directory.len() / BYTES_AN_ENTRY;
+    put_share(empty, all, b" entries are empty\n", out, entries)
 }

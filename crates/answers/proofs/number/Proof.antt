@@ -74,6 +74,9 @@ enum-told-22 c = search needs
 enum-told-23 : tie.Need-enum-told-23
 enum-told-23 c = search needs
 
+enum-told-24 : tie.Need-enum-told-24
+enum-told-24 c = search needs
+
 returns : tie.Need-returns
 unfolding numberOf
 returns c = rw (c .enum-told .given .1)
@@ -166,6 +169,10 @@ returns-23 : tie.Need-returns-23
 unfolding numberOf
 returns-23 c = rw (c .enum-told23 .given .1)
 
+returns-24 : tie.Need-returns-24
+unfolding numberOf
+returns-24 c = rw (c .enum-told24 .given .1)
+
 pub number-spec : {M : Type 1} → statement M
 number-spec =
     tie.close
@@ -193,6 +200,7 @@ number-spec =
     enum-told-21
     enum-told-22
     enum-told-23
+    enum-told-24
     returns
     returns-2
     returns-3
@@ -215,4 +223,5 @@ number-spec =
     returns-20
     returns-21
     returns-22
-    returns-23)
+    returns-23
+    returns-24)

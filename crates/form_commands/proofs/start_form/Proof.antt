@@ -1,8 +1,6 @@
-use mathlib.Core.Path.{sym, ap, _∙_}
+use mathlib.Core.Path.{ap}
 use Rattle.answers.specs.Answers.{answerOf, isTaken, numberOf}
-use borrow.Author.Tests.{not-true, not-false}
-use Rattle.results.proofs.Parts.{inMemory}
-use Rattle.form_commands.proofs.Around.{start-room}
+use Rattle.results.proofs.Parts.{inMemory, refused-by, taken-by}
 use borrow.Author.Needs.{needs}
 use Rattle.form_commands.proofs.start_form.Statement.{statement}
 use Rattle.form_commands.proofs.start_form.Tie as tie
@@ -26,8 +24,11 @@ returns : tie.Need-returns
 unfolding answerOf isTaken numberOf
 returns c = rw (c .answered .ensures, ← c .before .before .before .before .before .packed .ensures, ← c .before .before .before .find .ensures, ← c .before .before .is-at .ensures, c .before .if1 .taken)
 
-has-room-requires : tie.Need-has-room-requires
-has-room-requires c κs = search needs
+full-answer-requires : tie.Need-full-answer-requires
+full-answer-requires c κs = search needs
+
+is-taken-requires : tie.Need-is-taken-requires
+is-taken-requires c κs = search needs
 
 answered-requires-2 : tie.Need-answered-requires-2
 answered-requires-2 c κs = search needs
@@ -39,16 +40,15 @@ same-length-3 : tie.Need-same-length-3
 same-length-3 c = search needs
 
 returns-2 : tie.Need-returns-2
-unfolding answerOf isTaken numberOf
+unfolding answerOf
 returns-2 c = rw (
   c .answered2 .ensures,
-  ← c .before .before .before .before .before .before .before .before .before .packed .ensures,
-  ← c .before .before .before .before .before .before .before .find .ensures,
-  ← c .before .before .before .before .before .before .is-at .ensures,
-  c .before .before .before .before .before .if1 .left,
-  ← c .before .before .has-room .ensures,
-  not-true (c .before .before .has-room .result) (c .before .if2 .taken),
+  ← c .before .before .before .before .before .before .before .before .before .before .packed .ensures,
+  ← c .before .before .before .before .before .before .before .before .find .ensures,
+  ← c .before .before .before .before .before .before .before .is-at .ensures,
+  c .before .before .before .before .before .before .if1 .left,
 )
+    (refused-by _ _ _ _ _ _ _ (c .before .before .before .full-answer .ensures) (c .before .before .is-taken .ensures) (c .before .if2 .taken))
 
 start-requires : tie.Need-start-requires
 start-requires c κs = search needs
@@ -66,19 +66,16 @@ same-length-6 : tie.Need-same-length-6
 same-length-6 c = search needs
 
 returns-3 : tie.Need-returns-3
-unfolding answerOf isTaken numberOf
+unfolding answerOf
 returns-3 c = rw (
   c .taken .ensures,
-  ← c .before .before .before .before .before .before .before .before .before .before .before .before .before .before .before .before .before .before .before .packed .ensures,
-  ← c .before .before .before .before .before .before .before .before .before .before .before .before .before .before .before .before .before .find .ensures,
-  ← c .before .before .before .before .before .before .before .before .before .before .before .before .before .before .before .before .is-at .ensures,
-  c .before .before .before .before .before .before .before .before .before .before .before .before .before .before .before .if1 .left,
-  ← c .before .before .before .before .before .before .before .before .before .before .before .before .has-room .ensures,
-  not-false (c .before .before .before .before .before .before .before .before .before .before .before .before .has-room .result) (c .before .before .before .before .before .before .before .before .before .before .before .if2 .left),
+  ← c .before .before .before .before .before .before .before .before .before .before .before .before .before .before .before .before .before .before .before .before .packed .ensures,
+  ← c .before .before .before .before .before .before .before .before .before .before .before .before .before .before .before .before .before .before .find .ensures,
+  ← c .before .before .before .before .before .before .before .before .before .before .before .before .before .before .before .before .before .is-at .ensures,
+  c .before .before .before .before .before .before .before .before .before .before .before .before .before .before .before .before .if1 .left,
 )
-    (ap (inMemory _ _ _ _)
-    (c .before .before .before .before .before .before .before .start .ensures .1
-    ∙ start-room _ _ _ (sym (c .before .before .before .before .before .before .before .before .before .before .before .before .has-room .ensures) ∙ not-false (c .before .before .before .before .before .before .before .before .before .before .before .before .has-room .result) (c .before .before .before .before .before .before .before .before .before .before .before .if2 .left))))
+    (taken-by _ _ _ _ _ _ (c .before .before .before .before .before .before .before .before .before .before .before .before .before .full-answer .ensures) (c .before .before .before .before .before .before .before .before .before .before .before .before .is-taken .ensures) (c .before .before .before .before .before .before .before .before .before .before .before .if2 .left)
+    (ap (inMemory _ _ _ _) (c .before .before .before .before .before .before .before .start .ensures .1)))
 
 pub start-form-spec : {M : Type 1} → statement M
-start-form-spec = tie.close (tie.spec packed-requires find-requires is-at-requires answered-requires same-length returns has-room-requires answered-requires-2 same-length-2 same-length-3 returns-2 start-requires taken-requires same-length-4 same-length-5 same-length-6 returns-3)
+start-form-spec = tie.close (tie.spec packed-requires find-requires is-at-requires answered-requires same-length returns full-answer-requires is-taken-requires answered-requires-2 same-length-2 same-length-3 returns-2 start-requires taken-requires same-length-4 same-length-5 same-length-6 returns-3)

@@ -1,7 +1,7 @@
 use mathlib.Core.Path.{ap}
 use Rattle.answers.specs.Answers.{answerOf, isTaken, numberOf}
 use borrow.Author.Tests.{not-true, not-false}
-use Rattle.results.proofs.Parts.{inMemory}
+use Rattle.results.proofs.Parts.{inMemory, refused-by, taken-by}
 use borrow.Author.Needs.{needs}
 use Rattle.picture_commands.proofs.keep_picture.Statement.{statement}
 use Rattle.picture_commands.proofs.keep_picture.Tie as tie
@@ -46,8 +46,11 @@ returns-2 c = rw (
   not-true (c .before .before .is-legal .result) (c .before .if2 .taken),
 )
 
-has-room-requires : tie.Need-has-room-requires
-has-room-requires c κs = search needs
+full-answer-requires : tie.Need-full-answer-requires
+full-answer-requires c κs = search needs
+
+is-taken-requires : tie.Need-is-taken-requires
+is-taken-requires c κs = search needs
 
 answered-requires-3 : tie.Need-answered-requires-3
 answered-requires-3 c κs = search needs
@@ -59,18 +62,17 @@ same-length-4 : tie.Need-same-length-4
 same-length-4 c = search needs
 
 returns-3 : tie.Need-returns-3
-unfolding answerOf isTaken numberOf
+unfolding answerOf
 returns-3 c = rw (
   c .answered3 .ensures,
-  ← c .before .before .before .before .before .before .before .before .before .before .before .packed .ensures,
-  ← c .before .before .before .before .before .before .before .before .before .find .ensures,
-  ← c .before .before .before .before .before .before .before .before .is-at .ensures,
-  c .before .before .before .before .before .before .before .if1 .left,
-  ← c .before .before .before .before .before .before .is-legal .ensures,
-  not-false (c .before .before .before .before .before .before .is-legal .result) (c .before .before .before .before .before .if2 .left),
-  ← c .before .before .has-room .ensures,
-  not-true (c .before .before .has-room .result) (c .before .if3 .taken),
+  ← c .before .before .before .before .before .before .before .before .before .before .before .before .packed .ensures,
+  ← c .before .before .before .before .before .before .before .before .before .before .find .ensures,
+  ← c .before .before .before .before .before .before .before .before .before .is-at .ensures,
+  c .before .before .before .before .before .before .before .before .if1 .left,
+  ← c .before .before .before .before .before .before .before .is-legal .ensures,
+  not-false (c .before .before .before .before .before .before .before .is-legal .result) (c .before .before .before .before .before .before .if2 .left),
 )
+    (refused-by _ _ _ _ _ _ _ (c .before .before .before .full-answer .ensures) (c .before .before .is-taken .ensures) (c .before .if3 .taken))
 
 keep-requires : tie.Need-keep-requires
 keep-requires c κs = search needs
@@ -88,19 +90,18 @@ same-length-7 : tie.Need-same-length-7
 same-length-7 c = search needs
 
 returns-4 : tie.Need-returns-4
-unfolding answerOf isTaken numberOf
+unfolding answerOf
 returns-4 c = rw (
   c .taken .ensures,
-  ← c .before .before .before .before .before .before .before .before .before .before .before .before .before .before .before .before .before .before .before .before .before .packed .ensures,
-  ← c .before .before .before .before .before .before .before .before .before .before .before .before .before .before .before .before .before .before .before .find .ensures,
-  ← c .before .before .before .before .before .before .before .before .before .before .before .before .before .before .before .before .before .before .is-at .ensures,
-  c .before .before .before .before .before .before .before .before .before .before .before .before .before .before .before .before .before .if1 .left,
-  ← c .before .before .before .before .before .before .before .before .before .before .before .before .before .before .before .before .is-legal .ensures,
-  not-false (c .before .before .before .before .before .before .before .before .before .before .before .before .before .before .before .before .is-legal .result) (c .before .before .before .before .before .before .before .before .before .before .before .before .before .before .before .if2 .left),
-  ← c .before .before .before .before .before .before .before .before .before .before .before .before .has-room .ensures,
-  not-false (c .before .before .before .before .before .before .before .before .before .before .before .before .has-room .result) (c .before .before .before .before .before .before .before .before .before .before .before .if3 .left),
+  ← c .before .before .before .before .before .before .before .before .before .before .before .before .before .before .before .before .before .before .before .before .before .before .packed .ensures,
+  ← c .before .before .before .before .before .before .before .before .before .before .before .before .before .before .before .before .before .before .before .before .find .ensures,
+  ← c .before .before .before .before .before .before .before .before .before .before .before .before .before .before .before .before .before .before .before .is-at .ensures,
+  c .before .before .before .before .before .before .before .before .before .before .before .before .before .before .before .before .before .before .if1 .left,
+  ← c .before .before .before .before .before .before .before .before .before .before .before .before .before .before .before .before .before .is-legal .ensures,
+  not-false (c .before .before .before .before .before .before .before .before .before .before .before .before .before .before .before .before .before .is-legal .result) (c .before .before .before .before .before .before .before .before .before .before .before .before .before .before .before .before .if2 .left),
 )
-    (ap (inMemory _ _ _ _) (c .before .before .before .before .before .before .before .keep .ensures .1))
+    (taken-by _ _ _ _ _ _ (c .before .before .before .before .before .before .before .before .before .before .before .before .before .full-answer .ensures) (c .before .before .before .before .before .before .before .before .before .before .before .before .is-taken .ensures) (c .before .before .before .before .before .before .before .before .before .before .before .if3 .left)
+    (ap (inMemory _ _ _ _) (c .before .before .before .before .before .before .before .keep .ensures .1)))
 
 pub keep-picture-spec : {M : Type 1} → statement M
-keep-picture-spec = tie.close (tie.spec packed-requires find-requires is-at-requires answered-requires same-length returns is-legal-requires answered-requires-2 same-length-2 returns-2 has-room-requires answered-requires-3 same-length-3 same-length-4 returns-3 keep-requires taken-requires same-length-5 same-length-6 same-length-7 returns-4)
+keep-picture-spec = tie.close (tie.spec packed-requires find-requires is-at-requires answered-requires same-length returns is-legal-requires answered-requires-2 same-length-2 returns-2 full-answer-requires is-taken-requires answered-requires-3 same-length-3 same-length-4 returns-3 keep-requires taken-requires same-length-5 same-length-6 same-length-7 returns-4)

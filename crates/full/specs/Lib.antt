@@ -1,0 +1,3 @@
+-- Which kind of full.
+pub mod Full
+pub mod Cases
