@@ -73,14 +73,20 @@ static void fill(struct work *w, const char *line)
     }
 }
 
+/* Every byte that a call may change as it was. */
+static void restore(struct work *to, const struct work *from)
+{
+    for (int s = 0; s < SLICES; s++)
+        if (s != FONT && s != INPUT)
+            memcpy(to->desk.bytes[s], from->desk.bytes[s], from->desk.room[s]);
+}
+
 static void copy_work(struct work *to, const struct work *from)
 {
     memset(to, 0, sizeof *to);
     memcpy(to->length, from->length, sizeof to->length);
     set_up_desk(&to->desk, from->room, 0);
-    for (int s = 0; s < SLICES; s++)
-        if (s != FONT && s != INPUT)
-            memcpy(to->desk.bytes[s], from->desk.bytes[s], from->desk.room[s]);
+    restore(to, from);
     put_on_desk(&to->desk, FONT, font, font_length);
 }
 
@@ -137,6 +143,27 @@ static double time_commands(const struct station *s, const struct work *from, un
     start = now() - start;
     clear_away(&w.desk);
     return start;
+}
+
+/* As many lines as take the form from no line to its second portion, then the form is as before; only the lines are timed. */
+enum { LINES = 26 };
+
+static double time_lines(const struct station *s, const struct work *from, unsigned count)
+{
+    struct work w;
+    double all = 0;
+
+    copy_work(&w, from);
+    for (unsigned done = 0; done < count; done += LINES) {
+        double start = now();
+        for (unsigned i = 0; i < LINES; i++)
+            if (send_bytes(s, &w, "LO1,1,1,1\n", 10) != 0)
+                exit(1);
+        all += now() - start;
+        restore(&w, from);
+    }
+    clear_away(&w.desk);
+    return all;
 }
 
 static double time_labels(const struct station *s, const struct work *from, unsigned count)
@@ -221,6 +248,25 @@ static void full_store(void)
     clear_away(&w.desk);
 }
 
+/* Paper 02: "The station adds up all chains to find its free portions for each recorded line." With one chain, and with 512 of them. */
+static void recorded_lines(void)
+{
+    struct work w;
+
+    open_work(&w, 240, MOST_PORTIONS, MOST_ENTRIES);
+    fill(&w, "FS\"F0\"\n");
+    printf("a form being recorded: %u of %u portions free\n", free_left(&w), MOST_PORTIONS);
+    measure("a recorded line, nearly all portions free", &w, 40 * LINES, time_lines);
+    clear_away(&w.desk);
+
+    fill_store(&w);
+    fill(&w, "FK\"F0\"\n");
+    fill(&w, "FS\"F0\"\n");
+    printf("a form being recorded: %u of %u portions free\n", free_left(&w), MOST_PORTIONS);
+    measure("a recorded line, nearly all portions taken", &w, 4 * LINES, time_lines);
+    clear_away(&w.desk);
+}
+
 static void long_label(void)
 {
     struct work w;
@@ -284,5 +330,6 @@ int main(void)
     full_store();
     long_label();
     small_labels();
+    recorded_lines();
     return 0;
 }

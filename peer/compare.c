@@ -5,8 +5,10 @@
  * After each call the answer, the three counts, the session and every lent byte must be the same, and so must the bytes beyond
  * what was lent. Of the peer alone it is also asked that a refusal changes nothing, that a call changes only what it may, that
  * only 6, 7 and 12 to 15 point and none past the line's LF, that memory is sound after every taken call, that within one job a
- * counter with a step never shows a value twice, that only a job's last label unsets one, and that 19 and 23 are given by what was
- * free and empty before the call, to no line but those that may ask for it. The first difference is told with
+ * counter with a step never shows a value twice, that only a job's last label unsets one, that 19 and 23 are given by what was
+ * free and empty before the call, to no line but those that may ask for it, that after every taken call the number of free portions is
+ * what a fresh count finds, and has moved only where it may, and that an image of another length is 1 and one refused by opening all zero. The
+ * first difference is told with
  * the seed of its session and ends the run. At the end: how often each call gave each answer, and of the answers that point how
  * many places they were seen to point to, how many of these more than nine times, and how often to the LF. With -DSELF the station
  * is the peer again, which tries the generator and this program alone. */
@@ -192,13 +194,19 @@ static int is_sound(const struct pair *p, const struct event *e, struct facts *f
 
 /* ---- which kind of full ---- */
 
-static unsigned free_before(const struct pair *p, const struct event *e)
+/* The links marked free, one by one. */
+static unsigned marked_free(const struct desk *d, const struct event *e)
 {
-    unsigned free = 0;
+    unsigned marked = 0;
 
     for (size_t i = 0; i < e->length[LINKS]; i++)
-        free += p->before.bytes[LINKS][2 * i] == 0xff && p->before.bytes[LINKS][2 * i + 1] == 0xff;
-    return free;
+        marked += d->bytes[LINKS][2 * i] == 0xff && d->bytes[LINKS][2 * i + 1] == 0xff;
+    return marked;
+}
+
+static unsigned free_before(const struct pair *p, const struct event *e)
+{
+    return marked_free(&p->before, e);
 }
 
 static int kind_before(const struct pair *p, const struct event *e, uint8_t kind)
@@ -234,6 +242,91 @@ static int full_so(const struct pair *p, const struct event *e, unsigned answer)
     return answer == (kind_before(p, e, EMPTY) ? TAKEN : NO_EMPTY_ENTRY);
 }
 
+/* ---- free room kept as a number ---- */
+
+static unsigned number_of(const struct desk *d)
+{
+    return d->bytes[SESSION][65] | (unsigned)d->bytes[SESSION][66] << 8;
+}
+
+/* The portions lent, less those that the sizes call for, counted down 256 bytes at a time. */
+static unsigned left_by_sizes(const struct desk *d, const struct event *e)
+{
+    unsigned left = (unsigned)e->length[LINKS];
+
+    for (size_t at = 0; at < e->length[DIRECTORY]; at += ENTRY) {
+        uint32_t size = entry_size(d->bytes[DIRECTORY] + at);
+        if (d->bytes[DIRECTORY][at] == EMPTY)
+            continue;
+        for (left--; size > PORTION; size -= PORTION)
+            left--;
+    }
+    return left;
+}
+
+/* What a taken call may do to the number: FS takes one, GM at least one, FK and GK give back, a recorded line takes one or none, and
+ * nothing else moves it. "*" may find nothing to erase. */
+static int moved_so(const struct pair *p, const struct event *e, unsigned before, unsigned after)
+{
+    bool recording = kind_before(p, e, RECORDING), named = e->count > 3 && e->bytes[2] == '"';
+
+    if (e->call == COMMAND && recording)
+        return after == before || (after + 1 == before && e->bytes[0] != 'F' && e->bytes[0] != ';' && e->bytes[0] != '\n');
+    if (e->call != COMMAND || !named)
+        return after == before;
+    if (memcmp(e->bytes, "FS", 2) == 0)
+        return after + 1 == before;
+    if (memcmp(e->bytes, "GM", 2) == 0)
+        return after + portions_needed(e) == before;
+    if (memcmp(e->bytes, "FK", 2) == 0 || memcmp(e->bytes, "GK", 2) == 0)
+        return after > before || (after == before && e->bytes[3] == '*');
+    return after == before;
+}
+
+/* "right after FS, each recorded line, FE, FK, GM, GK and opening" */
+static int number_so(const struct pair *p, const struct event *e)
+{
+    unsigned number = number_of(&p->peer);
+
+    if (number != marked_free(&p->peer, e) || number != left_by_sizes(&p->peer, e))
+        return 0;
+    return e->call == OPEN ? number == e->length[LINKS] : moved_so(p, e, number_of(&p->before), number);
+}
+
+/* "An image of another length is [1]", and 1 is the lowest number; a refused opening leaves the image all zero. */
+static int image_so(const struct pair *p, const struct event *e, unsigned answer)
+{
+    unsigned not_zero = 0;
+
+    if (e->length[SESSION] != IMAGE)
+        return answer == BAD_LENGTH;
+    for (unsigned i = 0; i < IMAGE; i++)
+        not_zero += p->peer.bytes[SESSION][i] != 0;
+    return e->call != OPEN || answer == TAKEN || not_zero == 0;
+}
+
+/* Image, room and its number. */
+static void check_room(const struct pair *p, const struct generator *g, const struct event *e, unsigned answer, uint64_t calls)
+{
+    if (!image_so(p, e, answer)) {
+        tell_difference(g, e, calls);
+        printf("the peer answered %u to an image of %zu bytes, or opening left other bytes than zeros in it\n", answer, e->length[SESSION]);
+        exit(1);
+    }
+    if (!full_so(p, e, answer)) {
+        tell_difference(g, e, calls);
+        printf("the peer answered %u with %u portions free and %s entry\n", answer, free_before(p, e),
+               kind_before(p, e, EMPTY) ? "an empty" : "no empty");
+        exit(1);
+    }
+    if (answer == 0 && !number_so(p, e)) {
+        tell_difference(g, e, calls);
+        printf("the peer took the call; its number was %u and is %u, with %u links marked free and %u portions left by the sizes\n",
+               number_of(&p->before), number_of(&p->peer), marked_free(&p->peer, e), left_by_sizes(&p->peer, e));
+        exit(1);
+    }
+}
+
 static void check_promises(const struct pair *p, const struct generator *g, const struct event *e, unsigned answer, uint64_t calls)
 {
     struct facts facts;
@@ -260,12 +353,7 @@ static void check_promises(const struct pair *p, const struct generator *g, cons
         printf("the peer drew the label, and a counter has shown its value before or did not go on by its step\n");
         exit(1);
     }
-    if (!full_so(p, e, answer)) {
-        tell_difference(g, e, calls);
-        printf("the peer answered %u with %u portions free and %s entry\n", answer, free_before(p, e),
-               kind_before(p, e, EMPTY) ? "an empty" : "no empty");
-        exit(1);
-    }
+    check_room(p, g, e, answer, calls);
 }
 
 static void make_call(struct pair *p, struct generator *g, const struct event *e, uint64_t calls)

@@ -1067,12 +1067,18 @@ static void put_comment(struct generator *g)
     }
 }
 
+static unsigned stored_of(const struct generator *g, uint8_t kind)
+{
+    unsigned stored = 0;
+
+    for (unsigned i = 0; i < g->entries; i++)
+        stored += entry(g, i)[0] == kind;
+    return stored;
+}
+
 static bool has_stored(const struct generator *g, uint8_t kind)
 {
-    for (unsigned i = 0; i < g->entries; i++)
-        if (entry(g, i)[0] == kind)
-            return true;
-    return false;
+    return stored_of(g, kind) > 0;
 }
 
 static void put_drawing(struct generator *g, const struct declared *d)
@@ -1164,7 +1170,7 @@ static void put_recording_line(struct generator *g, const struct view *v)
 {
     unsigned k = below(g, 100);
 
-    if (chance(g, nearly_full(v) ? 20 : 6)) {
+    if (chance(g, nearly_full(v) ? 20 : 9)) {
         put_filling_line(g, v);
         return;
     }
@@ -1204,7 +1210,7 @@ static void put_erasure(struct generator *g)
 {
     bool form = chance(g, 35);
 
-    if (chance(g, 6))
+    if (chance(g, stored_of(g, form ? FORM : PICTURE) > 1 ? 25 : 6))
         put_words(g, form ? "FK\"*\"" : "GK\"*\"");
     else
         put_named(g, form ? "FK" : "GK", form ? FORM : PICTURE, 85);
@@ -1543,6 +1549,14 @@ static void poke_number(struct generator *g, enum slice s, size_t at, unsigned v
         add_poke(g, s, at + i, (uint8_t)(value >> (8 * i)));
 }
 
+/* From now on this many portions of the store are lent. */
+static void lend_portions(struct generator *g, unsigned portions)
+{
+    g->portions = portions;
+    g->length[STORE] = (size_t)portions * PORTION;
+    g->length[LINKS] = portions;
+}
+
 static uint8_t near_byte(struct generator *g, uint8_t byte)
 {
     switch (below(g, 4)) {
@@ -1561,6 +1575,60 @@ static void damage_byte(struct generator *g, enum slice s, size_t at)
 static unsigned some_of(struct generator *g, const unsigned *values, unsigned count)
 {
     return values[below(g, count)];
+}
+
+/* ---- damage to the number of free portions ---- */
+
+enum { NUMBER_AT = 65 };
+
+static unsigned number_of(const struct generator *g)
+{
+    return low_first(g->desk->bytes[SESSION] + NUMBER_AT);
+}
+
+static void damage_number(struct generator *g)
+{
+    unsigned n = number_of(g), swapped = (n & 255) << 8 | n >> 8;
+    unsigned to[] = {n + 1, n - 1, n + 1, n - 1, 0, 65535, swapped, g->number_before, g->portions, g->portions - n, n + 256, n - 256, n ^ 1u << below(g, 16),
+                     n + between(g, 2, 8), n - between(g, 2, 8), (unsigned)random_number(g)};
+
+    poke_number(g, SESSION, NUMBER_AT, some_of(g, to, sizeof to / sizeof to[0]), 2);
+}
+
+/* The number that the directory will call for when all pokes are done, so that the other clauses of sound decide alone; or one beside it. */
+static void move_number_along(struct generator *g)
+{
+    static uint8_t directory[MOST_ENTRIES * ENTRY];
+    unsigned number = g->portions;
+
+    memcpy(directory, g->desk->bytes[DIRECTORY], ENTRY * g->entries);
+    for (unsigned i = 0; i < g->poke_count; i++)
+        if (g->pokes[i].slice == DIRECTORY && g->pokes[i].at < ENTRY * g->entries)
+            directory[g->pokes[i].at] = g->pokes[i].byte;
+    for (unsigned i = 0; i < g->entries; i++)
+        if (directory[ENTRY * i] != EMPTY)
+            number -= portions_for(entry_size(directory + ENTRY * i));
+    if (chance(g, 5))
+        number += chance(g, 50) ? 1 : -1u;
+    poke_number(g, SESSION, NUMBER_AT, number, 2);
+}
+
+/* A store of some portions more or fewer for the next calls. Those that come to it are free and empty, or as they happen to be. */
+static void lend_other_store(struct generator *g)
+{
+    unsigned room = (unsigned)(g->desk->room[STORE] / PORTION), to = chance(g, 50) ? g->portions + between(g, 1, 2) : g->portions - between(g, 1, 3);
+    bool cleared = chance(g, 80);
+
+    if (to < 1 || to > room || to > MOST_PORTIONS)
+        return;
+    for (unsigned i = g->portions; i < to && cleared; i++) {
+        poke_number(g, LINKS, 2 * i, FREE, 2);
+        for (unsigned k = 0; k < PORTION; k++)
+            add_poke(g, STORE, PORTION * i + k, 0);
+    }
+    lend_portions(g, to);
+    if (chance(g, 75))
+        move_number_along(g);
 }
 
 static void damage_session(struct generator *g)
@@ -1584,7 +1652,7 @@ static void damage_session(struct generator *g)
         poke_number(g, SESSION, 15 + 5 * n, below(g, 3), 1);
         poke_number(g, SESSION, 16 + 5 * n, some_of(g, c, 11), 4);
         break;
-    default: damage_byte(g, SESSION, below(g, 65)); break;
+    default: damage_byte(g, SESSION, below(g, IMAGE)); break;
     }
 }
 
@@ -1877,31 +1945,49 @@ static void damage_background(struct generator *g)
         damage_byte(g, BACKGROUND, below(g, g->rows) * 76u + (width < 600 ? width / 8 : below(g, 76)));
 }
 
-static void damage(struct generator *g)
+/* What changes sizes changes the number too, mostly; else 3 would always be the number's. */
+static void damage_something(struct generator *g)
 {
     unsigned k = below(g, 100);
 
-    g->poke_count = g->poke_next = 0;
-    if (chance(g, labels_owed(g) > 0 ? 70 : 10))
-        damage_job(g);
-    else if (chance(g, g->entries > 30 ? 60 : 10))
-        fill_directory(g);
-    else if (k < 20)
+    if (k < 14)
         damage_session(g);
-    else if (k < 28)
+    else if (k < 22)
+        damage_number(g);
+    else if (k < 27)
+        lend_other_store(g);
+    else if (k < 34)
         damage_links(g);
-    else if (k < 42)
+    else if (k < 47) {
         damage_entry(g);
-    else if (k < 55)
+        if (chance(g, 55))
+            move_number_along(g);
+    } else if (k < 57)
         damage_store(g);
-    else if (k < 67)
+    else if (k < 68)
         damage_form_slightly(g);
-    else if (k < 83)
+    else if (k < 85) {
         forge_form(g);
-    else if (k < 93)
+        if (chance(g, 90))
+            move_number_along(g);
+    } else if (k < 94)
         damage_values(g);
     else
         damage_background(g);
+}
+
+static void damage(struct generator *g)
+{
+    g->poke_count = g->poke_next = 0;
+    g->portions_before = g->portions;
+    if (chance(g, labels_owed(g) > 0 ? 60 : 10))
+        damage_job(g);
+    else if (chance(g, g->entries > 30 ? 60 : 10)) {
+        fill_directory(g);
+        if (chance(g, 95))
+            move_number_along(g);
+    } else
+        damage_something(g);
     g->undo_count = g->poke_count;
     g->damaged = true;
     g->touched = false;
@@ -1915,6 +2001,7 @@ static void repair(struct generator *g)
     g->poke_count = g->poke_next = 0;
     if (g->touched)
         return;
+    lend_portions(g, g->portions_before);
     for (unsigned i = g->undo_count; i-- > 0;)
         g->pokes[g->poke_count++] = g->undo[i];
 }
@@ -1937,7 +2024,7 @@ static void other_length(struct generator *g, struct event *e)
     case 2: n = n >= units[s] ? n - units[s] : 0; break;
     case 3: n += 1; break;
     case 4: n = n >= 1 ? n - 1 : 0; break;
-    default: n = below(g, (unsigned)most + 1); break;
+    default: n = s == SESSION && chance(g, 80) ? (chance(g, 60) ? 65 : between(g, 64, 69)) : below(g, (unsigned)most + 1); break;
     }
     e->length[s] = n < most ? n : most;
     if (s == STORE && chance(g, 50))
@@ -1993,6 +2080,8 @@ static void choose_sizes(struct generator *g)
         g->portions = 2024;
     if (rarely(g, 4))
         g->entries = 512;
+    if (rarely(g, 20))  /* the number's high byte will move */
+        g->portions = 256 * (chance(g, 85) ? 1 : between(g, 1, 7)) + below(g, 6);
     if (g->small) {
         g->rows = 40;
         g->portions = chance(g, 50) ? 16 : between(g, 2, 8);
@@ -2069,6 +2158,7 @@ static void call_event(struct generator *g, struct event *e)
         e->count = g->line.length;
     }
     g->length[INPUT] = e->count;
+    g->number_before = number_of(g);
     memcpy(e->length, g->length, sizeof e->length);
     if (chance(g, e->call == OPEN ? 20 : 3))
         other_length(g, e);

@@ -68,6 +68,8 @@ struct generator {
     enum call_kind last_call;
     bool last_usual;                 /* the last call had the session's lengths */
     unsigned lost;                   /* answers 3 in a row that no damage explains */
+    unsigned number_before;          /* the number of free portions before the last call */
+    unsigned portions_before;        /* how many portions were lent before the damage */
 };
 
 void start_generator(struct generator *g, uint64_t first_seed, bool small, const struct desk *desk);

@@ -28,7 +28,7 @@ enum answer {
 
 enum {
     ROW_BYTES = 76, MOST_ROWS = 4000, PORTION = 256, MOST_PORTIONS = 2024, ENTRY = 16, MOST_ENTRIES = 512,
-    FIELD = 34, VALUE_FIELDS = 10, VALUES = 340, IMAGE = 65, CHAIN_END = 65534, FREE = 65535, NO_FORM = 65535,
+    FIELD = 34, VALUE_FIELDS = 10, VALUES = 340, IMAGE = 67, CHAIN_END = 65534, FREE = 65535, NO_FORM = 65535,
     MOST_LINE = 255, MOST_DATA = 128, MOST_PICTURE = 32768, LEAST_PICTURE = 129, PICTURE_HEAD = 128,
     ANSWERS = 24
 };
@@ -45,6 +45,7 @@ struct session {
     uint8_t turn;
     uint16_t origin_x, origin_y, active, owed, drawn;
     struct counter counters[10];
+    uint16_t free_portions;  /* of the store that is lent */
 };
 
 /* A label call lends these to be read only; it casts and never writes. */
@@ -177,13 +178,15 @@ enum { EMPTY = 0, FORM = 1, PICTURE = 2, RECORDING = 3 };
 enum { NOT_THERE = 65535 };
 
 unsigned find_entry(const struct memory *m, uint8_t kind, const struct name *name);
-void erase_entry(const struct memory *m, unsigned i);
+/* These three keep the number of free portions right. The last two ask it, and nothing else, whether there is room. */
+void erase_entry(const struct memory *m, uint16_t *free_portions, unsigned i);
 
 /* [19], [23] or 0: a new entry with content of size bytes, all zero or as given. */
-enum answer new_entry(const struct memory *m, uint8_t kind, const struct name *name, const uint8_t *content, uint32_t size);
+enum answer new_entry(const struct memory *m, uint16_t *free_portions, uint8_t kind, const struct name *name, const uint8_t *content,
+                      uint32_t size);
 
 /* [19] or 0: bytes put after the content of entry i, which is there, so never [23]. */
-enum answer append(const struct memory *m, unsigned i, const uint8_t *bytes, unsigned length);
+enum answer append(const struct memory *m, uint16_t *free_portions, unsigned i, const uint8_t *bytes, unsigned length);
 
 /* [20] or 0: the listing of a kind, or a form's bytes. */
 enum answer list_kind(const struct memory *m, uint8_t kind, uint8_t *output, size_t room, uint64_t *written);
@@ -259,6 +262,7 @@ struct facts {
     struct declarations of_recording;
     struct declarations of_active;
     bool pictures_exist;              /* every picture that the active form draws is stored */
+    unsigned called_for;              /* portions that the stored sizes call for */
 };
 
 void read_image(const uint8_t *image, struct session *s);

@@ -12,7 +12,7 @@
 #include "peer.h"
 
 static const enum slice told[] = {SESSION, COUNTS, PAGE, BACKGROUND, STORE, LINKS, DIRECTORY, VALUE, OUTPUT};
-static const size_t room[SLICES] = {[SESSION] = 67, [COUNTS] = 32, [FONT] = 65536, [PAGE] = 3192, [BACKGROUND] = 3192,
+static const size_t room[SLICES] = {[SESSION] = IMAGE + 2, [COUNTS] = 32, [FONT] = 65536, [PAGE] = 3192, [BACKGROUND] = 3192,
                                     [STORE] = 4608, [LINKS] = 36, [DIRECTORY] = 96, [VALUE] = 374, [OUTPUT] = 256,
                                     [INPUT] = 65536};
 

@@ -1,5 +1,6 @@
 /* selftest.c: paper 01's sample session, as paper 02 changed it, and its ten proof cases, as far as the three calls show them,
- * paper 02's line under the bars, places of refusals, counters that run out and two kinds of full, and drawing dot by dot.
+ * paper 02's line under the bars, places of refusals, counters that run out, two kinds of full and the number of free portions, and
+ * drawing dot by dot.
  *
  *   selftest                   runs all of them
  *   selftest bars TYPE W DATA  writes the modules of one symbol, narrow 1 and wide W, as 1 (bar) and 0, for zint-check
@@ -36,7 +37,7 @@ static void lend_font(struct bench *b, const uint8_t *font, size_t length)
     b->length[FONT] = length;
 }
 
-/* Not open yet, with the empty font. */
+/* Not open yet, with the empty font. There are two bytes beyond the image. */
 static void lay_out(struct bench *b, unsigned rows, unsigned portions, unsigned entries, size_t output)
 {
     size_t room[SLICES];
@@ -44,6 +45,7 @@ static void lay_out(struct bench *b, unsigned rows, unsigned portions, unsigned 
     memset(b, 0, sizeof *b);
     usual_lengths(b->length, rows, portions, entries, output);
     usual_room(room, b->length, 65536, 65536);
+    room[SESSION] += 2;
     set_up_desk(&b->desk, room, 0xa5);
     lend_font(b, empty_font, sizeof empty_font);
 }
@@ -103,7 +105,7 @@ static unsigned low_first(const uint8_t *bytes)
     return bytes[0] | (unsigned)bytes[1] << 8;
 }
 
-enum { UNSET = -1 };
+enum { UNSET = -1, NUMBER_AT = 65 };
 
 /* A counter's five bytes as they must be: set and the value, or all zero. */
 static int counter_is(const struct bench *b, unsigned n, int64_t value)
@@ -1360,7 +1362,15 @@ static void after_erasing(struct bench *b)
     check("erasing gives portions back as well as an entry", well && load(b, "Q", 512) == 0 && ask(b, "FS\"F\"") == 19);
 }
 
-/* What is lent to the call counts, not what was lent at opening. */
+/* From now on so many portions are lent, of which the session says that so many are free. */
+static void lend_store(struct bench *b, unsigned portions, unsigned number)
+{
+    b->length[STORE] = (size_t)portions * PORTION;
+    b->length[LINKS] = portions;
+    put_image(b, NUMBER_AT, number, 2);
+}
+
+/* What is lent to the call counts, not what was lent at opening; the number moved along, without which it is not sound. */
 static void lent_to_the_call(struct bench *b)
 {
     int well;
@@ -1368,13 +1378,11 @@ static void lent_to_the_call(struct bench *b)
     begin(b, 8, 8, 1);
     b->length[DIRECTORY] = ENTRY;
     well = ask(b, "FS\"F\"") == 23 && load(b, "P", 7 * PORTION) == 23 && load(b, "P", 7 * PORTION + 1) == 19;
-    b->length[STORE] = PORTION;
-    b->length[LINKS] = 1;
+    lend_store(b, 1, 0);
     well &= ask(b, "FS\"F\"") == 19 && load(b, "P", 130) == 19;
     b->length[DIRECTORY] = 2 * ENTRY;
     well &= ask(b, "FS\"F\"") == 19 && load(b, "P", 130) == 19;
-    b->length[STORE] = 2 * PORTION;
-    b->length[LINKS] = 2;
+    lend_store(b, 2, 1);
     check("entries and portions are those lent to the call", well && load(b, "P", 257) == 19 && ask(b, "FS\"F\"") == 0);
 }
 
@@ -1528,6 +1536,472 @@ static void full_cases(void)
     clear_away(&b.desk);
 }
 
+/* ---- free room kept as a number ---- */
+
+static unsigned number_of(const struct bench *b)
+{
+    return low_first(b->desk.bytes[SESSION] + NUMBER_AT);
+}
+
+/* The command is taken and the number is this one then. */
+static int leaves(struct bench *b, const char *line, unsigned number)
+{
+    return ask(b, line) == 0 && number_of(b) == number;
+}
+
+static int line_leaves(struct bench *b, unsigned length, unsigned number)
+{
+    return record_line(b, length) == 0 && number_of(b) == number;
+}
+
+static int picture_leaves(struct bench *b, const char *name, unsigned size, unsigned number)
+{
+    return load(b, name, size) == 0 && number_of(b) == number;
+}
+
+/* A comment and a label, both of which ask for sound. */
+static int is_sound(struct bench *b)
+{
+    return send(b, ";") == 0 && label(b) == (low_first(b->desk.bytes[SESSION] + 11) > 0 ? 0 : 21);
+}
+
+/* Not sound, and left as it was. */
+static int is_refused(struct bench *b)
+{
+    uint64_t before = digest_of(b);
+
+    return send(b, ";") == 3 && send(b, "FK\"*\"") == 3 && label(b) == 3 && digest_of(b) == before;
+}
+
+static void number_at_opening(void)
+{
+    static const unsigned portions[] = {1, 2, 9, 255, 256, 257, 2023, 2024};
+    static const uint8_t zeros[IMAGE];
+    const uint8_t *image;
+    struct bench b;
+    int well = 1;
+
+    lay_out(&b, 40, MOST_PORTIONS, 2, 64);
+    image = b.desk.bytes[SESSION];
+    for (unsigned i = 0; i < sizeof portions / sizeof portions[0]; i++) {
+        begin(&b, portions[i], 2, 0);
+        well &= number_of(&b) == portions[i] && is_sound(&b);
+    }
+    check("opening: the number is that of the portions lent", well);
+    check("it stands at 65, low byte first: 2,024 is e8 07", image[65] == 0xe8 && image[66] == 0x07);
+    b.length[VALUE]--;
+    well = call_station(&peer_station, &b.desk, OPEN, b.length) == 1 && memcmp(image, zeros, IMAGE) == 0 && image[IMAGE] == 0xa5;
+    b.length[VALUE]++;
+    check("a refused opening leaves 67 zeros, which are not sound", well && is_refused(&b));
+    clear_away(&b.desk);
+}
+
+static void image_lengths(struct bench *b)
+{
+    unsigned wrong = 0;
+
+    begin(b, 4, 4, 1);
+    for (unsigned length = 0; length <= IMAGE + 2; length++) {
+        uint64_t before = digest_of(b);
+        b->length[SESSION] = length;
+        if (length == IMAGE)
+            continue;
+        wrong += send(b, "FS\"F\"") != 1 || label(b) != 1 || call_station(&peer_station, &b->desk, OPEN, b->length) != 1;
+        wrong += digest_of(b) != before;
+    }
+    b->length[SESSION] = IMAGE;
+    check("an image of another length than 67 is 1, 65 too", wrong == 0 && leaves(b, "FS\"F\"", 2));
+}
+
+/* Each line from each size of its portion that there can be: one portion less exactly where the line does not end in it. */
+static void number_of_lines(struct bench *b)
+{
+    unsigned wrong = 0;
+
+    for (unsigned size = 16; size <= PORTION; size++)
+        for (unsigned length = 16; length <= PORTION; length += 1 + size % 7) {
+            begin(b, 4, 2, 0);
+            wrong += !leaves(b, "FS\"F\"", 3) || !line_leaves(b, size, 3) || !line_leaves(b, length, size + length > PORTION ? 2 : 3);
+        }
+    check("a recorded line takes a portion when it ends in another", wrong == 0);
+    begin(b, 4, 2, 0);
+    check("one that fills its portion takes none, the next one does",
+          leaves(b, "FS\"F\"", 3) && line_leaves(b, 256, 3) && line_leaves(b, 16, 2) && line_leaves(b, 240, 2) && leaves(b, "R0,0", 1)
+              && line_leaves(b, 251, 1) && leaves(b, "X0,0,1,9,9", 0) && record_line(b, 256) == 19 && number_of(b) == 0 && line_leaves(b, 245, 0)
+              && ask(b, "R0,0") == 19 && number_of(b) == 0);
+    check("FE leaves it, behind a full portion and behind no line",
+          leaves(b, "FE", 0) && leaves(b, "FK\"F\"", 4) && leaves(b, "FS\"G\"", 3) && leaves(b, "FE", 3) && is_sound(b));
+}
+
+/* From 257 and 258 down to 255 and up again, by each command that moves it: the high byte moves too. */
+static void number_across_a_byte(void)
+{
+    struct bench bench, *b = &bench;
+    int well;
+
+    lay_out(b, 40, 258, 3, 64);
+    begin(b, 258, 3, 0);
+    well = leaves(b, "FS\"A\"", 257) && line_leaves(b, 256, 257) && line_leaves(b, 256, 256) && line_leaves(b, 16, 255) && leaves(b, "FE", 255) && is_sound(b);
+    check("lines over 256, and FK back over it", well && leaves(b, "FK\"A\"", 258) && is_sound(b));
+    well = picture_leaves(b, "P", 256, 257) && picture_leaves(b, "Q", 600, 254) && leaves(b, "GK\"Q\"", 257) && picture_leaves(b, "Q", 512, 255);
+    check("GM and GK over 256", well && is_sound(b) && leaves(b, "GK\"*\"", 258) && is_sound(b));
+    well = picture_leaves(b, "P", 512, 256) && leaves(b, "FS\"A\"", 255) && leaves(b, "FE", 255) && leaves(b, "FK\"*\"", 256);
+    check("FS and FK\"*\" over 256", well && is_sound(b) && leaves(b, "GK\"P\"", 258));
+    clear_away(&b->desk);
+}
+
+/* By the portion: sizes at both sides of each edge. */
+static void number_of_pictures(void)
+{
+    struct bench bench, *b = &bench;
+    unsigned wrong = 0;
+
+    lay_out(b, 40, 130, 3, 64);
+    begin(b, 130, 3, 1);
+    for (unsigned edge = PORTION; edge <= MOST_PICTURE; edge += PORTION)
+        for (unsigned size = edge - 1; size <= edge + 1 && size <= MOST_PICTURE; size++) {
+            wrong += !picture_leaves(b, "P", size, 129 - edge / PORTION - (size > edge));
+            wrong += !leaves(b, "GK\"P\"", 129);
+        }
+    check("GM takes size/256 rounded up, GK gives as many back", wrong == 0);
+    check("the least picture takes one", picture_leaves(b, "P", 130, 128) && picture_leaves(b, "Q", 257, 126) && leaves(b, "GK\"p\"", 127) && is_sound(b));
+    clear_away(&b->desk);
+}
+
+/* Forms A, B and C of one, two and three portions and pictures P and Q of one and four, in sixteen portions: five left. */
+static void fill_some(struct bench *b)
+{
+    begin(b, 16, 8, 0);
+    ask(b, "FS\"A\"");
+    ask(b, "FE");
+    load(b, "P", 256);
+    for (unsigned k = 0; k < 2; k++) {
+        ask(b, k ? "FS\"C\"" : "FS\"B\"");
+        for (unsigned i = 0; i <= k; i++)
+            record_line(b, 256);
+        record_line(b, 16);
+        ask(b, "FE");
+    }
+    load(b, "Q", 1024);
+}
+
+static void number_after_erasing(struct bench *b)
+{
+    int well;
+
+    fill_some(b);
+    check("forms of 1, 2 and 3 portions, pictures of 1 and 4: 5 of 16", number_of(b) == 5 && is_sound(b));
+    check("FK gives back what the form had, active or not",
+          leaves(b, "FR\"B\"", 5) && leaves(b, "FK\"C\"", 8) && leaves(b, "FK\"B\"", 10) && leaves(b, "FK\"A\"", 11) && is_sound(b));
+    fill_some(b);
+    check("GK gives back what the picture had", leaves(b, "GK\"Q\"", 9) && leaves(b, "GK\"P\"", 10) && is_sound(b));
+    fill_some(b);
+    well = leaves(b, "FR\"B\"", 5) && leaves(b, "FK\"*\"", 11) && is_sound(b) && leaves(b, "FK\"*\"", 11) && leaves(b, "GK\"*\"", 16);
+    check("FK\"*\" gives back what all forms had, then none", well && is_sound(b));
+    fill_some(b);
+    well = leaves(b, "GK\"*\"", 10) && is_sound(b) && leaves(b, "GK\"*\"", 10) && leaves(b, "FK\"*\"", 16);
+    check("GK\"*\" gives back what all pictures had, then none", well && is_sound(b));
+}
+
+/* Each of these is taken or refused, and the number stays. */
+static void number_stays(struct bench *b)
+{
+    static const char *const lines[] = {"Q30,5", "q300", "N", "R5,5", "ZB", "ZT", "LO1,1,5,5", "LW1,1,5,5", "LE1,1,5,5", "X0,0,1,9,9", "A0,0,0,1,1,N,\"a\"",
+        "B0,0,0,3,1,2,24,B,\"A\"", "GG0,0,\"P\"", "FR\"B\"", "FI", "GI", "FP\"B\"", "?V0,\"\"", "?C0,1", "VC", "", ";", "P0", "P2,", "FE", "FS\"B\"", "FS\"*\"", "FK\"X\"",
+        "GK\"X\"", "FK\"A*\"", "GM\"P\",5\nabcde", "GM\"X\",5\nabcde", "GM\"X\",0", "V0,1,L,\"\"", "P2"};
+    unsigned wrong = 0;
+
+    fill_some(b);
+    for (unsigned i = 0; i < sizeof lines / sizeof lines[0]; i++) {
+        send(b, lines[i]);
+        wrong += number_of(b) != 5;
+    }
+    wrong += send(b, "FS\"F\"") != 8 || label(b) != 0 || label(b) != 0 || label(b) != 21 || number_of(b) != 5;
+    wrong += load(b, "X", 1281) != 19 || number_of(b) != 5 || !leaves(b, "FS\"F\"", 4) || record_line(b, 16) != 0;
+    for (unsigned i = 0; i < sizeof lines / sizeof lines[0]; i++) {
+        if (strcmp(lines[i], "FE") != 0)
+            send(b, lines[i]);
+        wrong += number_of(b) != 4;
+    }
+    check("no other command, no refusal and no label moves it", wrong == 0 && is_sound(b));
+}
+
+/* ---- sound with the number ---- */
+
+/* All numbers there are; a label that is owed is drawn when the right one has its turn. */
+static int only_this(struct bench *b, unsigned right)
+{
+    unsigned wrong = number_of(b) != right;
+
+    for (unsigned number = 0; number <= 65535; number++) {
+        put_image(b, NUMBER_AT, number, 2);
+        wrong += number == right ? !is_sound(b) : send(b, ";") != 3 || label(b) != 3;
+    }
+    put_image(b, NUMBER_AT, right, 2);
+    return wrong == 0;
+}
+
+static void other_numbers(struct bench *b)
+{
+    unsigned wrong = 0;
+
+    begin(b, 16, 8, 0);
+    check("each of the 65,535 other numbers is 3 in an empty store", only_this(b, 16));
+    fill_some(b);
+    check("in one with forms and pictures", only_this(b, 5));
+    check("while labels are owed", ask(b, "FR\"B\"") == 0 && ask(b, "P2") == 0 && only_this(b, 5) && owed(b) == 1 && label(b) == 0);
+    check("while a form is recorded", ask(b, "FS\"F\"") == 0 && only_this(b, 4));
+    for (unsigned number = 3; number <= 5; number += 2) {
+        put_image(b, NUMBER_AT, number, 2);
+        wrong += !is_refused(b);
+    }
+    lend_font(b, empty_font, sizeof empty_font - 1);
+    wrong += send(b, ";") != 2 || label(b) != 2;
+    b->length[VALUE]++;
+    wrong += send(b, ";") != 1 || label(b) != 1;
+    b->length[VALUE]--;
+    lend_font(b, empty_font, sizeof empty_font);
+    wrong += send_bytes(b, "F", 1) != 3 || send(b, "no command") != 3 || send(b, "P0") != 3;
+    put_image(b, NUMBER_AT, 4, 2);
+    check("1 and 2 go before it, it goes before 4 to 9", wrong == 0 && leaves(b, "FE", 4));
+}
+
+/* Entry i with another size, with the number that was right and with the one that this size calls for. */
+static int resized(struct bench *b, unsigned i, uint32_t size, unsigned number, int sound_then)
+{
+    uint8_t *at = b->desk.bytes[DIRECTORY] + ENTRY * i + 12, before[4];
+    unsigned right = number_of(b);
+    int well;
+
+    memcpy(before, at, 4);
+    for (unsigned k = 0; k < 4; k++)
+        at[k] = (uint8_t)(size >> (8 * k));
+    well = number == right || is_refused(b);
+    put_image(b, NUMBER_AT, number, 2);
+    well = well && (sound_then ? is_sound(b) : is_refused(b));
+    memcpy(at, before, 4);
+    put_image(b, NUMBER_AT, right, 2);
+    return well && is_sound(b);
+}
+
+/* The directory of fill_some: A, P, B of 272 bytes, C of 528, Q. A chain or a line that does not go with the size is not sound by itself. */
+static void other_sizes(struct bench *b)
+{
+    fill_some(b);
+    check("a size of more or fewer portions is 3, number moved or not",
+          resized(b, 2, 256, 6, 0) && resized(b, 2, 513, 4, 0) && resized(b, 3, 512, 6, 0) && resized(b, 4, 1025, 4, 0) && resized(b, 4, 768, 6, 0)
+              && resized(b, 0, 257, 4, 0));
+    check("so is one of the same portions that ends no line", resized(b, 2, 271, 5, 0) && resized(b, 2, 512, 5, 0) && resized(b, 0, 1, 5, 0));
+    check("sizes of 32 bits do not go round to the right number",
+          resized(b, 0, 0x1000001, 5, 0) && resized(b, 0, 0xffffffff, 5, 0) && resized(b, 4, 0x1000400, 5, 0));
+}
+
+/* An entry put in and one taken out by hand, each with its link. */
+static void other_entries(struct bench *b)
+{
+    static const uint8_t form[ENTRY] = {FORM, 1, 'Z', [10] = 15};
+    uint8_t *entry = b->desk.bytes[DIRECTORY] + ENTRY * 7, *link = b->desk.bytes[LINKS] + 2 * 15;
+    int well;
+
+    fill_some(b);
+    memcpy(entry, form, ENTRY);
+    memcpy(link, (const uint8_t[]){0xfe, 0xff}, 2);
+    well = is_refused(b);
+    put_image(b, NUMBER_AT, 4, 2);
+    well = well && is_sound(b);
+    check("an entry put in by hand calls for its portion", well && leaves(b, "FK\"Z\"", 5));
+    memset(b->desk.bytes[DIRECTORY], 0, ENTRY);
+    memset(b->desk.bytes[LINKS], 0xff, 2);
+    well = is_refused(b);
+    put_image(b, NUMBER_AT, 6, 2);
+    check("one taken out no more", well && is_sound(b));
+}
+
+/* More and fewer portions than at opening; all those beyond are free. */
+static void other_stores(struct bench *b)
+{
+    int well = 1;
+
+    fill_some(b);
+    for (unsigned portions = 1; portions <= 40; portions++) {
+        unsigned right = portions - 11;
+        memset(b->desk.bytes[LINKS] + 2 * 11, 0xff, 2 * 29);
+        memset(b->desk.bytes[STORE] + PORTION * 11, 0, PORTION * 29);
+        lend_store(b, portions, 5);
+        well &= portions == 16 ? is_sound(b) : is_refused(b);
+        lend_store(b, portions, right);
+        well &= portions < 11 ? is_refused(b) : is_sound(b);
+    }
+    check("the portions are those of the store lent to the call", well);
+    lend_store(b, 12, 1);
+    check("so is the room: one portion of twelve", load(b, "R", 257) == 19 && picture_leaves(b, "R", 256, 0) && ask(b, "FS\"F\"") == 19 && leaves(b, "FK\"C\"", 3));
+    lend_store(b, 13, 3);
+    check("with a portion more that number is 3", is_refused(b));
+}
+
+/* ---- the number told again, byte by byte on a shelf ---- */
+
+enum { SHELF = 12, NOBODY = -1 };
+
+/* Each portion with its owner (a form from 0, a picture from 6) and how many bytes are in it. */
+struct shelf {
+    unsigned portions, bytes[SHELF];
+    int owner[SHELF], last[12];  /* last: where the owner's bytes end */
+};
+
+/* The station, the paper that says what it must answer, and the shelf that says how much is free then. */
+struct thrice {
+    struct bench *b;
+    struct on_paper p;
+    struct shelf s;
+    unsigned steps, taken, given, full, wrong;
+};
+
+static unsigned free_on_shelf(const struct shelf *s)
+{
+    unsigned free = 0;
+
+    for (unsigned i = 0; i < s->portions; i++)
+        free += s->owner[i] == NOBODY;
+    return free;
+}
+
+static void take_from_shelf(struct shelf *s, int owner)
+{
+    unsigned i = 0;
+
+    while (s->owner[i] != NOBODY)
+        i++;
+    s->owner[i] = owner;
+    s->bytes[i] = 0;
+    s->last[owner] = (int)i;
+}
+
+/* Bytes one by one; whoever finds the portion full takes the next free one. */
+static void put_on_shelf(struct shelf *s, int owner, unsigned count)
+{
+    while (count--) {
+        if (s->bytes[s->last[owner]] == PORTION)
+            take_from_shelf(s, owner);
+        s->bytes[s->last[owner]]++;
+    }
+}
+
+static void clear_from_shelf(struct shelf *s, int first, int last)
+{
+    for (unsigned i = 0; i < s->portions; i++)
+        if (s->owner[i] >= first && s->owner[i] <= last)
+            s->owner[i] = NOBODY;
+}
+
+static void add_thrice(struct thrice *t, unsigned kind, unsigned name, unsigned size)
+{
+    char line[] = {'F', 'S', '"', (char)('A' + name), '"', 0};
+    unsigned must = add_on_paper(&t->p, kind, name, size);
+
+    if (must == 0) {
+        take_from_shelf(&t->s, (int)(6 * kind + name));
+        put_on_shelf(&t->s, (int)(6 * kind + name), size);
+    }
+    t->wrong += (kind ? load(t->b, (const char[]){line[3], 0}, size) : ask(t->b, line)) != must;
+}
+
+/* FK or GK of one, or of all. */
+static void erase_thrice(struct thrice *t, unsigned kind, unsigned name, bool every)
+{
+    char line[] = {"FG"[kind], 'K', '"', every ? '*' : (char)('A' + name), '"', 0};
+    unsigned must = every ? (t->p.recording >= 0 ? 9 : 0) : erase_on_paper(&t->p, kind, name), first = 6 * kind + (every ? 0 : name);
+
+    if (must == 0 && every)
+        memset(t->p.stored[kind], 0, sizeof t->p.stored[kind]);
+    if (must == 0)
+        clear_from_shelf(&t->s, (int)first, (int)(every ? first + 5 : first));
+    t->wrong += ask(t->b, line) != must;
+}
+
+/* A line of 5 bytes or of 16 to 256, with its LF. */
+static void line_thrice(struct thrice *t, unsigned length)
+{
+    unsigned must = line_on_paper(&t->p, length);
+
+    if (must == 0 && t->p.recording >= 0)
+        put_on_shelf(&t->s, t->p.recording, length);
+    t->wrong += (length == 5 ? ask(t->b, "R1,1") : record_line(t->b, length)) != must;
+}
+
+/* Half of the recorded lines end where their portion ends, if they can. */
+static unsigned length_by_chance(const struct thrice *t)
+{
+    unsigned length = chance_number() % 8 ? 16 + (unsigned)(chance_number() % 241) : 5;
+    unsigned edge = t->p.recording >= 0 ? PORTION - t->s.bytes[t->s.last[t->p.recording]] : 0;
+
+    return chance_number() % 2 && (edge == 5 || edge >= 16) ? edge : length;
+}
+
+/* A third of the pictures fill their portions, or have one byte more. */
+static unsigned size_by_chance(void)
+{
+    unsigned size = 130 + (unsigned)(chance_number() % 1200);
+
+    return chance_number() % 3 ? size : PORTION * (1 + size / PORTION) + (unsigned)(chance_number() % 2);
+}
+
+static void number_step(struct thrice *t)
+{
+    unsigned what = (unsigned)(chance_number() % 20), name = (unsigned)(chance_number() % 6), kind = what % 2, before = number_of(t->b);
+
+    if (what < 6)
+        add_thrice(t, kind, name, kind ? size_by_chance() : 0);
+    else if (what < 10)
+        erase_thrice(t, kind, name, chance_number() % 4 == 0);
+    else if (what < 18)
+        line_thrice(t, length_by_chance(t));
+    else
+        t->wrong += ask(t->b, "FE") != end_on_paper(&t->p);
+    t->steps++;
+    t->wrong += number_of(t->b) != free_on_shelf(&t->s);
+    t->taken += number_of(t->b) < before;
+    t->given += number_of(t->b) > before;
+    t->full += number_of(t->b) == 0;
+}
+
+static void number_told_again(struct bench *b)
+{
+    struct thrice t = {.b = b};
+    char text[100];
+
+    while (t.steps < 30000) {
+        t.p = (struct on_paper){.portions = 1 + (unsigned)(chance_number() % SHELF), .entries = 1 + (unsigned)(chance_number() % 6), .recording = -1};
+        t.s.portions = t.p.portions;
+        clear_from_shelf(&t.s, NOBODY, 11);
+        begin(b, t.p.portions, t.p.entries, 0);
+        for (unsigned i = 0; i < 60; i++)
+            number_step(&t);
+    }
+    snprintf(text, sizeof text, "told again: %u took, %u gave, %u of %u left none", t.taken, t.given, t.full, t.steps);
+    check(text, t.wrong == 0);
+}
+
+static void free_number_cases(void)
+{
+    struct bench b;
+
+    number_at_opening();
+    number_of_pictures();
+    number_across_a_byte();
+    lay_out(&b, 40, 40, 8, 64);
+    image_lengths(&b);
+    number_of_lines(&b);
+    number_after_erasing(&b);
+    number_stays(&b);
+    other_numbers(&b);
+    other_sizes(&b);
+    other_entries(&b);
+    other_stores(&b);
+    number_told_again(&b);
+    clear_away(&b.desk);
+}
+
 /* ---- rectangles, the turned page, a picture ---- */
 
 /* Rectangles in each ink, kept dot by dot in a second page. */
@@ -1645,6 +2119,7 @@ int main(int argc, char **argv)
     pointing_cases();
     running_cases();
     full_cases();
+    free_number_cases();
     rectangle_cases();
     picture_case();
     return failures != 0;

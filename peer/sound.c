@@ -31,6 +31,7 @@ void read_image(const uint8_t *image, struct session *s)
         s->counters[i].set = at[0];
         s->counters[i].value = low_first(at + 1) | (uint32_t)low_first(at + 3) << 16;
     }
+    s->free_portions = low_first(image + 65);
 }
 
 void write_image(const struct session *s, uint8_t *image)
@@ -47,6 +48,7 @@ void write_image(const struct session *s, uint8_t *image)
         image[15 + 5 * i] = s->counters[i].set;
         put_low_first(image + 16 + 5 * i, s->counters[i].value, 4);
     }
+    put_low_first(image + 65, s->free_portions, 2);
 }
 
 /* ---- small rules ---- */
@@ -204,6 +206,7 @@ static bool sound_entry(const struct memory *m, const struct session *s, unsigne
 
     if (entry[0] == EMPTY)
         return all_zero(entry, ENTRY);
+    f->called_for += portions_for(entry_size(entry));  /* told by the size and not by the chain */
     return entry[0] <= RECORDING && legal_name(entry) && !name_taken_before(m, i) && whole_chain(m, entry, marked)
         && sound_content(m, s, i, f);
 }
@@ -266,6 +269,8 @@ static bool may_owe(const struct memory *m, const struct session *s, const struc
         && !counter_runs_out(s, &f->of_active, s->owed);
 }
 
+/* Since paper 02 it "also means that this number equals the portions of the lent store less those that the stored sizes call for". No
+ * entry that is sound calls for more than there are, so their sum is no great number. */
 bool sound(const struct memory *m, const struct session *s, struct facts *f)
 {
     uint8_t marked[MOST_PORTIONS] = {0};
@@ -278,5 +283,6 @@ bool sound(const struct memory *m, const struct session *s, struct facts *f)
     for (unsigned i = 0; i < m->entries; i++)
         if (!sound_entry(m, s, i, marked, f))
             return false;
-    return others_free(m, marked) && sound_values(m, s, &f->of_active) && (s->owed == 0 || may_owe(m, s, f));
+    return s->free_portions + f->called_for == m->portions && others_free(m, marked) && sound_values(m, s, &f->of_active)
+        && (s->owed == 0 || may_owe(m, s, f));
 }

@@ -40,6 +40,7 @@ uint8_t peer_open(uint8_t *session, size_t session_len, uint8_t *page, size_t pa
     s.width = 608;
     s.length = (uint16_t)(background_len / ROW_BYTES);
     s.active = NO_FORM;
+    s.free_portions = (uint16_t)links_len;
     write_image(&s, session);
     return TAKEN;
 }
@@ -166,7 +167,7 @@ static enum answer start_form(struct call *k, const struct command *c)
 {
     if (find_entry(&k->m, FORM, &c->name) != NOT_THERE)
         return NAME_IN_USE;
-    return new_entry(&k->m, RECORDING, &c->name, NULL, 0);
+    return new_entry(&k->m, &k->s.free_portions, RECORDING, &c->name, NULL, 0);
 }
 
 static enum answer load_form(struct call *k, const struct command *c)
@@ -180,11 +181,16 @@ static enum answer load_form(struct call *k, const struct command *c)
     return TAKEN;
 }
 
-static void erase_every(const struct memory *m, uint8_t kind)
+static void erase(struct call *k, unsigned i)
 {
-    for (unsigned i = 0; i < m->entries; i++)
-        if (entry_at(m, i)[0] == kind)
-            erase_entry(m, i);
+    erase_entry(&k->m, &k->s.free_portions, i);
+}
+
+static void erase_every(struct call *k, uint8_t kind)
+{
+    for (unsigned i = 0; i < k->m.entries; i++)
+        if (entry_at(&k->m, i)[0] == kind)
+            erase(k, i);
 }
 
 static enum answer erase_form(struct call *k, const struct command *c)
@@ -192,14 +198,14 @@ static enum answer erase_form(struct call *k, const struct command *c)
     unsigned i;
 
     if (c->every) {
-        erase_every(&k->m, FORM);
+        erase_every(k, FORM);
         end_activity(k);
         return TAKEN;
     }
     i = find_entry(&k->m, FORM, &c->name);
     if (i == NOT_THERE)
         return NAME_NOT_FOUND;
-    erase_entry(&k->m, i);
+    erase(k, i);
     if (k->s.active == i)
         end_activity(k);
     return TAKEN;
@@ -210,13 +216,13 @@ static enum answer erase_picture(struct call *k, const struct command *c)
     unsigned i;
 
     if (c->every) {
-        erase_every(&k->m, PICTURE);
+        erase_every(k, PICTURE);
         return TAKEN;
     }
     i = find_entry(&k->m, PICTURE, &c->name);
     if (i == NOT_THERE)
         return NAME_NOT_FOUND;
-    erase_entry(&k->m, i);
+    erase(k, i);
     return TAKEN;
 }
 
@@ -235,7 +241,7 @@ static enum answer load_picture(struct call *k, const struct command *c)
         return NAME_IN_USE;
     if (!legal_picture_bytes(k->after, c->n[0]))
         return NOT_A_PICTURE;
-    return new_entry(&k->m, PICTURE, &c->name, k->after, c->n[0]);
+    return new_entry(&k->m, &k->s.free_portions, PICTURE, &c->name, k->after, c->n[0]);
 }
 
 static enum answer set_variable(struct call *k, const struct command *c)
@@ -300,7 +306,7 @@ static enum answer record(struct call *k, const struct command *c, struct normal
     if ((v = judge_line(c, &k->f.of_recording)).answer != TAKEN)
         return point(k, v);
     normal->bytes[normal->length] = '\n';
-    return append(&k->m, k->f.recording, normal->bytes, normal->length + 1);
+    return append(&k->m, &k->s.free_portions, k->f.recording, normal->bytes, normal->length + 1);
 }
 
 static enum answer obey(struct call *k, const struct command *c)

@@ -1,15 +1,15 @@
 /* station.h: the three calls of the label station, as a C program sees them.
  *
  * The station owns no memory. Whoever calls it lends everything: the page, the background, the store with its links and
- * its directory, the values, and the session itself as an image of 65 bytes. A call reads and changes what it is lent and
+ * its directory, the values, and the session itself as an image of 67 bytes. A call reads and changes what it is lent and
  * remembers nothing, so two stations can run side by side and a session can be put away and taken up again.
  *
  * A lent slice is a pointer and a length. Lengths count elements: bytes for uint8_t, numbers for `links` and `counts`.
  * No slice may overlap another. A slice of length 0 may have any pointer.
  *
- *   session     65 bytes, low byte first: width 2, length 2, turn 1 (0 ZT, 1 ZB), origin x 2, origin y 2, active form 2
+ *   session     67 bytes, low byte first: width 2, length 2, turn 1 (0 ZT, 1 ZB), origin x 2, origin y 2, active form 2
  *               (its directory entry from 0; 65535 none), labels owed 2, labels drawn 2, then ten counters of 5 bytes:
- *               set 1 (0 or 1), value 4
+ *               set 1 (0 or 1), value 4; then at 65 the number of free portions 2
  *   page        76 bytes a row, 1 to 4,000 rows; dot x is in byte x/8, highest bit first; 1 is black
  *   background  the same, and of the page's length
  *   store       1 to 2,024 portions of 256 bytes
@@ -34,6 +34,10 @@
  *
  * All other answers give place 0. If counts has another length than 3, the answer is 1 and counts is left as it is.
  *
+ * The number of free portions (paper 02) is kept so that no call has to look for room. It belongs to the store: it must be the portions
+ * of the store lent to the call, less those that the sizes in the directory call for (256 bytes each, at least one for an entry that is
+ * not empty). A session with another number is not sound, answer 3; so is one that is lent a store of another length.
+ *
  * The result of each call is its answer: 0 taken, 1 to 21 refused (paper 01's table), 22 a counter runs out (paper 02: a P of so
  * many labels that some counter of the active form would leave its digits before the last of them), 23 no empty entry (paper 02: an FS
  * or GM for which there are portions enough, but the directory is full). 19 is fewer free portions than needed and nothing else; it is
@@ -46,7 +50,7 @@
 #include <stddef.h>
 #include <stdint.h>
 
-/* Clears all lent memory, frees every portion and starts a session: width 608, length N, origin 0,0, ZT, nothing owed. */
+/* Clears all lent memory, frees every portion and starts a session: width 608, length N, origin 0,0, ZT, nothing owed, all portions free. */
 uint8_t station_open(uint8_t *session, size_t session_len,
                      uint8_t *page, size_t page_len,
                      uint8_t *background, size_t background_len,

@@ -65,13 +65,6 @@ static unsigned lowest_free(const struct memory *m, unsigned from)
     return from;
 }
 
-static bool free_portions(const struct memory *m, unsigned needed)
-{
-    for (unsigned i = 0; needed > 0 && i < m->portions; i++)
-        needed -= m->links[i] == FREE;
-    return needed == 0;
-}
-
 struct cursor start_of(const struct memory *m, const uint8_t *entry)
 {
     struct cursor at = {m->store, m->links, entry_first(entry), 0, entry_size(entry)};
@@ -140,11 +133,12 @@ const uint8_t *next_line(struct cursor *at, uint8_t room[MOST_LINE + 1], unsigne
 /* ---- erasing and adding ---- */
 
 /* Portions and entry are zeroed in their place; no other entry moves. */
-void erase_entry(const struct memory *m, unsigned i)
+void erase_entry(const struct memory *m, uint16_t *free_portions, unsigned i)
 {
     uint8_t *entry = entry_at(m, i);
     unsigned portion = entry_first(entry);
 
+    *free_portions = (uint16_t)(*free_portions + portions_for(entry_size(entry)));
     while (portion != CHAIN_END) {
         unsigned after = m->links[portion];
         memset(portion_at(m, portion), 0, PORTION);
@@ -177,16 +171,18 @@ static unsigned take_portions(const struct memory *m, unsigned count, const uint
 }
 
 /* "When both hold, 19 is given": so the portions are asked for first. */
-enum answer new_entry(const struct memory *m, uint8_t kind, const struct name *name, const uint8_t *content, uint32_t size)
+enum answer new_entry(const struct memory *m, uint16_t *free_portions, uint8_t kind, const struct name *name, const uint8_t *content,
+                      uint32_t size)
 {
-    unsigned i = lowest_empty(m), first;
+    unsigned i = lowest_empty(m), needed = portions_for(size), first;
     uint8_t *entry;
 
-    if (!free_portions(m, portions_for(size)))
+    if (*free_portions < needed)
         return TOO_FEW_PORTIONS;
     if (i == NOT_THERE)
         return NO_EMPTY_ENTRY;
-    first = take_portions(m, portions_for(size), content, size);
+    first = take_portions(m, needed, content, size);
+    *free_portions = (uint16_t)(*free_portions - needed);
     entry = entry_at(m, i);
     entry[0] = kind;
     memcpy(entry + 1, name->bytes, 9);
@@ -206,18 +202,19 @@ static unsigned last_portion(const struct memory *m, const uint8_t *entry)
 }
 
 /* A line never needs more than one new portion: it has at most 256 bytes with its LF. */
-enum answer append(const struct memory *m, unsigned i, const uint8_t *bytes, unsigned length)
+enum answer append(const struct memory *m, uint16_t *free_portions, unsigned i, const uint8_t *bytes, unsigned length)
 {
     uint8_t *entry = entry_at(m, i);
     uint32_t size = entry_size(entry);
-    unsigned last = last_portion(m, entry);
     unsigned room = portions_for(size) * PORTION - size;
-    unsigned part = length < room ? length : room;
+    unsigned part = length < room ? length : room, last;
 
+    if (part < length && *free_portions == 0)
+        return TOO_FEW_PORTIONS;
+    last = last_portion(m, entry);
     if (part < length) {
         unsigned taken = lowest_free(m, 0);
-        if (taken == m->portions)
-            return TOO_FEW_PORTIONS;
+        --*free_portions;
         m->links[last] = (uint16_t)taken;
         m->links[taken] = CHAIN_END;
         memcpy(portion_at(m, taken), bytes + part, length - part);

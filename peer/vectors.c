@@ -2,10 +2,11 @@
  *
  *   vectors INPUT-FILE LINES-FILE [FIRST-SEED [SESSIONS]]
  *
- * Without a seed it writes what is kept in peer/vectors: seven sessions by chance, which give each of the 24 answers, behind
- * them an eighth that is written here and draws every word of the line under the bars, a ninth of lines that are refused, in which
- * every kind of piece is once at fault, a tenth of jobs that take counters to their end, and an eleventh in which portions and entries
- * run out, each alone and both.
+ * Without a seed it writes what is kept in peer/vectors: six sessions by chance, behind
+ * them a seventh that is written here and draws every word of the line under the bars, an eighth of lines that are refused, in which
+ * every kind of piece is once at fault, a ninth of jobs that take counters to their end, a tenth in which portions and entries
+ * run out, each alone and both, and an eleventh that moves the number of free portions in every way and puts wrong ones in. Together
+ * they give each of the 24 answers.
  *
  * INPUT-FILE is a row of records, all numbers low byte first. A record starts with its letter:
  *
@@ -18,7 +19,7 @@
  *   L lengths                 station_label
  *
  * lengths is nine numbers of 2 bytes, in elements, of session, counts, page, background, store, links, directory, values,
- * output. The font is always lent whole. A desk has room for more than a call is lent: session 67, counts 4, page and
+ * output. The font is always lent whole. A desk has room for more than a call is lent: session 69, counts 4, page and
  * background 3,192 each, store 4,608, links 18, directory 96, values 374, output 256 elements.
  *
  * LINES-FILE has one line for each O, C and L: the number of the call from 1, the answer, the first three counts as they stand on
@@ -459,6 +460,127 @@ static void full_session(struct record *r, struct event e)
     full_store(r, &e);
 }
 
+/* ---- free room kept as a number ---- */
+
+static void put_number_of_free(struct record *r, struct event *e, unsigned number)
+{
+    poke_byte(r, e, SESSION, 65, (uint8_t)number);
+    poke_byte(r, e, SESSION, 66, (uint8_t)(number >> 8));
+}
+
+/* One too many alone. */
+static void wrong_number(struct record *r, struct event *e, unsigned right)
+{
+    put_number_of_free(r, e, right + 1);
+    ask_sound(r, e);
+    put_number_of_free(r, e, right);
+}
+
+/* One too few, one too many, none, all, more than there are, the low byte high, a high byte: 3. Then the right one. */
+static void wrong_numbers(struct record *r, struct event *e, unsigned right, unsigned all)
+{
+    const unsigned wrong[] = {right - 1, right + 1, 0, all, all + 1, right << 8, right + 256, 65535};
+
+    for (unsigned i = 0; i < sizeof wrong / sizeof wrong[0]; i++) {
+        put_number_of_free(r, e, wrong[i]);
+        ask_sound(r, e);
+    }
+    put_number_of_free(r, e, right);
+    ask_sound(r, e);
+}
+
+/* None is taken yet; a number is wrong then, and while recording. Of ten portions a form takes three: a line fills the first to its last byte
+ * and takes no other, the next one does, one crosses an edge. FE takes none. A form of no lines takes one, pictures of 256, 257 and 512 bytes
+ * one, two and two. */
+static void number_goes_down(struct record *r, struct event *e)
+{
+    static const char *const form[] = {"FS\"A\""}, *const next[] = {"R0,0", "R0,0"}, *const last[] = {"FE", "FS\"a\"", "FS\"B\"", "FE"};
+
+    open_with(r, e, 10, 6);
+    wrong_number(r, e, 10);
+    SEND_LINES(r, e, form);
+    send_text(r, e, 144);
+    send_text(r, e, 112);
+    wrong_number(r, e, 9);
+    SEND_LINES(r, e, next);
+    send_text(r, e, 144);
+    send_text(r, e, 112);
+    SEND_LINES(r, e, last);
+    send_picture(r, e, "P", 256);
+    send_picture(r, e, "Q", 257);
+    send_picture(r, e, "R", 512);
+}
+
+/* The last portion goes to a form that is erased again. Then GK and FK of one, of all that are left, and of none. A label moves nothing, and
+ * while it is owed a number is wrong once more. */
+static void number_goes_up(struct record *r, struct event *e)
+{
+    static const char *const one[] = {"FS\"C\"", "FE", "FS\"D\"", "FK\"C\"", "GK\"Q\"", "FR\"B\"", "FK\"B\"", "GK\"Q\"", "FI", "P1"};
+    static const char *const all[] = {"GK\"*\"", "GI", "FK\"*\"", "GK\"*\"", "FK\"*\"", "FI"};
+
+    SEND_LINES(r, e, one);
+    wrong_number(r, e, 4);
+    draw_label(r, e);
+    SEND_LINES(r, e, all);
+}
+
+/* A store of a portion less or more than the number knows of is 3, and sound again with the number that belongs to it. So is a size that calls for another
+ * portion, but there the number alone does not help. */
+static void other_stores(struct record *r, struct event *e, unsigned right)
+{
+    poke_byte(r, e, LINKS, 20, 0xff);  /* an eleventh, and free */
+    poke_byte(r, e, LINKS, 21, 0xff);
+    for (unsigned portions = 9; portions <= 11; portions += 2) {
+        e->length[STORE] = (size_t)portions * PORTION;
+        e->length[LINKS] = portions;
+        ask_sound(r, e);
+        put_number_of_free(r, e, right + portions - 10);
+        ask_sound(r, e);
+        put_number_of_free(r, e, right);
+    }
+    e->length[STORE] = 10 * PORTION;
+    e->length[LINKS] = 10;
+    poke_byte(r, e, DIRECTORY, 13, 3);  /* of the size of A */
+    ask_sound(r, e);
+    put_number_of_free(r, e, right - 1);
+    ask_sound(r, e);
+    poke_byte(r, e, DIRECTORY, 13, 2);
+    put_number_of_free(r, e, right);
+}
+
+/* "An image of another length is [1]": 64 to 69 bytes, of which 67 are taken. Then an opening that is refused and leaves 67 zeros. */
+static void image_lengths(struct record *r, struct event *e)
+{
+    static const char *const comment[] = {";"};
+
+    for (e->length[SESSION] = 64; e->length[SESSION] <= 69; e->length[SESSION]++)
+        SEND_LINES(r, e, comment);
+    for (e->length[SESSION] = 65; e->length[SESSION] <= 68; e->length[SESSION]++)
+        if (e->length[SESSION] != IMAGE)
+            draw_label(r, e);
+    e->call = OPEN;
+    e->count = 0;
+    e->length[SESSION] = 65;
+    make_call(r, e);
+    e->length[SESSION] = IMAGE;
+    e->length[VALUE]--;
+    make_call(r, e);
+    e->length[VALUE]++;
+    ask_sound(r, e);
+}
+
+static void number_session(struct record *r, struct event e)
+{
+    e.fill = 0;
+    set_up(r, &e);
+    lend_digits(r, &e, 2, 2);
+    number_goes_down(r, &e);
+    wrong_numbers(r, &e, 1, 10);
+    other_stores(r, &e, 1);
+    number_goes_up(r, &e);
+    image_lengths(r, &e);
+}
+
 static void tell_places(const struct record *r)
 {
     for (unsigned a = 0; a < ANSWERS; a++) {
@@ -484,7 +606,7 @@ static FILE *open_file(const char *path)
 int main(int argc, char **argv)
 {
     static struct record r;
-    uint64_t seed = argc > 3 ? strtoull(argv[3], NULL, 10) : 966;
+    uint64_t seed = argc > 3 ? strtoull(argv[3], NULL, 10) : 918;
     unsigned missing = 0;
     struct event room;
 
@@ -494,11 +616,12 @@ int main(int argc, char **argv)
     }
     r.input = open_file(argv[1]);
     r.lines = open_file(argv[2]);
-    room = chance_sessions(&r, seed, argc > 4 ? (unsigned)atoi(argv[4]) : 7);
+    room = chance_sessions(&r, seed, argc > 4 ? (unsigned)atoi(argv[4]) : 6);
     lined_session(&r, room);
     pointing_session(&r, room);
     running_session(&r, room);
     full_session(&r, room);
+    number_session(&r, room);
     for (unsigned a = 0; a < ANSWERS; a++)
         missing += r.reached[a] == 0;
     fprintf(stderr, "%u calls, %ld bytes, %u of the %u answers not reached\n", r.calls, ftell(r.input), missing, ANSWERS);

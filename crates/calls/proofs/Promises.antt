@@ -54,7 +54,7 @@ pub open-refusal-keeps :
 unfolding opened
 open-refusal-keeps page w h =
     open-keeps (wrongLent w || not (eqb (length page) (length (w .background)))) page w
-    (openedBy (labelled Taken (fresh (rowsOf w))) (zeros (length page)) (cleared w)) refl h
+    (openedBy (labelled Taken (fresh (rowsOf w) (length (w .links)))) (zeros (length page)) (cleared w)) refl h
 
 -- ---- a command that is refused keeps session, every list and the output
 

@@ -35,13 +35,13 @@ store-small : storeSound (portion ++ portion) links directory ≡ true
 unfolding computed
 store-small = store-from (portion ++ portion) links directory refl refl refl refl refl refl refl (frees portion 256 links refl refl) refl
 
-sound-small : sound (fresh 1) small ≡ true
+sound-small : sound (fresh 1 1) small ≡ true
 unfolding computed small
-sound-small = sound-from (fresh 1) small refl (background 608 1 76) store-small refl refl
+sound-small = sound-from (fresh 1 1) small refl (background 608 1 76) store-small refl refl refl
 
 abbrev pub starts : List ℕ
 starts = bytes "FS\"B\"\n"
 
-pub call-full : commanded (fresh 1) font small output starts ≡ after (outcome NoEntry (fresh 1) 6 0) small output
+pub call-full : commanded (fresh 1 1) font small output starts ≡ after (outcome NoEntry (fresh 1 1) 6 0) small output
 unfolding computed small
-call-full = answered (fresh 1) small starts NoEntry refl legal-font sound-small refl
+call-full = answered (fresh 1 1) small starts NoEntry refl legal-font sound-small refl

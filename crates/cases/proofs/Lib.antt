@@ -3,3 +3,4 @@ pub mod Laws
 pub mod Sample
 pub mod Cases
 pub mod Full
+pub mod FreeRoom

@@ -29,6 +29,7 @@ use Rattle.growing.specs.Grow as Grow
 use Rattle.room.specs.Room as Room
 use Rattle.starting.specs.Start as Start
 use Rattle.store_sound.specs.Sound as Shelves
+use Rattle.free_number.specs.Number as Free
 use Rattle.sound.specs.Sound as Sound
 use Rattle.content_check.specs.Contents as Contents
 use Rattle.activity_check.specs.Activity as Activity
@@ -83,7 +84,7 @@ forms = true
 
 -- the clauses of sound
 unfoldable pub clauses : Bool
-unfolding Shelves.lentOk Shelves.kindsOk Shelves.legalByte Shelves.nameByteOk Shelves.nameOk Shelves.namesOk Shelves.uniqueOk Shelves.uniquesOk Shelves.singleOk Shelves.singlesOk Shelves.portionOk Shelves.linksOk Shelves.emptiesOk Shelves.tailOf Shelves.tailsOk Sound.numbersOk Contents.contentOk Contents.contentsOk Activity.activeOk Sound.activeBytes Activity.owedOk Activity.activitySound
+unfolding Shelves.lentOk Shelves.kindsOk Shelves.legalByte Shelves.nameByteOk Shelves.nameOk Shelves.namesOk Shelves.uniqueOk Shelves.uniquesOk Shelves.singleOk Shelves.singlesOk Shelves.portionOk Shelves.linksOk Shelves.emptiesOk Shelves.tailOf Shelves.tailsOk Free.freeNumber Sound.numbersOk Contents.contentOk Contents.contentsOk Activity.activeOk Sound.activeBytes Activity.owedOk Activity.activitySound
 clauses = true
 
 -- the calls

@@ -18,15 +18,14 @@ use Rattle.read.specs.declared.Read.the-variants.{Refused}
 use Rattle.read.specs.Commands.{readOf}
 use Rattle.session.specs.declared.Session.{Session}
 use Rattle.answers.specs.declared.Answer.{Answer}
-use Rattle.answers.specs.declared.Answer.the-variants.{Taken, Lengths, Long, Misplaced}
+use Rattle.answers.specs.declared.Answer.the-variants.{Lengths, Long, Misplaced}
 use Rattle.answers.specs.Answers.{answerOf, isTaken, numberOf}
 use Rattle.lent.specs.Lent.{World, world, rowsOf, wrongLent}
 use Rattle.answers.proofs.Rows.{answer-skip}
 use Rattle.results.specs.Result.{done, Ran, ran, ranBy}
-use Rattle.results.proofs.Answers.{cond-map}
-use Rattle.results.proofs.Parts.{onMemory}
+use Rattle.results.proofs.Parts.{onMemory, ran-in}
 use Rattle.commands.specs.Rows.{recordRows, faultAnswer, lineRows}
-use Rattle.commands.specs.Does.{recordedLine, doesLine, listsLine}
+use Rattle.commands.specs.Does.{records, doesLine, listsLine}
 use Rattle.commands.specs.Running.{recordBy, ranRead, lineTable, lineBy}
 
 -- ---- 1 and 5 come first, whoever calls
@@ -78,9 +77,7 @@ recorded-world :
     onMemory b v o (recordBy (world [] st l d []) s line i [] c) ≡ recordBy (world b st l d v) s line i o c
 unfolding answerOf isTaken numberOf
 recorded-world (item it) s line i b st l d v o =
-    cond-map (onMemory b v o) (isTaken (answerOf (recordRows (world [] st l d []) line i (item it))))
-    (ran (done Taken s 0) (recordedLine (world [] st l d []) i line) [])
-    (ran (done (answerOf (recordRows (world [] st l d []) line i (item it))) s 0) (world [] st l d []) [])
+    ran-in (onMemory b v o) (answerOf (recordRows (world [] st l d []) s line i (item it))) s (world [] st l d []) (records (world [] st l d []) s line i (item it))
 recorded-world End s line i b st l d v o = refl
 recorded-world (Page c) s line i b st l d v o = refl
 recorded-world (Forms c) s line i b st l d v o = refl

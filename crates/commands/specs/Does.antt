@@ -1,11 +1,13 @@
 -- What a command does, once it is taken: to the session, to the lent lists, and to the output.
 -- Assumes nothing.
-use Prim.Native.Nat.{ℕ}
+use Prim.Native.Nat.{ℕ, _+_}
 use mathlib.Core.List.{List, [], _∷_, _++_}
+use lib.ListN.{length}
+use Rattle.store.specs.Entry.{entry}
 use Rattle.finding.specs.declared.Found.{Found}
 use Rattle.finding.specs.declared.Found.the-variants.{At, Nothing}
 use Rattle.finding.specs.Find.{recorded}
-use Rattle.growing.specs.Grow.{appended}
+use Rattle.growing.specs.Grow.{grown}
 use Rattle.starting.specs.Start.{finished}
 use Rattle.grammar.specs.declared.Command.{Command}
 use Rattle.grammar.specs.declared.Command.the-variants.{Item as item, End, Page, Forms, Pictures, Values, Listing}
@@ -13,6 +15,7 @@ use Rattle.read.specs.declared.Read.{Read}
 use Rattle.read.specs.declared.Read.the-variants.{Taken as Reads, Refused}
 use Rattle.normal.specs.Written.{normal}
 use Rattle.session.specs.declared.Session.{Session}
+use Rattle.free_number.specs.After.{afterGrown}
 use Rattle.lent.specs.Lent.{World, world}
 use Rattle.results.specs.World.{State, state, memoryOf, withMemory}
 use Rattle.item_commands.specs.Items.{itemRuns}
@@ -22,9 +25,12 @@ use Rattle.picture_commands.specs.Pictures.{pictureRuns}
 use Rattle.value_commands.specs.Values.{valueRuns}
 use Rattle.listing_commands.specs.Listings.{listedBy}
 
--- "A recorded line is checked and kept, not run", in normal form and with its LF
+-- "A recorded line is checked and kept, not run", in normal form and with its LF; with the number of free portions after it
 abbrev pub recordedLine : World → ℕ → List ℕ → World
-recordedLine w i line = withMemory w (appended (memoryOf w) i (normal line ++ (10 ∷ [])))
+recordedLine w i line = withMemory w (grown (memoryOf w) i (normal line ++ (10 ∷ [])))
+
+abbrev pub recordedRoom : Session → World → ℕ → List ℕ → Session
+recordedRoom s w i line = afterGrown s (entry (w .directory) i) (length (normal line) + 1)
 
 -- FE: the form being recorded is a stored one
 abbrev pub endedAt : World → ℕ → World
@@ -32,7 +38,7 @@ endedAt w i = world (w .background) (w .store) (w .links) (finished (w .director
 
 -- while the form of entry i is recorded
 abbrev pub records : World → Session → List ℕ → ℕ → Command → State
-records w s line i (item it) = state s (recordedLine w i line)
+records w s line i (item it) = state (recordedRoom s w i line) (recordedLine w i line)
 records w s line i End = state s (endedAt w i)
 records w s line i (Page c) = state s w
 records w s line i (Forms c) = state s w

@@ -38,23 +38,23 @@ use Rattle.places.specs.Places.{placesOf}
 -- ---- 9 and later
 
 -- an item recorded in entry i: [19] "fewer free portions than needed" for the line and its LF. It makes no entry, so [23] is none of its rows. FE has no rows
-abbrev pub keptRows : World → List ℕ → ℕ → Stored → List Row
-keptRows w line i (Holds it) =
+abbrev pub keptRows : World → Session → List ℕ → ℕ → Stored → List Row
+keptRows w s line i (Holds it) =
     itemRows (declaredOf (contentAt w i)) (w .directory) line it
-    (row FewPortions (not (canGrow (w .links) (entry (w .directory) i) (length (normal line) + 1))) ∷ [])
-keptRows w line i NoItem = []
+    (row FewPortions (not (canGrow (s .free) (entry (w .directory) i) (length (normal line) + 1))) ∷ [])
+keptRows w s line i NoItem = []
 
 -- while the form of entry i is recorded
-abbrev pub recordRows : World → List ℕ → ℕ → Command → List Row
-recordRows w line i c = row Misplaced (not (placesOf c .recording)) ∷ keptRows w line i (heldCommand c)
+abbrev pub recordRows : World → Session → List ℕ → ℕ → Command → List Row
+recordRows w s line i c = row Misplaced (not (placesOf c .recording)) ∷ keptRows w s line i (heldCommand c)
 
 -- each group's own rows. Outside recording data elements find nothing declared
 abbrev pub groupRows : World → Session → List ℕ → List ℕ → ℕ → Command → List Row
 groupRows w s line more room (item it) = itemRows nothing (w .directory) line it []
 groupRows w s line more room End = []
 groupRows w s line more room (Page c) = []
-groupRows w s line more room (Forms c) = formRows w line c
-groupRows w s line more room (Pictures c) = pictureRows w line more c
+groupRows w s line more room (Forms c) = formRows w s line c
+groupRows w s line more room (Pictures c) = pictureRows w s line more c
 groupRows w s line more room (Values c) = valueRows w s line c
 groupRows w s line more room (Listing c) = listingRows w line room c
 
@@ -64,7 +64,7 @@ runRows w s line more room c = row Misplaced (not (placesOf c .otherwise)) ∷ g
 
 -- by whether a form is being recorded
 abbrev pub placedRows : World → Session → List ℕ → List ℕ → ℕ → Command → Found → List Row
-placedRows w s line more room c (At i) = recordRows w line i c
+placedRows w s line more room c (At i) = recordRows w s line i c
 placedRows w s line more room c Nothing = runRows w s line more room c
 
 -- [6] "the line has not the written form", [7] "a number, name or prompt outside its limits", each with the place that reading found

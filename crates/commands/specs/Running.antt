@@ -21,7 +21,7 @@ use Rattle.commands.specs.Does.{records, runs, listed, doesLine, listsLi
 
 -- a command while the form of entry i is recorded, and otherwise
 abbrev pub recordBy : World → Session → List ℕ → ℕ → List ℕ → Command → Ran
-recordBy w s line i o c = ranBy (answerOf (recordRows w line i c)) s w o (records w s line i c) (listed w line c)
+recordBy w s line i o c = ranBy (answerOf (recordRows w s line i c)) s w o (records w s line i c) (listed w line c)
 
 abbrev pub runBy : List ℕ → World → Session → List ℕ → List ℕ → List ℕ → Command → Ran
 runBy font w s line more o c = ranBy (answerOf (runRows w s line more (length o) c)) s w o (runs font w s line more c) (listed w line c)

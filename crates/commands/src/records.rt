@@ -18,6 +18,7 @@ ghost use Rattle.item_commands.specs.Items.{itemRows};
 ghost use Rattle.commands.specs.Running.{recordBy, short};
 use answers::Answer;
 use answers::is_taken;
+use free_number::after_grown;
 use grammar::Command;
 use grammar::Item;
 use item_commands::item_answer;
@@ -27,8 +28,9 @@ use results::answered;
 use results::taken;
 use session::Session;
 
-// [11] to [15], then [19], for an item recorded in entry i as n bytes and LF.
+// [11] to [15], then [19], for an item recorded in entry i as n bytes and LF, with so many portions free.
 fn record_answer(
+    free: usize,
     store: &[u8],
     links: &[u16],
     directory: &[u8],
@@ -38,14 +40,14 @@ fn record_answer(
     n: usize,
 ) -> Answer
     requires { ⌜ n < 256 ⌝ }
-    ensures { λ r. ⌜ r ≡ answerOf (itemRows (declaredOf (content (now (store .entry)) (now (links .entry)) (now (directory .entry)) i)) (now (directory .entry)) (now (line .entry)) item (row FewPortions (not (canGrow (now (links .entry)) (entry (now (directory .entry)) i) (n + 1))) ∷ [])) ⌝ }
+    ensures { λ r. ⌜ r ≡ answerOf (itemRows (declaredOf (content (now (store .entry)) (now (links .entry)) (now (directory .entry)) i)) (now (directory .entry)) (now (line .entry)) item (row FewPortions (not (canGrow free (entry (now (directory .entry)) i) (n + 1))) ∷ [])) ⌝ }
 {
     let d = forms::declared_at(store, links, directory, i);
     let a = item_answer(directory, line, item, d);
     if !is_taken(a) {
         return a;
     }
-    if room::can_grow(links, directory, i, n + 1) {
+    if room::can_grow(free, directory, i, n + 1) {
         return Answer::Taken;
     }
     Answer::FewPortions
@@ -67,12 +69,14 @@ fn record_item(
     // every byte is LF, so that one stands behind the line
     let mut buffer = [10u8; 256];
     let n = normal::write(line, &mut buffer);
-    let a = record_answer(store, links, directory, line, i, item, n);
+    let free = session.free as usize;
+    let a = record_answer(free, store, links, directory, line, i, item, n);
     if !is_taken(a) {
         return answered(a, session);
     }
-    growing::append(store, links, directory, i, first(&buffer, n + 1));
-    taken(session)
+    let after = after_grown(session, directory, i, (n + 1) as u16);
+    growing::grow(store, links, directory, i, first(&buffer, n + 1));
+    taken(after)
 }
 
 // FE: kind 3 to 1.

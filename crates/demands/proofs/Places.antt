@@ -245,7 +245,7 @@ module _ (w : World) (line : List ℕ) (rows : ℕ) where
     placed-within : (c : Command) (f : Found) → readOf rows line ≡ Reads c → Within (length line) (placedRows w s line more room c f)
     unfolding placeOf
     placed-within (item it) (At i) h =
-        let full : Row = row FewPortions (not (canGrow (w .links) (entry (w .directory) i) (length (normal line) + 1))) in
+        let full : Row = row FewPortions (not (canGrow (s .free) (entry (w .directory) i) (length (normal line) + 1))) in
         (zero, item-within (declaredOf (contentAt w i)) it (full ∷ []) h (zero, tt))
     placed-within End (At i) h = (zero, tt)
     placed-within (Page c) (At i) h = (zero, tt)

@@ -1,5 +1,5 @@
 -- "A refusal leaves session and all lent memory unchanged": the image byte for byte, and every lent list; a command stores its counts.
--- "a refused opening returns zeros": 65 of them.
+-- "a refused opening returns zeros": 67 of them.
 use mathlib.Core.Path.{_≡_, refl}
 use mathlib.Core.Bool.{Bool, true, false, cond, _||_}
 use mathlib.Core.List.{List}

@@ -38,7 +38,7 @@ opening a i p w = record { answer = a; image = i; page = p; world = w }
 abbrev pub openingOf : Opened → OpenedFace
 openingOf o = opening (numberOf (o .outcome .answer)) (imageOf (o .outcome .session)) (o .page) (o .world)
 
--- an image of another length is left as it is, with all else; "a refused opening returns zeros", and their image is 65 zeros (`zeros-image`)
+-- an image of another length is left as it is, with all else; "a refused opening returns zeros", and their image is 67 zeros (`zeros-image`)
 unfoldable pub openedFace : List ℕ → List ℕ → World → OpenedFace
 openedFace image page w = cond (imageWrong image) (opening (numberOf Lengths) image page w) (openingOf (opened page w))
 

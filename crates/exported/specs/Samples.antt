@@ -15,7 +15,7 @@ abbrev nothing : World
 nothing = world [] [] [] [] []
 
 -- an opening that is refused, 1, leaves zeros in an image that was not
-zeros : openedFace (replicate 65 1) [] nothing ≡ opening 1 (replicate 65 0) [] nothing
+zeros : openedFace (replicate 67 1) [] nothing ≡ opening 1 (replicate 67 0) [] nothing
 unfolding numberOf pageWrong lengthsWrong opened bytesOf counterBytes imageOf openedFace
 zeros = refl
 

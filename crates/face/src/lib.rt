@@ -1,6 +1,6 @@
 // The exported calls: the station for a caller in C.
 //
-// Paper 01: "Opening, command and label calls exported on numbers and byte slices". The session is lent as an image of 65 bytes (crate `image`), so that a
+// Paper 01: "Opening, command and label calls exported on numbers and byte slices". The session is lent as an image of 67 bytes (crate `image`), so that a
 // caller keeps plain bytes, and any bytes are some session. Each call is the station's call on that session, for any slices whatever; an image of another
 // length is [1], and nothing is touched. Each promises one equation with a definition of crate `exported`, over the answer's number and every lent slice
 // at exit. `peer/station.h` declares the three for C.

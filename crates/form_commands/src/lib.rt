@@ -1,7 +1,7 @@
 // Forms: FS starts one, FR retrieves one, FK erases one or all.
 //
 // Paper 01: "FR unsets all values; so does the end of activity, by N or FK. New entries and portions are the lowest free; room freed is used again, zeroed.
-// A starting form takes one portion." `run_form` promises one equation with `formBy` (specs/Forms.antt): its rows of the table, then what it does.
+// A starting form takes one portion." Room is asked of the session's number of free portions, which FS and FK keep right (paper 02, §6). `run_form` promises one equation with `formBy` (specs/Forms.antt): its rows of the table, then what it does.
 ghost use mathlib.Core.Path.{_≡_};
 ghost use mathlib.Core.List.{[]};
 ghost use Rattle.grammar.specs.declared.FormCommand.the-variants.{Start, Retrieve, Erase};
@@ -10,6 +10,7 @@ ghost use Rattle.results.specs.Result.{ran};
 ghost use Rattle.form_commands.specs.Forms.{formBy};
 use answers::Answer;
 use answers::is_taken;
+use free_number::after_stored;
 use full::full_answer;
 use grammar::FormCommand;
 use grammar::Named;
@@ -18,6 +19,7 @@ use results::Done;
 use results::activate;
 use results::answered;
 use results::names::entry_of;
+use results::names::erase_every;
 use results::names::erase_found;
 use results::names::is_at;
 use results::names::is_missing;
@@ -30,11 +32,10 @@ fn start_form(
     session: Session,
     line: &[u8],
     n: Named,
-    store: &mut [u8],
     links: &mut [u16],
     directory: &mut [u8],
 ) -> Done
-    ensures { λ r. ⌜ ran r (world [] (now (store .exit)) (now (links .exit)) (now (directory .exit)) []) [] ≡ formBy (world [] (now (store .entry)) (now (links .entry)) (now (directory .entry)) []) session (now (line .entry)) (Start n) ⌝ }
+    ensures { λ r. ⌜ ran r (world [] [] (now (links .exit)) (now (directory .exit)) []) [] ≡ formBy (world [] [] (now (links .entry)) (now (directory .entry)) []) session (now (line .entry)) (Start n) ⌝ }
 {
     let at = n.at;
     let length = n.length;
@@ -42,12 +43,13 @@ fn start_form(
     if is_at(finding::find(directory, false, title)) {
         return answered(Answer::InUse, session);
     }
-    let full = full_answer(links, directory, 0);
+    let free = session.free as usize;
+    let full = full_answer(free, directory, 0);
     if !is_taken(full) {
         return answered(full, session);
     }
-    starting::start(store, links, directory, 3, title);
-    taken(session)
+    starting::begin(links, directory, 3, title);
+    taken(after_stored(session, 0))
 }
 
 fn retrieve(session: Session, line: &[u8], n: Named, directory: &[u8], values: &mut [u8]) -> Done
@@ -77,16 +79,16 @@ fn erase_form(
         return answered(Answer::Missing, session);
     }
     if all {
-        erasing::erase_all(store, links, directory, false);
-        return activate(session, NO_FORM, values);
+        let after = erase_every(session, store, links, directory, false);
+        return activate(after, NO_FORM, values);
     }
     let i = place_of(found);
     let active = session.active;
-    erase_found(store, links, directory, found);
+    let after = erase_found(session, store, links, directory, found);
     if active == i {
-        return activate(session, NO_FORM, values);
+        return activate(after, NO_FORM, values);
     }
-    taken(session)
+    taken(after)
 }
 
 // A command of forms.
@@ -102,7 +104,7 @@ pub fn run_form(
     ensures { λ r. ⌜ ran r (world [] (now (store .exit)) (now (links .exit)) (now (directory .exit)) (now (values .exit))) [] ≡ formBy (world [] (now (store .entry)) (now (links .entry)) (now (directory .entry)) (now (values .entry))) session (now (line .entry)) command ⌝ }
 {
     match command {
-        FormCommand::Start(n) => start_form(session, line, n, store, links, directory),
+        FormCommand::Start(n) => start_form(session, line, n, links, directory),
         FormCommand::Retrieve(n) => retrieve(session, line, n, directory, values),
         FormCommand::Erase(n) => erase_form(session, line, n, store, links, directory, values),
     }

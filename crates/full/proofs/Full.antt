@@ -33,13 +33,13 @@ entries-missing true false r e f h = refl
 entries-missing true true r e f h = absurd (true≢false (sym e ∙ f))
 entries-missing false q r e f h = absurd (true≢false (sym h))
 
--- ---- of links and directory
+-- ---- of a number of free portions and a directory
 
-module _ (links directory : List ℕ) (size : ℕ) where
-  pub taken-room : answerOf (fullRows links directory size) ≡ Taken → hasRoom links directory size ≡ true
+module _ (free : ℕ) (directory : List ℕ) (size : ℕ) where
+  pub taken-room : answerOf (fullRows free directory size) ≡ Taken → hasRoom free directory size ≡ true
   unfolding hasRoom
-  taken-room e = taken-both (hasPortions links (needed size)) (hasEntry directory) e
+  taken-room e = taken-both (hasPortions free (needed size)) (hasEntry directory) e
 
-  pub room-taken : hasRoom links directory size ≡ true → answerOf (fullRows links directory size) ≡ Taken
+  pub room-taken : hasRoom free directory size ≡ true → answerOf (fullRows free directory size) ≡ Taken
   unfolding hasRoom
-  room-taken e = both-taken (hasPortions links (needed size)) (hasEntry directory) (and-both _ _ (and-right (hasEntry directory) _ e) (and-left (hasEntry directory) _ e))
+  room-taken e = both-taken (hasPortions free (needed size)) (hasEntry directory) (and-both _ _ (and-right (hasEntry directory) _ e) (and-left (hasEntry directory) _ e))

@@ -8,6 +8,6 @@ use Rattle.room.specs.Room.{hasPortions, hasEntry}
 use Rattle.answers.specs.declared.Answer.the-variants.{FewPortions, NoEntry}
 use Rattle.answers.specs.Answers.{Row, row}
 
--- the last rows of a command that makes an entry of this size: [19] "too few free portions", "23, no empty entry, directly after 19"
-abbrev pub fullRows : List ℕ → List ℕ → ℕ → List Row
-fullRows links directory size = row FewPortions (not (hasPortions links (needed size))) ∷ row NoEntry (not (hasEntry directory)) ∷ []
+-- the last rows of a command that makes an entry of this size, with so many portions free: [19] "too few free portions", "23, no empty entry, directly after 19"
+abbrev pub fullRows : ℕ → List ℕ → ℕ → List Row
+fullRows free directory size = row FewPortions (not (hasPortions free (needed size))) ∷ row NoEntry (not (hasEntry directory)) ∷ []

@@ -23,11 +23,11 @@ fn which_kind(portions: bool, entry: bool) -> Answer
     Answer::FewPortions
 }
 
-// The same of a new entry of a size.
-pub fn full_answer(links: &[u16], directory: &[u8], size: usize) -> Answer
-    ensures { λ r. ⌜ r ≡ answerOf (fullRows (now (links .entry)) (now (directory .entry)) size) ⌝ }
+// The same of a new entry of a size, with so many portions free.
+pub fn full_answer(free: usize, directory: &[u8], size: usize) -> Answer
+    ensures { λ r. ⌜ r ≡ answerOf (fullRows free (now (directory .entry)) size) ⌝ }
 {
-    let portions = room::has_portions(links, store::needed_for(size));
+    let portions = store::needed_for(size) <= free;
     let entry = room::has_entry(directory);
     which_kind(portions, entry)
 }

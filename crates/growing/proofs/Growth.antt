@@ -8,9 +8,9 @@ use lib.ListN.{length, getD, set, drop, length-set}
 use borrow.Author.Tests.{eq-eqb, ne-eqb, lt-ltb}
 use Rattle.cells.proofs.Counts.{drop-step, drop-none}
 use Rattle.store.specs.Entry.{entry, size, lastOf}
-use Rattle.memory.specs.Memory.{Memory, memory}
-use Rattle.room.specs.Room.{lowestPortion, canGrow}
-use Rattle.growing.specs.Grow.{full, nextLast, nextLinks, Growing, growing, put, putAll, withSize, grown, appended}
+use Rattle.memory.specs.Memory.{memory}
+use Rattle.room.specs.Room.{lowestPortion}
+use Rattle.growing.specs.Grow.{full, nextLast, nextLinks, Growing, growing, put, putAll, withSize, grown}
 
 -- ---- the next portion
 
@@ -96,10 +96,3 @@ module _ (st ls dir : List ℕ) (i : ℕ) (bytes : List ℕ) where
   grown-is st′ ls′ dir′ s last es el a b c =
       let g : growing st ls last s ≡ growing st ls (lastOf ls (entry dir i)) (size (entry dir i)) = λ j. growing st ls (el j) (es j) in
       λ j. memory ((a ∙ ap (λ (x : Growing). putAll x bytes .store) g) j) ((b ∙ ap (λ (x : Growing). putAll x bytes .links) g) j) ((c ∙ ap (λ (x : ℕ). withSize dir i (x + length bytes)) es) j)
-
-  pub append-no : (r : Bool) → r ≡ canGrow ls (entry dir i) (length bytes) → r ≡ false → (false ≡ canGrow ls (entry dir i) (length bytes)) × (memory st ls dir ≡ appended (memory st ls dir) i bytes)
-  append-no r e z = (sym z ∙ e, sym (ap (λ (b : Bool). cond b (grown (memory st ls dir) i bytes) (memory st ls dir)) (sym e ∙ z)))
-
-  pub append-yes : (r : Bool) (m : Memory) → r ≡ canGrow ls (entry dir i) (length bytes) → r ≡ true → m ≡ grown (memory st ls dir) i bytes
-      → (true ≡ canGrow ls (entry dir i) (length bytes)) × (m ≡ appended (memory st ls dir) i bytes)
-  append-yes r m e z g = (sym z ∙ e, g ∙ sym (ap (λ (b : Bool). cond b (grown (memory st ls dir) i bytes) (memory st ls dir)) (sym e ∙ z)))

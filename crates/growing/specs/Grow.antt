@@ -8,7 +8,7 @@ use lib.Dec.{eqb, ltb}
 use Rattle.store.specs.Chain.{bytesAPortion, endLink}
 use Rattle.store.specs.Entry.{bytesAnEntry, size, lastOf}
 use Rattle.memory.specs.Memory.{Memory, memory, entryOf}
-use Rattle.room.specs.Room.{lowestPortion, canGrow}
+use Rattle.room.specs.Room.{lowestPortion}
 
 -- the portions are full: the size is a multiple of 256, and not 0
 abbrev pub full : ℕ → Bool
@@ -55,7 +55,3 @@ grown m i bytes =
     (putAll (growing (m .store) (m .links) (lastOf (m .links) (entryOf m i)) (size (entryOf m i))) bytes .store)
     (putAll (growing (m .store) (m .links) (lastOf (m .links) (entryOf m i)) (size (entryOf m i))) bytes .links)
     (withSize (m .directory) i (size (entryOf m i) + length bytes))
-
--- "fewer free portions than needed": then nothing changes
-abbrev pub appended : Memory → ℕ → List ℕ → Memory
-appended m i bytes = cond (canGrow (m .links) (entryOf m i) (length bytes)) (grown m i bytes) m

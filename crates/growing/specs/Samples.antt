@@ -6,7 +6,6 @@ use Rattle.cells.specs.Cell.{cell}
 use Rattle.cells.specs.Scan.{lowestFrom}
 use Rattle.store.specs.Chain.{endLink, freeLink}
 use Rattle.store.specs.Entry.{first, size, lastOf}
-use Rattle.room.specs.Room.{hasRoom}
 use Rattle.starting.specs.Start.{nameEnd, newEntry, begun}
 use Rattle.starting.specs.Samples.{title, clear}
 use Rattle.growing.specs.Grow.{nextLast, nextLinks, withSize, grown}
@@ -14,5 +13,5 @@ use Rattle.growing.specs.Keep.{kept}
 
 -- 300 bytes are kept in portions 0 and 1
 keeps : kept clear 2 title (replicate 300 7) .links ≡ 1 ∷ endLink ∷ freeLink ∷ freeLink ∷ []
-unfolding kept hasRoom begun grown lastOf withSize nextLast nextLinks lowestFrom cell nameEnd newEntry first size
+unfolding kept begun grown lastOf withSize nextLast nextLinks lowestFrom cell nameEnd newEntry first size
 keeps = refl

@@ -1,21 +1,18 @@
 // What is stored grows (paper 01): a recorded line is put behind its form, and a picture is kept whole. Each byte that the portions so far do not hold takes
-// the lowest free portion, which is hung behind the last in the links. Each move is one equation over store, links and directory, on any memory; where there
-// is no room it answers so and changes nothing.
+// the lowest free portion, which is hung behind the last in the links. Each move is one equation over store, links and directory, on any memory; whether there
+// is room is asked before, of the number of free portions (crates `room` and `full`).
 ghost use mathlib.Core.Path.{_≡_};
 ghost use Prim.Native.Nat.{_+_, _*_, _<_};
-ghost use lib.ListN.{length, set};
+ghost use lib.ListN.{set};
 ghost use Rattle.store.specs.Chain.{bytesAPortion};
-ghost use Rattle.store.specs.Entry.{entry, sizeLimit};
+ghost use Rattle.store.specs.Entry.{sizeLimit};
 ghost use Rattle.memory.specs.Memory.{memory};
-ghost use Rattle.room.specs.Room.{canGrow};
-ghost use Rattle.growing.specs.Grow.{nextLast, nextLinks, growing, putAll, withSize, grown, appended};
-ghost use Rattle.growing.specs.Keep.{kept, keptAt};
-use finding::Found;
+ghost use Rattle.growing.specs.Grow.{nextLast, nextLinks, growing, putAll, withSize, grown};
+ghost use Rattle.growing.specs.Keep.{kept};
 use memory::put_entry;
 use memory::put_link;
 use store::BYTES_A_PORTION;
 use store::END_LINK;
-use store::MOST_SIZE;
 
 // The portion that the next byte goes to, of what is size bytes long and ends in portion last: where that is full, the lowest free one is hung behind.
 fn place(links: &mut [u16], last: usize, size: usize) -> usize
@@ -50,7 +47,7 @@ fn put_in(store: &mut [u8], p: usize, at: usize, b: u8)
 
 // Puts bytes behind what is size bytes long and ends in portion last.
 fn fill(store: &mut [u8], links: &mut [u16], last: usize, size: usize, bytes: &[u8])
-    requires { ⌜ size + length (now bytes) < 2 * sizeLimit ⌝ }
+    requires { ⌜ size < sizeLimit ⌝ }
     ensures { λ _. ⌜ (now (store .exit) ≡ putAll (growing (now (store .entry)) (now (links .entry)) last size) (now (bytes .entry)) .store) × (now (links .exit) ≡ putAll (growing (now (store .entry)) (now (links .entry)) last size) (now (bytes .entry)) .links) ⌝ }
 {
     let mut at = last;
@@ -76,32 +73,14 @@ fn put_size(directory: &mut [u8], i: usize, n: usize)
     put_entry(directory, i, 12, &bytes);
 }
 
-fn grow(store: &mut [u8], links: &mut [u16], directory: &mut [u8], i: usize, bytes: &[u8])
-    requires { ⌜ length (now bytes) < sizeLimit ⌝ }
+// Puts bytes behind entry i.
+pub fn grow(store: &mut [u8], links: &mut [u16], directory: &mut [u8], i: usize, bytes: &[u8])
     ensures { λ _. ⌜ memory (now (store .exit)) (now (links .exit)) (now (directory .exit)) ≡ grown (memory (now (store .entry)) (now (links .entry)) (now (directory .entry))) i (now (bytes .entry)) ⌝ }
 {
     let s = store::size_at(directory, i);
     let last = store::last_at(links, directory, i);
     fill(store, links, last, s, bytes);
     put_size(directory, i, s + bytes.len());
-}
-
-// Puts bytes behind entry i, if they can be.
-pub fn append(
-    store: &mut [u8],
-    links: &mut [u16],
-    directory: &mut [u8],
-    i: usize,
-    bytes: &[u8],
-) -> bool
-    ensures answer { λ r. ⌜ r ≡ canGrow (now (links .entry)) (entry (now (directory .entry)) i) (length (now (bytes .entry))) ⌝ }
-    ensures memory { λ r. ⌜ memory (now (store .exit)) (now (links .exit)) (now (directory .exit)) ≡ appended (memory (now (store .entry)) (now (links .entry)) (now (directory .entry))) i (now (bytes .entry)) ⌝ }
-{
-    if !room::can_grow(links, directory, i, bytes.len()) {
-        return false;
-    }
-    grow(store, links, directory, i, bytes);
-    true
 }
 
 // Keeps bytes whole under a name, as an entry of a kind.
@@ -112,17 +91,9 @@ pub fn keep(
     kind: u8,
     title: [u8; 8],
     bytes: &[u8],
-) -> Found
-    ensures answer { λ r. ⌜ r ≡ keptAt (memory (now (store .entry)) (now (links .entry)) (now (directory .entry))) (length (now (bytes .entry))) ⌝ }
-    ensures memory { λ r. ⌜ memory (now (store .exit)) (now (links .exit)) (now (directory .exit)) ≡ kept (memory (now (store .entry)) (now (links .entry)) (now (directory .entry))) kind title (now (bytes .entry)) ⌝ }
+)
+    ensures { λ _. ⌜ memory (now (store .exit)) (now (links .exit)) (now (directory .exit)) ≡ kept (memory (now (store .entry)) (now (links .entry)) (now (directory .entry))) kind title (now (bytes .entry)) ⌝ }
 {
-    if MOST_SIZE < bytes.len() {
-        return Found::Nothing;
-    }
-    if !room::has_room(links, directory, bytes.len()) {
-        return Found::Nothing;
-    }
     let i = starting::begin(links, directory, kind, title);
     grow(store, links, directory, i, bytes);
-    Found::At(i)
 }

@@ -61,15 +61,15 @@ module _ (b : List ℕ) (small : (k : ℕ) → getD b k 0 < 256) where
   five-at w (suc n) at zero h = ap (numberAt w b) (let e : at ≡ at + 5 * 0 = omega arith in e)
   five-at w (suc n) at (suc k) h = five-at w n (5 + at) k (omega arith) ∙ ap (numberAt w b) (let e : 5 + at + 5 * k ≡ at + 5 * suc k = omega arith in e)
 
-  counters-again : (n k : ℕ) → n + k ≡ 10 → length b ≡ imageSize
-      → counterBytes n k (counters (everyFive 1 10 b 15) (everyFive 4 10 b 16)) ≡ drop (15 + 5 * k) b
-  unfolding counterBytes
-  counters-again zero k h e = sym (drop-of-length-le b (let d : length b ≤ 15 + 5 * k = omega arith in d))
-  counters-again (suc n) k h e =
+  counters-again : (n k : ℕ) (t : List ℕ) → n + k ≡ 10 → length b ≡ imageSize → t ≡ drop 65 b
+      → counterBytes n k (counters (everyFive 1 10 b 15) (everyFive 4 10 b 16)) ++ t ≡ drop (15 + 5 * k) b
+  unfolding counterBytes bytesOf
+  counters-again zero k t h e r = r ∙ ap (λ (m : ℕ). drop m b) (let d : 65 ≡ 15 + 5 * k = omega arith in d)
+  counters-again (suc n) k t h e r =
       let s : getD (everyFive 1 10 b 15) k 0 ≡ getD b (15 + 5 * k) 0 = five-at 1 10 15 k (omega arith) ∙ byte-number b (15 + 5 * k) in
       let v : getD (everyFive 4 10 b 16) k 0 ≡ numberAt 4 b (16 + 5 * k) = five-at 4 10 16 k (omega arith) in
-      let i : counterBytes n (suc k) (counters (everyFive 1 10 b 15) (everyFive 4 10 b 16)) ≡ drop (16 + 5 * k + 4) b
-      = counters-again n (suc k) (omega arith) e ∙ ap (λ (m : ℕ). drop m b) (let d : 15 + 5 * suc k ≡ 16 + 5 * k + 4 = omega arith in d) in
+      let i : counterBytes n (suc k) (counters (everyFive 1 10 b 15) (everyFive 4 10 b 16)) ++ t ≡ drop (16 + 5 * k + 4) b
+      = counters-again n (suc k) t (omega arith) e r ∙ ap (λ (m : ℕ). drop m b) (let d : 15 + 5 * suc k ≡ 16 + 5 * k + 4 = omega arith in d) in
       let d : suc (15 + 5 * k) ≡ 16 + 5 * k = omega arith in
       rw (s, v) (ap (λ (l : List ℕ). getD b (15 + 5 * k) 0 ∷ l) (field 4 (16 + 5 * k) _ (omega arith) i) ∙ sym (rw d at (drop-cons b (15 + 5 * k) 0 (omega arith))))
 
@@ -84,7 +84,9 @@ module _ (b : List ℕ) (small : (k : ℕ) → getD b k 0 < 256) where
       (field 2 7 _ (omega arith)
       (field 2 9 _ (omega arith)
       (field 2 11 _ (omega arith)
-      (field 2 13 _ (omega arith) (counters-again 10 0 refl e))))))
+      (field 2 13 _ (omega arith)
+      (counters-again 10 0 _ refl e
+      (field 2 65 [] (omega arith) (sym (drop-of-length-le b (let d : length b ≤ 67 = omega arith in d))))))))))
       ∙ sym (drop-cons b 4 0 (omega arith))))
 
   -- ---- the session of an image fits its places
@@ -118,6 +120,7 @@ module _ (b : List ℕ) (small : (k : ℕ) → getD b k 0 < 256) where
     tenSet = five-length 1 10 15;
     tenValues = five-length 4 10 16;
     values = five-small 10 16;
+    free = number-small 2 65;
   }
 
 -- ---- from the session
@@ -129,21 +132,21 @@ five-drop w (suc n) b i at =
     let e : 5 + (i + at) ≡ i + (5 + at) = omega arith in
     rw (e, number-drop w b i at, five-drop w n b i (5 + at))
 
-module _ (c : Counters) where
-  sets-again : (n k : ℕ) → length (c .set) ≡ k + n → everyFive 1 n (counterBytes n k c) 0 ≡ drop k (c .set)
+module _ (c : Counters) (t : List ℕ) where
+  sets-again : (n k : ℕ) → length (c .set) ≡ k + n → everyFive 1 n (counterBytes n k c ++ t) 0 ≡ drop k (c .set)
   unfolding everyFive counterBytes bytesOf
   sets-again zero k h = sym (drop-of-length-le (c .set) (let d : length (c .set) ≤ k = omega arith in d))
   sets-again (suc n) k h =
-      rw (byte-number (counterBytes (suc n) k c) 0, five-drop 1 n (counterBytes (suc n) k c) 5 0)
+      rw (byte-number (counterBytes (suc n) k c ++ t) 0, five-drop 1 n (counterBytes (suc n) k c ++ t) 5 0)
       (ap (λ (l : List ℕ). getD (c .set) k 0 ∷ l) (sets-again n (suc k) (omega arith)) ∙ sym (drop-cons (c .set) k 0 (omega arith)))
 
-  values-again : (n k : ℕ) → length (c .value) ≡ k + n → ((j : ℕ) → getD (c .value) j 0 < 4294967296) → everyFive 4 n (counterBytes n k c) 1 ≡ drop k (c .value)
+  values-again : (n k : ℕ) → length (c .value) ≡ k + n → ((j : ℕ) → getD (c .value) j 0 < 4294967296) → everyFive 4 n (counterBytes n k c ++ t) 1 ≡ drop k (c .value)
   unfolding everyFive counterBytes bytesOf
   values-again zero k h small = sym (drop-of-length-le (c .value) (let d : length (c .value) ≤ k = omega arith in d))
   values-again (suc n) k h small =
-      let v : numberAt 4 (counterBytes (suc n) k c) 1 ≡ getD (c .value) k 0
-      = number-drop 4 (counterBytes (suc n) k c) 1 0 ∙ number-bytes 4 (getD (c .value) k 0) (counterBytes n (suc k) c) (small k) in
-      rw (v, five-drop 4 n (counterBytes (suc n) k c) 5 1)
+      let v : numberAt 4 (counterBytes (suc n) k c ++ t) 1 ≡ getD (c .value) k 0
+      = number-drop 4 (counterBytes (suc n) k c ++ t) 1 0 ∙ number-bytes 4 (getD (c .value) k 0) (counterBytes n (suc k) c ++ t) (small k) in
+      rw (v, five-drop 4 n (counterBytes (suc n) k c ++ t) 5 1)
       (ap (λ (l : List ℕ). getD (c .value) k 0 ∷ l) (values-again n (suc k) (omega arith) small) ∙ sym (drop-cons (c .value) k 0 (omega arith)))
 
 counters-same : (a b x y : List ℕ) → a ≡ b → x ≡ y → counters a x ≡ counters b y
@@ -151,13 +154,14 @@ counters-same a b x y p q = rw (p, q)
 
 -- the session of a session's image is that session
 pub session-image : (s : Session) → Fits s → sessionOf (imageOf s) ≡ s
-unfolding imageOf numberAt bytesOf
+unfolding imageOf numberAt bytesOf counterBytes
 session-image s f =
     let word : (x : ℕ) → x < 65536 → x ≡ numberAt 2 (bytesOf 2 x ++ []) 0 = λ x h. sym (number-bytes 2 x [] h) in
     sym (session-read (imageOf s) (word (s .width) (f .width)) (word (s .length) (f .length)) refl (word (s .x) (f .x)) (word (s .y) (f .y))
     (word (s .active) (f .active)) (word (s .owed) (f .owed)) (word (s .drawn) (f .drawn))
-    (sym (counters-same _ _ _ _ (five-drop 1 10 (imageOf s) 15 0 ∙ sets-again (s .counters) 10 0 (f .tenSet))
-    (five-drop 4 10 (imageOf s) 15 1 ∙ values-again (s .counters) 10 0 (f .tenValues) (f .values)))))
+    (sym (counters-same _ _ _ _ (five-drop 1 10 (imageOf s) 15 0 ∙ sets-again (s .counters) (bytesOf 2 (s .free)) 10 0 (f .tenSet))
+    (five-drop 4 10 (imageOf s) 15 1 ∙ values-again (s .counters) (bytesOf 2 (s .free)) 10 0 (f .tenValues) (f .values))))
+    (word (s .free) (f .free)))
 
 -- ---- the bytes of an image
 
@@ -165,7 +169,7 @@ pub length-image : (s : Session) → length (imageOf s) ≡ imageSize
 unfolding imageOf bytesOf counterBytes
 length-image s = refl
 
--- an image stored over 65 bytes is all there is
+-- an image stored over 67 bytes is all there is
 pub whole : (i : List ℕ) (s : Session) → length i ≡ imageSize → sets i 0 (imageOf s) ≡ imageOf s
 whole i s h = sets-all i (imageOf s) (length-image s ∙ sym h)
 

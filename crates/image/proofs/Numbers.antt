@@ -9,9 +9,9 @@ use Rattle.session.specs.Session.{session}
 use Rattle.low_first.specs.Low.{numberAt}
 use Rattle.image.specs.Image.{everyFive, sessionOf}
 
-module _ (b : List ℕ) {width length turn x y active owed drawn : ℕ} {c : Counters} where
+module _ (b : List ℕ) {width length turn x y active owed drawn free : ℕ} {c : Counters} where
   pub session-read : width ≡ numberAt 2 b 0 → length ≡ numberAt 2 b 2 → turn ≡ getD b 4 0 → x ≡ numberAt 2 b 5 → y ≡ numberAt 2 b 7 → active ≡ numberAt 2 b 9
-      → owed ≡ numberAt 2 b 11 → drawn ≡ numberAt 2 b 13 → c ≡ counters (everyFive 1 10 b 15) (everyFive 4 10 b 16)
-      → session width length turn x y active owed drawn c ≡ sessionOf b
+      → owed ≡ numberAt 2 b 11 → drawn ≡ numberAt 2 b 13 → c ≡ counters (everyFive 1 10 b 15) (everyFive 4 10 b 16) → free ≡ numberAt 2 b 65
+      → session width length turn x y active owed drawn c free ≡ sessionOf b
   unfolding sessionOf
-  session-read p0 p1 p2 p3 p4 p5 p6 p7 p8 = rw (p0, p1, p2, p3, p4, p5, p6, p7, p8)
+  session-read p0 p1 p2 p3 p4 p5 p6 p7 p8 p9 = rw (p0, p1, p2, p3, p4, p5, p6, p7, p8, p9)

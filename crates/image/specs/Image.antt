@@ -1,4 +1,5 @@
--- The session's image: "The session holds width, length, turn, origin, counters with set or unset, active form, labels owed and drawn", in 65 bytes.
+-- The session's image: "The session holds width, length, turn, origin, counters with set or unset, active form, labels owed and drawn", and since paper 02, §6,
+-- the number of free portions, in 67 bytes.
 -- Assumes nothing.
 use Prim.Native.Nat.{ℕ, zero, suc, _+_, _<_}
 use mathlib.Core.Path.{_≡_}
@@ -8,7 +9,7 @@ use Rattle.low_first.specs.Low.{numberAt, bytesOf}
 use Rattle.counters.specs.declared.Counters.{Counters}
 use Rattle.counters.specs.Counters.{counters}
 use Rattle.session.specs.declared.Session.{Session}
-use Rattle.session.specs.Session.{none, sized, turning, based, withActive, withLabels, counting}
+use Rattle.session.specs.Session.{none, sized, turning, based, withActive, withLabels, counting, roomed}
 
 -- ---- ten counters of five bytes: set, value
 
@@ -22,22 +23,25 @@ unfoldable pub counterBytes : ℕ → ℕ → Counters → List ℕ
 counterBytes zero k c = []
 counterBytes (suc n) k c = getD (c .set) k 0 ∷ (bytesOf 4 (getD (c .value) k 0) ++ counterBytes n (suc k) c)
 
--- ---- the image: width at 0, length at 2, turn at 4 (one byte), origin at 5 and 7, active form at 9, owed at 11, drawn at 13, counters from 15 on
+-- ---- the image: width at 0, length at 2, turn at 4 (one byte), origin at 5 and 7, active form at 9, owed at 11, drawn at 13, counters from 15 on,
+-- free portions at 65
 
 abbrev pub imageSize : ℕ
-imageSize = 65
+imageSize = 67
 
 abbrev pub wordAt : List ℕ → ℕ → ℕ
 wordAt b at = numberAt 2 b at
 
 unfoldable pub sessionOf : List ℕ → Session
 sessionOf b =
-    counting
+    roomed
+    (counting
     (withLabels
     (withActive (based (turning (sized none (wordAt b 0) (wordAt b 2)) (getD b 4 0)) (wordAt b 5) (wordAt b 7)) (wordAt b 9))
     (wordAt b 11)
     (wordAt b 13))
-    (counters (everyFive 1 10 b 15) (everyFive 4 10 b 16))
+    (counters (everyFive 1 10 b 15) (everyFive 4 10 b 16)))
+    (wordAt b 65)
 
 -- the fifteen bytes before the counters
 abbrev pub headOf : Session → List ℕ
@@ -48,7 +52,7 @@ headOf s =
     ++ (bytesOf 2 (s .x) ++ (bytesOf 2 (s .y) ++ (bytesOf 2 (s .active) ++ (bytesOf 2 (s .owed) ++ bytesOf 2 (s .drawn)))))))
 
 unfoldable pub imageOf : Session → List ℕ
-imageOf s = headOf s ++ counterBytes 10 0 (s .counters)
+imageOf s = headOf s ++ (counterBytes 10 0 (s .counters) ++ bytesOf 2 (s .free))
 
 -- the numbers of a session fit their places, and there are ten counters; every image's session is so (`session-fits`)
 pub record Fits (s : Session) : Type 0 where
@@ -62,3 +66,4 @@ pub record Fits (s : Session) : Type 0 where
   pub tenSet : length' (s .counters .set) ≡ 10
   pub tenValues : length' (s .counters .value) ≡ 10
   pub values : (k : ℕ) → getD (s .counters .value) k 0 < 4294967296
+  pub free : s .free < 65536

@@ -8,14 +8,14 @@ use Rattle.session.specs.Session.{fresh, counting, none}
 use Rattle.low_first.specs.Low.{numberAt, bytesOf}
 use Rattle.image.specs.Image.{everyFive, counterBytes, sessionOf, imageOf}
 
--- a station opened with 10 rows: width 608, no form active
-opened : imageOf (fresh 10) ≡ (96 ∷ 2 ∷ 10 ∷ 0 ∷ 0 ∷ 0 ∷ 0 ∷ 0 ∷ 0 ∷ 255 ∷ 255 ∷ []) ++ replicate 54 0
+-- a station opened with 10 rows and 300 portions: width 608, no form active, 300 = 44 + 256 * 1 portions free
+opened : imageOf (fresh 10 300) ≡ (96 ∷ 2 ∷ 10 ∷ 0 ∷ 0 ∷ 0 ∷ 0 ∷ 0 ∷ 0 ∷ 255 ∷ 255 ∷ []) ++ (replicate 54 0 ++ (44 ∷ 1 ∷ []))
 unfolding bytesOf counterBytes imageOf
 opened = refl
 
 -- counter 1, set to 258, stands from byte 20 on
 second :
-    sessionOf (replicate 20 0 ++ ((1 ∷ 2 ∷ 1 ∷ 0 ∷ 0 ∷ []) ++ replicate 40 0))
+    sessionOf (replicate 20 0 ++ ((1 ∷ 2 ∷ 1 ∷ 0 ∷ 0 ∷ []) ++ replicate 42 0))
     ≡ counting none (counters (0 ∷ 1 ∷ replicate 8 0) (0 ∷ 258 ∷ replicate 8 0))
 unfolding numberAt everyFive sessionOf
 second = refl

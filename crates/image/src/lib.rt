@@ -1,8 +1,9 @@
-// The session's image: 65 bytes, every number low byte first.
+// The session's image: 67 bytes, every number low byte first.
 //
-// Paper 01: "The session holds width, length, turn, origin, counters with set or unset, active form, labels owed and drawn". A caller of the exported calls
-// keeps these as plain bytes, and any 65 bytes are some session. specs/Image.antt says where each number stands; `encode` and `decode` promise one
-// equation each with `imageOf` and `sessionOf`, and image and session are found again from each other (proofs/Inverse.antt).
+// Paper 01: "The session holds width, length, turn, origin, counters with set or unset, active form, labels owed and drawn"; and since paper 02, §6, the number
+// of free portions. A caller of the exported calls keeps these as plain bytes, and any 67 bytes are some session. specs/Image.antt says where each number
+// stands; `encode` and `decode` promise one equation each with `imageOf` and `sessionOf`, and image and session are found again from each other
+// (proofs/Inverse.antt).
 ghost use mathlib.Core.Path.{_≡_};
 ghost use mathlib.Core.List.{_∷_};
 ghost use Prim.Native.Nat.{_+_, _*_, _/_, _%_, _<_};
@@ -16,7 +17,7 @@ use ground::put;
 use session::Session;
 
 // The bytes of an image.
-pub const IMAGE: usize = 65;
+pub const IMAGE: usize = 67;
 
 fn pair(a: u8, b: u8) -> u16
     ensures { λ r. ⌜ r ≡ a + 256 * b ⌝ }
@@ -73,6 +74,7 @@ pub fn decode(image: &[u8]) -> Session
     let owed = word_at(image, 11);
     let drawn = word_at(image, 13);
     let counters = counters_of(image);
+    let free = word_at(image, 65);
     Session {
         width,
         length,
@@ -83,6 +85,7 @@ pub fn decode(image: &[u8]) -> Session
         owed,
         drawn,
         counters,
+        free,
     }
 }
 
@@ -153,4 +156,8 @@ pub fn encode(s: Session, image: &mut [u8])
     put(image, 0, &bytes);
     let counters = s.counters;
     put_counters(image, counters);
+    let first = low(s.free);
+    let second = high(s.free);
+    let free = [first, second];
+    put(image, 65, &free);
 }

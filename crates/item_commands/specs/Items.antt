@@ -26,10 +26,10 @@ use Rattle.session.specs.declared.Session.{Session}
 use Rattle.answers.specs.declared.Answer.{Answer}
 use Rattle.answers.specs.declared.Answer.the-variants.{Taken, Missing, Again, Undeclared, Past, Unfit}
 use Rattle.answers.specs.Answers.{Row, row, answerOf}
-use Rattle.session.specs.Session.{based}
+use Rattle.session.specs.Session.{based, sixteenBits}
 use Rattle.lent.specs.Lent.{World}
 use Rattle.results.specs.World.{State, state, withBackground}
-use Rattle.results.specs.Result.{sixteenBits, Ran, ranBy}
+use Rattle.results.specs.Result.{Ran, ranBy}
 
 -- ---- what rows 12 to 15 ask of an item, each for itself: none looks at another
 

@@ -15,9 +15,9 @@ use grammar::Item;
 use recording::Verdict;
 use results::Done;
 use results::answered;
-use results::sixteen_bits;
 use results::taken;
 use session::Session;
+use session::sixteen_bits;
 
 // What a verdict answers: [12] to [15] with their places, or taken.
 fn answer_of(v: Verdict) -> Answer

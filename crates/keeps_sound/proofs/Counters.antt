@@ -33,8 +33,9 @@ use Rattle.session.specs.declared.Session.{Session}
 use Rattle.session.specs.Session.{blank}
 use Rattle.session.specs.Active.{activeOf, activeDeclared}
 use Rattle.lent.specs.Lent.{World}
-use Rattle.results.specs.World.{State, memoryOf}
-use Rattle.results.specs.Named.{placeOf, named}
+use Rattle.results.specs.World.{State, memoryOf, inactive}
+use Rattle.results.specs.Named.{placeOf, named, erasedNamed, erasedEvery}
+use Rattle.form_commands.specs.Forms.{erasedForm}
 use Rattle.item_commands.specs.Items.{basedBy}
 use Rattle.commands.specs.Does.{records, runs, placed}
 use Rattle.store_sound.proofs.Facts.{sound-facts}
@@ -81,6 +82,10 @@ module _ (font : List ℕ) (w : World) (s : Session) (line more : List ℕ) (P :
       by true false = same
       by false b = same
 
+  erased-left : (f : Found) → Left (erasedNamed s w f)
+  erased-left (At i) = same
+  erased-left Nothing = same
+
   run-left : (c : Command) → Entering c → Left (runs font w s line more c)
   run-left (item it) p = based-left it
   run-left End p = same
@@ -90,9 +95,12 @@ module _ (font : List ℕ) (w : World) (s : Session) (line more : List ℕ) (P :
   run-left (Page White) p = unset _
   run-left (Forms (Start n)) p = same
   run-left (Forms (Retrieve n)) p = unset _
-  run-left (Forms (EraseForm n)) p = picked-left (n .all) _ _ (unset _) (picked-left (eqb (s .active) (placeOf (named w false line n))) _ _ (unset _) same)
+  run-left (Forms (EraseForm n)) p =
+      let found = named w false line n in
+      picked-left (n .all) (inactive (erasedEvery s w false)) (erasedForm s w found) (unset _)
+      (picked-left (eqb (s .active) (placeOf found)) (inactive (erasedNamed s w found)) (erasedNamed s w found) (unset _) (erased-left found))
   run-left (Pictures (Store q)) p = same
-  run-left (Pictures (ErasePicture n)) p = same
+  run-left (Pictures (ErasePicture n)) p = picked-left (n .all) (erasedEvery s w true) (erasedNamed s w (named w true line n)) same (erased-left (named w true line n))
   run-left (Values (EnterVariable v)) p = same
   run-left (Values (EnterCounter e)) p = entered-left (activeDeclared w s) (e .n) (e .value) (p e refl)
   run-left (Values Clear) p = same

@@ -27,15 +27,17 @@ use Rattle.grammar.specs.declared.FormCommand.the-variants.{Erase as EraseForm}
 use Rattle.grammar.specs.declared.PictureCommand.the-variants.{Erase as ErasePicture}
 use Rattle.parts.specs.Names.{packedOf}
 use Rattle.session.specs.declared.Session.{Session}
+use Rattle.free_number.specs.After.{afterErased, afterErasedAll}
 use Rattle.lent.specs.Lent.{World}
 use Rattle.results.specs.World.{state, memoryOf, inactive}
 use Rattle.results.specs.Named.{named, erasedNamed, erasedEvery}
-use Rattle.results.specs.Result.{sixteenBits}
+use Rattle.session.specs.Session.{sixteenBits}
 use Rattle.results.proofs.Lengths.{directory-long}
 use Rattle.form_commands.specs.Forms.{erasedForm}
 use Rattle.commands.specs.Does.{runs}
 use Rattle.ground.proofs.Tests.{and-left}
 use Rattle.keeps_sound.specs.Good.{Good}
+use Rattle.keeps_sound.proofs.Freeing.{number-erased, number-swept}
 use Rattle.keeps_sound.proofs.Stored.{heldOk, contentsOf, contents-at, contents-of, contents-moved, good-stored, good-moved, good-ended}
 
 -- ---- what is found
@@ -85,52 +87,59 @@ module _ (s : Session) (w : World) (g : Good s w) (z : s .owed ≡ 0) where
   erased-form : (n : List ℕ) (f : Found) → titledAt (w .directory) false n ≡ f → Good (erasedForm s w f .session) (erasedForm s w f .world)
   erased-form n (At i) e =
       let a = named-is (w .directory) false n i e in
+      let m′ = erasedAt (memoryOf w) i in
       let v = erasedAt-moved s w g i (a .0) (some-kind false (kind (entry (w .directory) i)) (a .1)) in
-      let c = contents-moved (memoryOf w) (erasedAt (memoryOf w) i) i nothing v (a .0) (g .contents) refl in
+      let c = contents-moved (memoryOf w) m′ i nothing v (a .0) (g .contents) refl in
+      let free = number-erased s w g m′ i nothing v (a .0) refl in
       let small : sixteenBits i ≡ i = omega (arith, a .0, directory-long w (g .lengths)) in
+      let number = afterErased s (entry (w .directory) i) .free in
       rw small
-      (go (eqb (s .active) i) refl (good-ended s w g z (erasedAt (memoryOf w) i) (v .sound) (v .long-directory) c)
-      (λ ne. good-moved s w g z (erasedAt (memoryOf w) i) i nothing v (a .0) refl (λ q k. ne q)))
+      (go (eqb (s .active) i) refl (good-ended s w g z number m′ (v .sound) free (v .long-directory) c)
+      (λ ne. good-moved s w g z number m′ i nothing v free (a .0) refl (λ q k. ne q)))
     where
-      go : (b : Bool) → eqb (s .active) i ≡ b → Good (inactive s (erasedNamed w (At i)) .session) (inactive s (erasedNamed w (At i)) .world)
-          → ((s .active ≡ i → ⊥) → Good s (erasedNamed w (At i)))
-          → Good (cond b (inactive s (erasedNamed w (At i))) (state s (erasedNamed w (At i))) .session)
-          (cond b (inactive s (erasedNamed w (At i))) (state s (erasedNamed w (At i))) .world)
+      go : (b : Bool) → eqb (s .active) i ≡ b → Good (inactive (erasedNamed s w (At i)) .session) (inactive (erasedNamed s w (At i)) .world)
+          → ((s .active ≡ i → ⊥) → Good (erasedNamed s w (At i) .session) (erasedNamed s w (At i) .world))
+          → Good (cond b (inactive (erasedNamed s w (At i))) (erasedNamed s w (At i)) .session)
+          (cond b (inactive (erasedNamed s w (At i))) (erasedNamed s w (At i)) .world)
       go true q x y = x
       go false q x y = y (eqb-false (s .active) i q)
-  erased-form n Nothing e = go (eqb (s .active) 65535) (good-ended s w g z (memoryOf w) (g .store) refl (g .contents))
+  erased-form n Nothing e = go (eqb (s .active) 65535) (good-ended s w g z (s .free) (memoryOf w) (g .store) (g .free) refl (g .contents))
     where
-      go : (b : Bool) → Good (inactive s w .session) (inactive s w .world)
-          → Good (cond b (inactive s w) (state s w) .session) (cond b (inactive s w) (state s w) .world)
+      go : (b : Bool) → Good (inactive (state s w) .session) (inactive (state s w) .world)
+          → Good (cond b (inactive (state s w)) (state s w) .session) (cond b (inactive (state s w)) (state s w) .world)
       go true x = x
       go false x = g
 
-  erased-forms : Good (inactive s (erasedEvery w false) .session) (inactive s (erasedEvery w false) .world)
+  erased-forms : Good (inactive (erasedEvery s w false) .session) (inactive (erasedEvery s w false) .world)
   erased-forms =
+      let m′ = erasedAll false (memoryOf w) in
       let v = erase-all-moved false (memoryOf w) (g .store) in
-      good-ended s w g z (erasedAll false (memoryOf w)) (v .sound) (v .long) (swept-contents false (memoryOf w) (erasedAll false (memoryOf w)) v (g .contents))
+      good-ended s w g z (afterErasedAll s false (w .directory) .free) m′ (v .sound) (number-swept s w g false) (v .long) (swept-contents false (memoryOf w) m′ v (g .contents))
 
   -- FK: a form or all forms
   pub keeps-erase-form : (font line more : List ℕ) (n : Named)
       → Good (runs font w s line more (Forms (EraseForm n)) .session) (runs font w s line more (Forms (EraseForm n)) .world)
   keeps-erase-form font line more n = go (n .all)
     where
-      go : (b : Bool) → Good (cond b (inactive s (erasedEvery w false)) (erasedForm s w (named w false line n)) .session)
-          (cond b (inactive s (erasedEvery w false)) (erasedForm s w (named w false line n)) .world)
+      go : (b : Bool) → Good (cond b (inactive (erasedEvery s w false)) (erasedForm s w (named w false line n)) .session)
+          (cond b (inactive (erasedEvery s w false)) (erasedForm s w (named w false line n)) .world)
       go true = erased-forms
       go false = erased-form (packedOf line (n .at) (n .length)) (named w false line n) refl
 
-  erased-picture : (n : List ℕ) (f : Found) → titledAt (w .directory) true n ≡ f → Good s (erasedNamed w f)
+  erased-picture : (n : List ℕ) (f : Found) → titledAt (w .directory) true n ≡ f → Good (erasedNamed s w f .session) (erasedNamed s w f .world)
   erased-picture n (At i) e =
       let a = named-is (w .directory) true n i e in
+      let m′ = erasedAt (memoryOf w) i in
       let v = erasedAt-moved s w g i (a .0) (some-kind true (kind (entry (w .directory) i)) (a .1)) in
-      good-moved s w g z (erasedAt (memoryOf w) i) i nothing v (a .0) refl (λ q k. false≢true (ap (ofKind true) (sym k) ∙ a .1))
+      good-moved s w g z (afterErased s (entry (w .directory) i) .free) m′ i nothing v (number-erased s w g m′ i nothing v (a .0) refl) (a .0) refl
+      (λ q k. false≢true (ap (ofKind true) (sym k) ∙ a .1))
   erased-picture n Nothing e = g
 
-  erased-pictures : Good s (erasedEvery w true)
+  erased-pictures : Good (erasedEvery s w true .session) (erasedEvery s w true .world)
   erased-pictures =
+      let m′ = erasedAll true (memoryOf w) in
       let v = erase-all-moved true (memoryOf w) (g .store) in
-      good-stored s w g z (erasedAll true (memoryOf w)) (v .sound) (v .long) (swept-contents true (memoryOf w) (erasedAll true (memoryOf w)) v (g .contents))
+      good-stored s w g z (afterErasedAll s true (w .directory) .free) m′ (v .sound) (number-swept s w g true) (v .long) (swept-contents true (memoryOf w) m′ v (g .contents))
       (λ j b e k. v .behind j (omega arith) (omega arith) ∙ form-stays (memoryOf w) j b k)
 
   -- GK: a picture or all pictures
@@ -138,6 +147,7 @@ module _ (s : Session) (w : World) (g : Good s w) (z : s .owed ≡ 0) where
       → Good (runs font w s line more (Pictures (ErasePicture n)) .session) (runs font w s line more (Pictures (ErasePicture n)) .world)
   keeps-erase-picture font line more n = go (n .all)
     where
-      go : (b : Bool) → Good s (cond b (erasedEvery w true) (erasedNamed w (named w true line n)))
+      go : (b : Bool) → Good (cond b (erasedEvery s w true) (erasedNamed s w (named w true line n)) .session)
+          (cond b (erasedEvery s w true) (erasedNamed s w (named w true line n)) .world)
       go true = erased-pictures
       go false = erased-picture (packedOf line (n .at) (n .length)) (named w true line n) refl

@@ -95,6 +95,7 @@ module _ (s : Session) (w : World) (g : Good s w) (t : Tens s) where
         numbers = g .numbers;
         background = g .background;
         store = g .store;
+        free = g .free;
         contents = g .contents;
         activity = facts-activity (counting s c′) (w .directory) (activeOf w s) (w .values) (record {
           form = a .form;
@@ -112,6 +113,7 @@ module _ (s : Session) (w : World) (g : Good s w) (t : Tens s) where
         numbers = g .numbers;
         background = g .background;
         store = g .store;
+        free = g .free;
         contents = g .contents;
         activity = facts-activity one-less (w .directory) (activeOf w s) (w .values) (record {
           form = a .form;

@@ -1,5 +1,6 @@
 pub mod Layers
 pub mod Facts
+pub mod Freeing
 pub mod Stored
 pub mod Tables
 pub mod Titles

@@ -55,7 +55,7 @@ harmless-answer (r ∷ rs) h e =
     (harmless-answer rs (second-of (not (eqb (numberOf (r .answer)) 3) || not (r .applies)) (harmless rs) h)) e
 
 module _ (w : World) (s : Session) (line more : List ℕ) (room : ℕ) where
-  record-harmless : (i : ℕ) (c : Command) → harmless (recordRows w line i c) ≡ true
+  record-harmless : (i : ℕ) (c : Command) → harmless (recordRows w s line i c) ≡ true
   unfolding numberOf
   record-harmless i (item it) = refl
   record-harmless i End = refl

@@ -1,7 +1,7 @@
 -- The commands over the session's numbers and the background lead from a sound world to a sound one: Q, q, ZT and ZB, and the items that are drawn
 -- outside a form.
 -- Assumes nothing.
-use mathlib.Core.Path.{_≡_, ap, _∙_}
+use mathlib.Core.Path.{_≡_, refl, ap, _∙_}
 use mathlib.Core.Bool.{Bool, true, false, cond}
 use mathlib.Core.List.{List}
 use Prim.Native.Nat.{ℕ, _/_, _≤_}
@@ -23,11 +23,10 @@ use Rattle.item_drawing.specs.Draw.{Setting, setting, drawsItem}
 use Rattle.sound.specs.Sound.{numbersOk, backgroundOk}
 use Rattle.activity_check.specs.Activity.{activitySound}
 use Rattle.session.specs.declared.Session.{Session}
-use Rattle.session.specs.Session.{sized, turning, based}
+use Rattle.session.specs.Session.{sized, turning, based, sixteenBits}
 use Rattle.lent.specs.Lent.{World, rowsOf}
 use Rattle.session.specs.Active.{activeOf}
 use Rattle.results.specs.World.{withBackground}
-use Rattle.results.specs.Result.{sixteenBits}
 use Rattle.item_commands.specs.Items.{drawnOn, basedBy}
 use Rattle.commands.specs.Does.{runs}
 use Rattle.keeps_sound.specs.Good.{Good}
@@ -42,13 +41,14 @@ rows-same : (w : World) (b : List ℕ) → length b ≡ length (w .background) �
 rows-same w b e = ap (λ (n : ℕ). n / 76) e
 
 pub background-good :
-    (s s′ : Session) (w : World) (b : List ℕ) → Good s w → length b ≡ length (w .background) → Numbers (rowsOf w) s′ →
+    (s s′ : Session) (w : World) (b : List ℕ) → Good s w → s′ .free ≡ s .free → length b ≡ length (w .background) → Numbers (rowsOf w) s′ →
     backgroundOk (s′ .width) (s′ .length) b ≡ true → activitySound s′ (w .directory) (activeOf w s′) (w .values) ≡ true → Good s′ (withBackground w b)
-background-good s s′ w b g e n h a = record {
+background-good s s′ w b g f e n h a = record {
   lengths = rw e (g .lengths);
   numbers = ap (λ (k : ℕ). numbersOk k s′) (rows-same w b e) ∙ facts-numbers (rowsOf w) s′ n;
   background = h;
   store = g .store;
+  free = f ∙ g .free;
   contents = g .contents;
   activity = a;
 }
@@ -62,7 +62,7 @@ module _ (font : List ℕ) (w : World) (s : Session) (line more : List ℕ) (g :
   keeps-length l e =
       let n = numbers-facts (rowsOf w) s (g .numbers) in
       let r : Ranged (1, rowsOf w) (l .m) = read-ranges (rowsOf w) line (Page (Length l)) e in
-      background-good s (sized s (s .width) (sixteenBits (l .m))) w (zeros (length (w .background))) g (length-zeros (length (w .background))) (record {
+      background-good s (sized s (s .width) (sixteenBits (l .m))) w (zeros (length (w .background))) g refl (length-zeros (length (w .background))) (record {
         wide-least = n .wide-least;
         wide-most = n .wide-most;
         long-least = omega (arith, r .0);
@@ -78,7 +78,7 @@ module _ (font : List ℕ) (w : World) (s : Session) (line more : List ℕ) (g :
   keeps-width m e =
       let n = numbers-facts (rowsOf w) s (g .numbers) in
       let r : Ranged (80, 608) (m .m) = read-ranges (rowsOf w) line (Page (Width m)) e in
-      background-good s (sized s (sixteenBits (m .m)) (s .length)) w (zeros (length (w .background))) g (length-zeros (length (w .background))) (record {
+      background-good s (sized s (sixteenBits (m .m)) (s .length)) w (zeros (length (w .background))) g refl (length-zeros (length (w .background))) (record {
         wide-least = omega (arith, r .0);
         wide-most = omega (arith, r .1);
         long-least = n .long-least;
@@ -111,6 +111,7 @@ module _ (font : List ℕ) (w : World) (s : Session) (line more : List ℕ) (g :
         });
         background = g .background;
         store = g .store;
+        free = g .free;
         contents = g .contents;
         activity = g .activity;
       }
@@ -128,13 +129,13 @@ module _ (font : List ℕ) (w : World) (s : Session) (line more : List ℕ) (g :
   drawn-white it = white-item here nothing (s .x) (s .y) line it (w .background) (g .background)
 
   drawn-good : (it : Item) → Good s (drawnOn font line s w it)
-  drawn-good it = background-good s s w _ g (drawn-length it) (numbers-facts (rowsOf w) s (g .numbers)) (drawn-white it) (g .activity)
+  drawn-good it = background-good s s w _ g refl (drawn-length it) (numbers-facts (rowsOf w) s (g .numbers)) (drawn-white it) (g .activity)
 
   item-good : (it : Item) → itemRanged it → Good (basedBy s it) (drawnOn font line s w it)
   unfolding activitySound
   item-good (Origin o) r =
       let n = numbers-facts (rowsOf w) s (g .numbers) in
-      background-good s (based s (sixteenBits (o .x)) (sixteenBits (o .y))) w _ g (drawn-length (Origin o)) (record {
+      background-good s (based s (sixteenBits (o .x)) (sixteenBits (o .y))) w _ g refl (drawn-length (Origin o)) (record {
         wide-least = n .wide-least;
         wide-most = n .wide-most;
         long-least = n .long-least;

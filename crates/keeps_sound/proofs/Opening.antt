@@ -1,9 +1,9 @@
 -- Whenever opening is taken, what it leaves is sound.
 -- Assumes nothing.
-use mathlib.Core.Path.{_≡_, refl, ap, _∙_}
+use mathlib.Core.Path.{_≡_, refl, sym, ap, _∙_}
 use mathlib.Core.Bool.{Bool, true, false, not, _||_, false≢true, cond}
 use mathlib.Core.List.{List}
-use Prim.Native.Nat.{ℕ, _+_, _*_, _/_, _<_}
+use Prim.Native.Nat.{ℕ, zero, suc, _+_, _*_, _/_, _<_}
 use native.Mathlib.Omega.{arith}
 use lib.ListN.{length, replicate, length-replicate}
 use lib.Dec.{eqb}
@@ -12,6 +12,7 @@ use Rattle.cells.proofs.Cells.{length-zeros, getD-zeros, cell-at}
 use Rattle.cells.proofs.Counts.{all-of}
 use Rattle.pages.specs.Pages.{white}
 use Rattle.outside.proofs.WhiteOutside.{white-outside-white}
+use Rattle.store.specs.Chain.{freeCount}
 use Rattle.store.specs.Entry.{entries, entry, kind}
 use Rattle.store_sound.proofs.Cleared.{cleared-sound}
 use Rattle.counters.specs.Counters.{noneSet}
@@ -65,9 +66,13 @@ none-owed : (directory bytes values : List ℕ) → owedOk 0 directory bytes val
 unfolding owedOk
 none-owed directory bytes values = refl
 
+all-free : (n : ℕ) → freeCount (replicate n 65535) ≡ n
+all-free zero = refl
+all-free (suc n) = omega (arith, all-free n)
+
 -- ---- the call
 
-fresh-good : (w : World) → wrongLent w ≡ false → Good (fresh (rowsOf w)) (cleared w)
+fresh-good : (w : World) → wrongLent w ≡ false → Good (fresh (rowsOf w) (length (w .links))) (cleared w)
 unfolding cleared
 fresh-good w e =
     let f = lent-facts w e in
@@ -80,7 +85,7 @@ fresh-good w e =
         length-zeros (length (w .directory)),
         length-zeros (length (w .values)),
       ) e;
-      numbers = facts-numbers (length (zeros (length (w .background))) / 76) (fresh (rowsOf w)) (record {
+      numbers = facts-numbers (length (zeros (length (w .background))) / 76) (fresh (rowsOf w) (length (w .links))) (record {
         wide-least = omega arith;
         wide-most = omega arith;
         long-least = omega (arith, f .least);
@@ -91,8 +96,9 @@ fresh-good w e =
       });
       background = white-zeros 608 (rowsOf w) (length (w .background));
       store = cleared-sound (w .store) (w .links) (w .directory) (f .memory);
+      free = sym (all-free (length (w .links)));
       contents = zero-contents (zeros (length (w .store))) (replicate (length (w .links)) 65535) (length (w .directory));
-      activity = facts-activity (fresh (rowsOf w)) (zeros (length (w .directory))) _ (zeros (length (w .values))) (record {
+      activity = facts-activity (fresh (rowsOf w) (length (w .links))) (zeros (length (w .directory))) _ (zeros (length (w .values))) (record {
         form = no-form (zeros (length (w .directory)));
         fit = zero-values _ (w .values);
         counts = refl;
@@ -102,10 +108,10 @@ fresh-good w e =
 
 opened-by :
     (t : Bool) (page : List ℕ) (w : World) → (wrongLent w || not (eqb (length page) (length (w .background)))) ≡ t →
-    cond t (openedBy (labelled Lengths none) page w) (openedBy (labelled Taken (fresh (rowsOf w))) (zeros (length page)) (cleared w)) .outcome .answer ≡ Taken →
+    cond t (openedBy (labelled Lengths none) page w) (openedBy (labelled Taken (fresh (rowsOf w) (length (w .links)))) (zeros (length page)) (cleared w)) .outcome .answer ≡ Taken →
     Good
-    (cond t (openedBy (labelled Lengths none) page w) (openedBy (labelled Taken (fresh (rowsOf w))) (zeros (length page)) (cleared w)) .outcome .session)
-    (cond t (openedBy (labelled Lengths none) page w) (openedBy (labelled Taken (fresh (rowsOf w))) (zeros (length page)) (cleared w)) .world)
+    (cond t (openedBy (labelled Lengths none) page w) (openedBy (labelled Taken (fresh (rowsOf w) (length (w .links)))) (zeros (length page)) (cleared w)) .outcome .session)
+    (cond t (openedBy (labelled Lengths none) page w) (openedBy (labelled Taken (fresh (rowsOf w) (length (w .links)))) (zeros (length page)) (cleared w)) .world)
 unfolding isTaken numberOf
 opened-by true page w e t = absurd (false≢true (ap isTaken t))
 opened-by false page w e t = fresh-good w (or-none (wrongLent w) (not (eqb (length page) (length (w .background)))) e .0)

@@ -1,27 +1,31 @@
 -- While a form is recorded: a line is kept behind it, FE ends it.
 -- Assumes nothing.
-use mathlib.Core.Path.{_≡_, refl, sym, ap, _∙_}
+use mathlib.Core.Path.{_≡_, refl, sym, ap, _∙_, subst}
 use mathlib.Core.Bool.{Bool, true, false, not, _&&_, false≢true, cond}
 use mathlib.Core.List.{List, [], _∷_, _++_}
-use Prim.Native.Nat.{ℕ, _≤_, _<_}
+use Prim.Native.Nat.{ℕ, _+_, _≤_, _<_}
 use native.Mathlib.Omega.{arith}
 use native.Mathlib.Decide.{ℕ-discrete}
 use lib.ListN.{length, length-append}
 use lib.Dec.{eqb, leb}
-use borrow.Author.Tests.{eq-eqb, eqb-true, le-leb}
+use borrow.Author.Tests.{eq-eqb, ne-eqb, eqb-true, le-leb}
 use Rattle.cells.proofs.Scan.{lowest-passes}
 use Rattle.finding.specs.declared.Found.{Found}
 use Rattle.finding.specs.declared.Found.the-variants.{At}
-use Rattle.store.specs.Entry.{entries, entry, kind, name}
+use Rattle.store.specs.Chain.{needed, freeCount}
+use Rattle.store.specs.Entry.{entries, entry, kind, name, size}
 use Rattle.finding.specs.Find.{isRecording, recorded}
 use Rattle.finding.proofs.Finding.{at-says}
 use Rattle.memory.specs.Memory.{memory}
 use Rattle.room.specs.Room.{canGrow}
-use Rattle.growing.specs.Grow.{appended}
+use Rattle.growing.specs.Grow.{grown as behind}
 use Rattle.starting.specs.Start.{finished}
 use Rattle.store_sound.specs.Shelf.{held, heldOf}
 use Rattle.store_sound.proofs.Listing.{shelf-at}
-use Rattle.store_sound.proofs.Grow.{append-moved}
+use Rattle.store_sound.specs.Sound.{counts}
+use Rattle.store_sound.proofs.Facts.{sound-facts, many-some}
+use Rattle.store_sound.proofs.Free.{content-long}
+use Rattle.store_sound.proofs.Grow.{grow-moved}
 use Rattle.store_sound.proofs.Finish.{finish-moved}
 use Rattle.declarations.specs.declared.Declared.{Declared}
 use Rattle.read.specs.Commands.{readOf}
@@ -49,12 +53,13 @@ use Rattle.results.specs.World.{memoryOf, contentAt}
 use Rattle.item_commands.specs.Items.{fitRows, verdictAnswer}
 use Rattle.item_commands.proofs.First.{first-verdict}
 use Rattle.commands.specs.Rows.{recordRows}
-use Rattle.commands.specs.Does.{records}
+use Rattle.commands.specs.Does.{recordedRoom, records}
 use Rattle.ground.proofs.Tests.{and-left, and-both}
 use Rattle.keeps_sound.specs.Good.{Good}
 use Rattle.keeps_sound.proofs.Tables.{clear, not-no}
 use Rattle.keeps_sound.proofs.OneLine.{normal-inside}
 use Rattle.keeps_sound.proofs.Judging.{normal-judged}
+use Rattle.keeps_sound.proofs.Freeing.{number-stays, number-grown}
 use Rattle.keeps_sound.proofs.Stored.{heldOk, contents-at, activity-facts, owed-facts, good-moved}
 
 -- ---- the form that is recorded
@@ -87,6 +92,9 @@ recorded-form s w i g b k =
 not-active : (k : ℕ) → k ≡ 3 → k ≡ 1 → ⊥
 not-active k a b = omega arith
 
+not-none : (k : ℕ) → k ≡ 3 → k ≡ 0 → ⊥
+not-none k a b = omega arith
+
 module _ (s : Session) (w : World) (g : Good s w) (i : ℕ) (e : recorded (w .directory) ≡ At i) where
   here : i < entries (w .directory)
   here = recorded-is (w .directory) i e .0
@@ -100,11 +108,20 @@ module _ (s : Session) (w : World) (g : Good s w) (i : ℕ) (e : recorded (w .di
   form : formOk (contentAt w i) ≡ true
   form = recorded-form s w i g here three
 
+  -- the form calls for the portions of its size
+  called-three : counts (w .directory) i ≡ needed (size (entry (w .directory) i))
+  called-three = many-some (w .store) (w .links) (w .directory) i (λ z. not-none _ three z)
+
+  content-size : length (contentAt w i) ≡ size (entry (w .directory) i)
+  content-size = content-long (w .store) (w .links) (w .directory) (sound-facts (w .store) (w .links) (w .directory) (g .store)) i here
+
   -- FE
   pub keeps-end : (line : List ℕ) → Good (records w s line i End .session) (records w s line i End .world)
   keeps-end line =
-      good-moved s w g none-owed (memory (w .store) (w .links) (finished (w .directory) i)) i (held 1 (name (entry (w .directory) i)) (contentAt w i))
-      (finish-moved (w .store) (w .links) (w .directory) i (g .store) here three) here (rw form) (λ a. not-active _ three)
+      let m′ = memory (w .store) (w .links) (finished (w .directory) i) in
+      let x = held 1 (name (entry (w .directory) i)) (contentAt w i) in
+      let v = finish-moved (w .store) (w .links) (w .directory) i (g .store) here three in
+      good-moved s w g none-owed (s .free) m′ i x v (number-stays s w g m′ i x v here (ap needed content-size ∙ sym called-three)) here (rw form) (λ a. not-active _ three)
 
 -- ---- a line
 
@@ -152,7 +169,7 @@ normal-takes rows d line it r h v =
 module _ (s : Session) (w : World) (g : Good s w) (i : ℕ) (e : recorded (w .directory) ≡ At i) where
   -- a recorded line
   pub keeps-recorded : (line : List ℕ) (it : Item) → readOf (rowsOf w) line ≡ Reads (item it) → length line ≤ 255
-      → answerOf (recordRows w line i (item it)) ≡ Taken
+      → answerOf (recordRows w s line i (item it)) ≡ Taken
       → Good (records w s line i (item it) .session) (records w s line i (item it) .world)
   unfolding isTaken numberOf
   keeps-recorded line it r h c =
@@ -161,18 +178,26 @@ module _ (s : Session) (w : World) (g : Good s w) (i : ℕ) (e : recorded (w .di
       let c₂ = fit-fine (declaredOf (contentAt w i)) line it _ (c₁ .1) in
       let c₃ = clear FewPortions _ _ refl (c₂ .1) in
       let more : List ℕ = normal line ++ (10 ∷ []) in
-      let can : canGrow (w .links) (entry (w .directory) i) (length more) ≡ true =
-      ap (canGrow (w .links) (entry (w .directory) i)) (length-append (normal line) (10 ∷ [])) ∙ not-no _ (c₃ .0) in
-      let grown : formOk (contentAt w i ++ more) ≡ true =
+      let long : length more ≡ length (normal line) + 1 = length-append (normal line) (10 ∷ []) in
+      let can : canGrow (freeCount (w .links)) (entry (w .directory) i) (length more) ≡ true =
+      ap (canGrow (freeCount (w .links)) (entry (w .directory) i)) long
+      ∙ subst (λ (n : ℕ). canGrow n (entry (w .directory) i) (length (normal line) + 1) ≡ true) (g .free) (not-no _ (c₃ .0)) in
+      let fine : formOk (contentAt w i ++ more) ≡ true =
       formOk-grows (contentAt w i) (normal line) (form s w g i e) (normal-inside (rowsOf w) line it r)
       (normal-takes (rowsOf w) (declaredOf (contentAt w i)) line it r h (c₂ .0)) in
-      good-moved s w g (none-owed s w g i e) (appended (memoryOf w) i more) i (held (kind (entry (w .directory) i)) (name (entry (w .directory) i)) (contentAt w i ++ more))
-      (append-moved (w .store) (w .links) (w .directory) i more (g .store) (here s w g i e) can) (here s w g i e)
-      (rw (three s w g i e, grown)) (λ a. not-active _ (three s w g i e))
+      let x = held (kind (entry (w .directory) i)) (name (entry (w .directory) i)) (contentAt w i ++ more) in
+      let v = grow-moved (w .store) (w .links) (w .directory) i more (g .store) (here s w g i e) can in
+      let stored : kind (entry (w .directory) i) ≡ 0 → ⊥ = not-none _ (three s w g i e) in
+      let whole : length (contentAt w i ++ more) ≡ size (entry (w .directory) i) + (length (normal line) + 1) =
+      length-append (contentAt w i) more ∙ (λ t. content-size s w g i e t + long t) in
+      good-moved s w g (none-owed s w g i e) (recordedRoom s w i line .free) (behind (memoryOf w) i more) i x v
+      (number-grown s w g (behind (memoryOf w) i more) i (length (normal line) + 1) x v (here s w g i e) stored
+      (ap (λ (b : Bool). cond b 0 (needed (length (contentAt w i ++ more)))) (ne-eqb (kind (entry (w .directory) i)) 0 stored) ∙ ap needed whole))
+      (here s w g i e) (rw (three s w g i e, fine)) (λ a. not-active _ (three s w g i e))
 
   -- every command while a form is recorded
   pub keeps-records : (line : List ℕ) (c : Command) → readOf (rowsOf w) line ≡ Reads c → length line ≤ 255
-      → answerOf (recordRows w line i c) ≡ Taken → Good (records w s line i c .session) (records w s line i c .world)
+      → answerOf (recordRows w s line i c) ≡ Taken → Good (records w s line i c .session) (records w s line i c .world)
   keeps-records line (item it) r h a = keeps-recorded line it r h a
   keeps-records line End r h a = keeps-end s w g i e line
   keeps-records line (Page c) r h a = g

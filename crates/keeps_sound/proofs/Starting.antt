@@ -1,22 +1,23 @@
 -- FS and GM: a new entry, empty or with all its bytes.
 -- Assumes nothing.
-use mathlib.Core.Path.{_≡_, refl, sym}
+use mathlib.Core.Path.{_≡_, refl, sym, subst}
 use mathlib.Core.Bool.{true, false, false≢true}
 use mathlib.Core.List.{List, []}
 use Prim.Native.Nat.{ℕ, _<_}
 use native.Mathlib.Omega.{arith}
 use lib.ListN.{length}
-use borrow.Author.Tests.{eqb-true, lt-ltb}
+use borrow.Author.Tests.{eqb-true}
 use Rattle.cells.proofs.Scan.{lowest-passes}
 use Rattle.finding.specs.declared.Found.{Found}
 use Rattle.finding.specs.declared.Found.the-variants.{At, Nothing}
+use Rattle.store.specs.Chain.{freeCount}
 use Rattle.store.specs.Entry.{entries, entry, kind}
 use Rattle.finding.specs.Find.{isEmpty, recorded}
 use Rattle.room.specs.Room.{lowestEntry, hasRoom}
-use Rattle.starting.specs.Start.{started}
-use Rattle.growing.specs.Keep.{canKeep, kept}
+use Rattle.starting.specs.Start.{begun}
+use Rattle.growing.specs.Keep.{kept}
 use Rattle.store_sound.specs.Shelf.{held}
-use Rattle.store_sound.proofs.Start.{MayStart, room-says, start-moved}
+use Rattle.store_sound.proofs.Start.{MayStart, room-says, begin-moved}
 use Rattle.store_sound.proofs.Keep.{keep-moved}
 use Rattle.pcx.specs.Rules.{legal}
 use Rattle.pcx.proofs.Rules.{legal-says}
@@ -31,6 +32,7 @@ use Rattle.parts.specs.Names.{packedOf}
 use Rattle.recording.specs.Judged.{isAt}
 use Rattle.forms.proofs.Growing.{formOk-empty}
 use Rattle.session.specs.declared.Session.{Session}
+use Rattle.free_number.specs.After.{afterStored}
 use Rattle.answers.specs.declared.Answer.the-variants.{Taken, Misplaced, InUse, Illegal}
 use Rattle.answers.specs.Answers.{isTaken, numberOf, answerOf}
 use Rattle.full.proofs.Full.{taken-room}
@@ -39,10 +41,10 @@ use Rattle.results.specs.World.{memoryOf}
 use Rattle.results.specs.Named.{lookup, named}
 use Rattle.commands.specs.Rows.{runRows}
 use Rattle.commands.specs.Does.{runs}
-use Rattle.ground.proofs.Tests.{and-both}
 use Rattle.keeps_sound.specs.Good.{Good}
 use Rattle.keeps_sound.proofs.Tables.{clear, not-no}
 use Rattle.keeps_sound.proofs.Titles.{start-title, store-title}
+use Rattle.keeps_sound.proofs.Freeing.{number-stored}
 use Rattle.keeps_sound.proofs.Stored.{good-moved}
 
 none-found : (f : Found) → isAt f ≡ false → f ≡ Nothing
@@ -50,16 +52,20 @@ none-found (At i) e = absurd (false≢true (sym e))
 none-found Nothing e = refl
 
 -- the entry that is taken is empty: it is not the active form's
-empty-there : (links directory : List ℕ) (size : ℕ) → hasRoom links directory size ≡ true
+empty-there : (free : ℕ) (directory : List ℕ) (size : ℕ) → hasRoom free directory size ≡ true
     → (lowestEntry directory < entries directory) × (kind (entry directory (lowestEntry directory)) ≡ 0)
-empty-there links directory size h =
-    let b = room-says links directory size h .0 in
+empty-there free directory size h =
+    let b = room-says free directory size h .0 in
     (b, eqb-true _ 0 (lowest-passes (isEmpty directory) (entries directory) b))
 
 module _ (s : Session) (w : World) (g : Good s w) (z : s .owed ≡ 0) (quiet : recorded (w .directory) ≡ Nothing) where
-  apart : (size : ℕ) → hasRoom (w .links) (w .directory) size ≡ true → s .active ≡ lowestEntry (w .directory)
+  -- room asked of the number is room by the links marked free
+  counted-room : (size : ℕ) → hasRoom (s .free) (w .directory) size ≡ true → hasRoom (freeCount (w .links)) (w .directory) size ≡ true
+  counted-room size h = subst (λ (n : ℕ). hasRoom n (w .directory) size ≡ true) (g .free) h
+
+  apart : (size : ℕ) → hasRoom (s .free) (w .directory) size ≡ true → s .active ≡ lowestEntry (w .directory)
       → kind (entry (w .directory) (lowestEntry (w .directory))) ≡ 1 → ⊥
-  apart size h e k = let o = empty-there (w .links) (w .directory) size h .1 in let x : ⊥ = omega arith in x
+  apart size h e k = let o = empty-there (s .free) (w .directory) size h .1 in let x : ⊥ = omega arith in x
 
   -- FS
   pub keeps-start : (font line more : List ℕ) (room : ℕ) (n : Named) → readOf (rowsOf w) line ≡ Reads (Forms (Start n))
@@ -69,7 +75,8 @@ module _ (s : Session) (w : World) (g : Good s w) (z : s .owed ≡ 0) (quiet : r
   keeps-start font line more room n r c =
       let c₁ = clear InUse _ _ refl (clear Misplaced _ _ refl c .1) in
       let title : List ℕ = packedOf line (n .at) (n .length) in
-      let can : hasRoom (w .links) (w .directory) 0 ≡ true = taken-room (w .links) (w .directory) 0 (c₁ .1) in
+      let can : hasRoom (s .free) (w .directory) 0 ≡ true = taken-room (s .free) (w .directory) 0 (c₁ .1) in
+      let there = empty-there (s .free) (w .directory) 0 can in
       let may : MayStart (w .store) (w .links) (w .directory) 3 title = record {
         sound = g .store;
         some = omega arith;
@@ -79,9 +86,10 @@ module _ (s : Session) (w : World) (g : Good s w) (z : s .owed ≡ 0) (quiet : r
         fresh = none-found (named w false line n) (c₁ .0);
         quiet = λ e. quiet;
       } in
-      good-moved s w g z (started (memoryOf w) 3 title) (lowestEntry (w .directory)) (held 3 title [])
-      (start-moved (w .store) (w .links) (w .directory) 3 title may can)
-      (empty-there (w .links) (w .directory) 0 can .0) (rw formOk-empty) (apart 0 can)
+      let v = begin-moved (w .store) (w .links) (w .directory) 3 title may (counted-room 0 can) in
+      good-moved s w g z (afterStored s 0 .free) (begun (memoryOf w) 3 title) (lowestEntry (w .directory)) (held 3 title []) v
+      (number-stored s w g (begun (memoryOf w) 3 title) (lowestEntry (w .directory)) (held 3 title []) v (there .0) (there .1) refl)
+      (there .0) (rw formOk-empty) (apart 0 can)
 
   -- GM
   pub keeps-picture : (font line more : List ℕ) (room : ℕ) (p : StorePicture) → readOf (rowsOf w) line ≡ Reads (Pictures (Store p))
@@ -93,8 +101,8 @@ module _ (s : Session) (w : World) (g : Good s w) (z : s .owed ≡ 0) (quiet : r
       let c₂ = clear Illegal _ _ refl (c₁ .1) in
       let title : List ℕ = packedOf line (p .at) (p .length) in
       let fine : legal more ≡ true = not-no _ (c₂ .0) in
-      let can : hasRoom (w .links) (w .directory) (length more) ≡ true = taken-room (w .links) (w .directory) (length more) (c₂ .1) in
-      let keep : canKeep (memoryOf w) (length more) ≡ true = and-both _ _ (lt-ltb (length more) 4294967296 (omega (arith, legal-says more fine .header .long))) can in
+      let can : hasRoom (s .free) (w .directory) (length more) ≡ true = taken-room (s .free) (w .directory) (length more) (c₂ .1) in
+      let there = empty-there (s .free) (w .directory) (length more) can in
       let may : MayStart (w .store) (w .links) (w .directory) 2 title = record {
         sound = g .store;
         some = omega arith;
@@ -104,6 +112,7 @@ module _ (s : Session) (w : World) (g : Good s w) (z : s .owed ≡ 0) (quiet : r
         fresh = none-found (lookup w true line (p .at) (p .length)) (c₁ .0);
         quiet = λ e. quiet;
       } in
-      good-moved s w g z (kept (memoryOf w) 2 title more) (lowestEntry (w .directory)) (held 2 title more)
-      (keep-moved (w .store) (w .links) (w .directory) 2 title more may keep)
-      (empty-there (w .links) (w .directory) (length more) can .0) fine (apart (length more) can)
+      let v = keep-moved (w .store) (w .links) (w .directory) 2 title more may (omega (arith, legal-says more fine .header .long)) (counted-room (length more) can) in
+      good-moved s w g z (afterStored s (length more) .free) (kept (memoryOf w) 2 title more) (lowestEntry (w .directory)) (held 2 title more) v
+      (number-stored s w g (kept (memoryOf w) 2 title more) (lowestEntry (w .directory)) (held 2 title more) v (there .0) (there .1) refl)
+      (there .0) fine (apart (length more) can)

@@ -11,6 +11,7 @@ use lib.Dec.{eqb, leb}
 use borrow.Author.Tests.{eq-eqb, ne-eqb, eqb-true, leb-true, leb-false, le-ltb}
 use Rattle.cells.specs.Cell.{cell}
 use Rattle.cells.proofs.Counts.{all-at, all-of}
+use Rattle.store.specs.Chain.{freeCount}
 use Rattle.store.specs.Entry.{entries, entry, kind, ofKind}
 use Rattle.finding.specs.Find.{recorded}
 use Rattle.contents.specs.Content.{contentOf}
@@ -33,7 +34,7 @@ use Rattle.sound.specs.Sound.{numbersOk, activeBytes}
 use Rattle.content_check.specs.Contents.{contentOk, contentsOk}
 use Rattle.activity_check.specs.Activity.{activeOk, valuesOk, countsOk, owedOk, activitySound}
 use Rattle.session.specs.declared.Session.{Session}
-use Rattle.session.specs.Session.{activated}
+use Rattle.session.specs.Session.{roomed, activated}
 use Rattle.lent.specs.Lent.{World, pageWrong, storeWrong, lengthsWrong}
 use Rattle.results.specs.World.{memoryOf, withMemory, unsetIn}
 use Rattle.results.proofs.Answers.{or-none}
@@ -232,31 +233,34 @@ module _ (s : Session) (w : World) (g : Good s w) (z : s .owed ≡ 0) where
   abbrev m : Memory
   m = memoryOf w
 
-  pub good-stored : (m′ : Memory) → storeOf m′ ≡ true → length (m′ .directory) ≡ length (w .directory) → contentsOf m′ ≡ true
+  -- with n portions free then
+  pub good-stored : (n : ℕ) (m′ : Memory) → storeOf m′ ≡ true → n ≡ freeCount (m′ .links) → length (m′ .directory) ≡ length (w .directory) → contentsOf m′ ≡ true
       → ((j : ℕ) → j < entries (w .directory) → j ≡ s .active → kind (entry (w .directory) j) ≡ 1 → getD (shelfOf m′) j nothing ≡ getD (shelfOf (memoryOf w)) j nothing)
-      → Good s (withMemory w m′)
-  good-stored m′ h e c same = record {
+      → Good (roomed s n) (withMemory w m′)
+  unfolding numbersOk activitySound
+  good-stored n m′ h f e c same = record {
     lengths = lengths-stay (length (w .background)) (length (w .values)) (w .store) (w .links) (w .directory) (m′ .store) (m′ .links) (m′ .directory)
         (g .lengths) (sound-facts (m′ .store) (m′ .links) (m′ .directory) h .lent) e;
     numbers = g .numbers;
     background = g .background;
     store = h;
+    free = f;
     contents = c;
     activity = activity-kept s m m′ (w .values) z (g .store) e same (g .activity);
   }
 
   -- one place of the shelf, which is not the active form's
-  pub good-moved : (m′ : Memory) (i : ℕ) (x : Held) → Moved (memoryOf w) m′ i x → i < entries (w .directory) → heldOk x ≡ true
-      → (s .active ≡ i → kind (entry (w .directory) i) ≡ 1 → ⊥) → Good s (withMemory w m′)
-  good-moved m′ i x v b k ne =
-      good-stored m′ (v .sound) (v .long-directory) (contents-moved m m′ i x v b (g .contents) k)
+  pub good-moved : (n : ℕ) (m′ : Memory) (i : ℕ) (x : Held) → Moved (memoryOf w) m′ i x → n ≡ freeCount (m′ .links) → i < entries (w .directory) → heldOk x ≡ true
+      → (s .active ≡ i → kind (entry (w .directory) i) ≡ 1 → ⊥) → Good (roomed s n) (withMemory w m′)
+  good-moved n m′ i x v f b k ne =
+      good-stored n m′ (v .sound) f (v .long-directory) (contents-moved m m′ i x v b (g .contents) k)
       (λ j l e o. moved-other m m′ i x v j (λ q. ne (sym e ∙ q) (subst (λ (n : ℕ). kind (entry (w .directory) n) ≡ 1) q o)))
 
   -- activity ends: whatever became of the active form
-  pub good-ended : (m′ : Memory) → storeOf m′ ≡ true → length (m′ .directory) ≡ length (w .directory) → contentsOf m′ ≡ true
-      → Good (activated s 65535) (unsetIn (withMemory w m′))
+  pub good-ended : (n : ℕ) (m′ : Memory) → storeOf m′ ≡ true → n ≡ freeCount (m′ .links) → length (m′ .directory) ≡ length (w .directory) → contentsOf m′ ≡ true
+      → Good (activated (roomed s n) 65535) (unsetIn (withMemory w m′))
   unfolding numbersOk noneSet
-  good-ended m′ h e c =
+  good-ended n m′ h f e c =
       let a = activity-facts s (w .directory) (bytesIn m (s .active)) (w .values) (g .activity) in
       let l : length (unset (w .values)) ≡ length (w .values) = (unfold unset in length-replicate (length (w .values)) 0) in
       record {
@@ -265,11 +269,12 @@ module _ (s : Session) (w : World) (g : Good s w) (z : s .owed ≡ 0) where
         numbers = g .numbers;
         background = g .background;
         store = h;
+        free = f;
         contents = c;
-        activity = facts-activity (activated s 65535) (m′ .directory) (bytesIn m′ 65535) (unset (w .values)) (record {
+        activity = facts-activity (activated (roomed s n) 65535) (m′ .directory) (bytesIn m′ 65535) (unset (w .values)) (record {
           form = active-none (m′ .directory) 65535 refl;
           fit = sound-none (declaredOf (bytesIn m′ 65535)) (w .values);
           counts = a .counts;
-          owed = owed-none (activated s 65535) (m′ .directory) (bytesIn m′ 65535) (unset (w .values)) z;
+          owed = owed-none (activated (roomed s n) 65535) (m′ .directory) (bytesIn m′ 65535) (unset (w .values)) z;
         });
       }

@@ -46,11 +46,10 @@ use Rattle.activity_check.specs.Activity.{activeOk, owedOk}
 use Rattle.session.specs.declared.Session.{Session}
 use Rattle.answers.specs.declared.Answer.the-variants.{Taken, Misplaced, Missing, Unset, RunsOut}
 use Rattle.answers.specs.Answers.{numberOf, isTaken, answerOf}
-use Rattle.session.specs.Session.{blank, activated, counting, owing}
+use Rattle.session.specs.Session.{blank, activated, counting, owing, sixteenBits}
 use Rattle.lent.specs.Lent.{World, rowsOf}
 use Rattle.session.specs.Active.{activeOf, activeDeclared}
 use Rattle.results.specs.World.{memoryOf, withValues}
-use Rattle.results.specs.Result.{sixteenBits}
 use Rattle.results.specs.Named.{placeOf, named}
 use Rattle.results.proofs.Lengths.{directory-long}
 use Rattle.page_commands.specs.Page.{whitened}
@@ -121,12 +120,13 @@ module _ (directory name : List ℕ) (long : length directory ≤ 8192) (quiet :
 module _ (font : List ℕ) (w : World) (s : Session) (line more : List ℕ) (g : Good s w) where
   -- another session and other values
   values-good : (s′ : Session) (v : List ℕ) → length v ≡ length (w .values) → numbersOk (rowsOf w) s′ ≡ true
-      → s′ .width ≡ s .width → s′ .length ≡ s .length → Active s′ (w .directory) (activeOf w s′) v → Good s′ (withValues w v)
-  values-good s′ v e n p q a = record {
+      → s′ .width ≡ s .width → s′ .length ≡ s .length → s′ .free ≡ s .free → Active s′ (w .directory) (activeOf w s′) v → Good s′ (withValues w v)
+  values-good s′ v e n p q f a = record {
     lengths = rw e (g .lengths);
     numbers = n;
     background = rw (p, q) (g .background);
     store = g .store;
+    free = f ∙ g .free;
     contents = g .contents;
     activity = facts-activity s′ (w .directory) (activeOf w s′) v a;
   }
@@ -140,7 +140,7 @@ module _ (font : List ℕ) (w : World) (s : Session) (line more : List ℕ) (g :
   unfolding numbersOk
   keeps-retrieve n quiet none =
       let s′ = activated s (placeOf (named w false line n)) in
-      values-good s′ (unset (w .values)) (length-unset (w .values)) (g .numbers) refl refl (record {
+      values-good s′ (unset (w .values)) (length-unset (w .values)) (g .numbers) refl refl refl (record {
         form = found-form (w .directory) (packedOf line (n .at) (n .length)) (directory-long w (g .lengths)) quiet;
         fit = unset-blank (activeDeclared w s′) (w .values);
         counts = was .counts;
@@ -153,7 +153,7 @@ module _ (font : List ℕ) (w : World) (s : Session) (line more : List ℕ) (g :
   keeps-variable v none =
       let d = activeDeclared w s in
       let text = textOf line (v .at) (v .length) in
-      values-good s _ (length-entered d (v .n) text (w .values)) (g .numbers) refl refl (record {
+      values-good s _ (length-entered d (v .n) text (w .values)) (g .numbers) refl refl refl (record {
         form = was .form;
         fit = sound-entered d (w .values) (s .counters) (v .n) text (was .fit) (lent-facts w (g .lengths) .values);
         counts = was .counts;
@@ -167,7 +167,7 @@ module _ (font : List ℕ) (w : World) (s : Session) (line more : List ℕ) (g :
   keeps-counter c none t =
       let d = activeDeclared w s in
       let c′ = counterEntered d (s .counters) (c .n) (c .value) .counters in
-      values-good (counting s c′) (w .values) refl (g .numbers) refl refl (record {
+      values-good (counting s c′) (w .values) refl (g .numbers) refl refl refl (record {
         form = was .form;
         fit = sound-counted d (w .values) (s .counters) (was .fit) (t .values) (c .n) (c .value) (t .flags);
         counts = was .counts;
@@ -177,7 +177,7 @@ module _ (font : List ℕ) (w : World) (s : Session) (line more : List ℕ) (g :
   -- VC
   pub keeps-clear : s .owed ≡ 0 → Good (runs font w s line more (Values Clear) .session) (runs font w s line more (Values Clear) .world)
   keeps-clear none =
-      values-good s (unset (w .values)) (length-unset (w .values)) (g .numbers) refl refl (record {
+      values-good s (unset (w .values)) (length-unset (w .values)) (g .numbers) refl refl refl (record {
         form = was .form;
         fit = sound-unset (activeDeclared w s) (w .values) (s .counters) (was .fit);
         counts = was .counts;
@@ -204,7 +204,7 @@ module _ (font : List ℕ) (w : World) (s : Session) (line more : List ℕ) (g :
       → Good (runs font w s line more (Values (Print p)) .session) (runs font w s line more (Values (Print p)) .world)
   unfolding numbersOk
   keeps-print room p quiet reads e =
-      values-good (owing s (sixteenBits (p .k))) (w .values) refl (g .numbers) refl refl (record {
+      values-good (owing s (sixteenBits (p .k))) (w .values) refl (g .numbers) refl refl refl (record {
         form = was .form;
         fit = was .fit;
         counts = le-leb (sixteenBits (p .k) + 0) 65535 (omega arith);
@@ -227,6 +227,6 @@ pub keeps-white :
     Good (runs font w s line more (Page White) .session) (runs font w s line more (Page White) .world)
 keeps-white font w s line more g none =
     let white =
-    background-good s s w (zeros (length (w .background))) g (length-zeros (length (w .background))) (numbers-facts (rowsOf w) s (g .numbers))
+    background-good s s w (zeros (length (w .background))) g refl (length-zeros (length (w .background))) (numbers-facts (rowsOf w) s (g .numbers))
     (white-zeros (s .width) (s .length) (length (w .background))) (g .activity) in
-    good-ended s (whitened w) white none (memoryOf w) (g .store) refl (g .contents)
+    good-ended s (whitened w) white none (s .free) (memoryOf w) (g .store) (g .free) refl (g .contents)

@@ -1,11 +1,12 @@
 -- The file of a store that lasts, byte by byte; every number low byte first. Assumes nothing.
 --
 --     0      "Skeinferry store", then two bytes each: version 1, rows, portions 2,024, entries 512; from 24 on the sum of these bytes and the body
---     4096   slot 0        each: order, pictures so far, the session's image, the values, and the sum of all these (crate `slots`)
+--     4096   slot 0        each: order, pictures so far, the front of the session's image, the values, and the sum of all these (crate `slots`)
 --     8192   slot 1
 --     12288  the body: directory, links (from 20480 on), store (from 24528 on), background (from 542672 on)
 --
--- Between head, slots and body stand bytes that nobody reads. The whole slot of the greater order holds.
+-- Between head, slots and body stand bytes that nobody reads. The whole slot of the greater order holds. The session's number of free portions
+-- (paper 02, §6) is not in the file: it is that of the links marked free.
 use Prim.Native.Nat.{ℕ, zero, suc, _+_, _-_, _*_, _/_, _%_}
 use mathlib.Core.Bool.{Bool, not, _&&_, _||_, cond}
 use mathlib.Core.List.{List, [], _∷_, _++_}

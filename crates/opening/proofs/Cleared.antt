@@ -34,7 +34,7 @@ pub opened-good :
     (page : List ℕ) (w : World) (st ls dir vs : List ℕ) → wrongLent w ≡ false → length page ≡ length (w .background) →
     memory st ls dir ≡ clearedMemory (memory (w .store) (w .links) (w .directory)) → vs ≡ unset (w .values) →
     opened page w
-    ≡ openedBy (labelled Taken (fresh (length (w .background) / bytesARow))) (white (length page)) (world (white (length (w .background))) st ls dir vs)
+    ≡ openedBy (labelled Taken (fresh (length (w .background) / bytesARow) (length (w .links)))) (white (length page)) (world (white (length (w .background))) st ls dir vs)
 unfolding opened cleared white zeros unset
 opened-good page w st ls dir vs e n m v =
     rw (e, eq-eqb _ _ n, ap (λ (x : Memory). x .store) m, ap (λ (x : Memory). x .links) m, ap (λ (x : Memory). x .directory) m, v)

@@ -1,7 +1,7 @@
 -- "Opening clears all lent memory (output aside), frees all portions, and sets width 608, length N, origin 0,0, ZT, nothing owed."
 -- Assumes nothing.
 use Prim.Native.Nat.{ℕ}
-use mathlib.Core.Bool.{Bool, true, false, not, _||_, cond}
+use mathlib.Core.Bool.{not, _||_, cond}
 use mathlib.Core.List.{List}
 use lib.ListN.{length, replicate}
 use lib.Dec.{eqb}
@@ -28,9 +28,9 @@ cleared w =
     world (zeros (length (w .background))) (zeros (length (w .store))) (replicate (length (w .links)) freeLink) (zeros (length (w .directory)))
     (zeros (length (w .values)))
 
--- [1] "a lent length is wrong": "a refused opening returns zeros"
+-- [1] "a lent length is wrong": "a refused opening returns zeros". The number of free portions is that of all (paper 02, §6)
 unfoldable pub opened : List ℕ → World → Opened
 opened page w =
     cond (wrongLent w || not (eqb (length page) (length (w .background))))
     (openedBy (labelled Lengths none) page w)
-    (openedBy (labelled Taken (fresh (rowsOf w))) (zeros (length page)) (cleared w))
+    (openedBy (labelled Taken (fresh (rowsOf w) (length (w .links)))) (zeros (length page)) (cleared w))

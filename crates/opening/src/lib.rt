@@ -1,7 +1,7 @@
 // Opening a station.
 //
-// Paper 01: "Opening clears all lent memory (output aside), frees all portions, and sets width 608, length N, origin 0,0, ZT, nothing owed." It looks at
-// lengths alone (1), so that any memory can be opened, and "a refused opening returns zeros" and leaves what it was lent. `open` promises one equation
+// Paper 01: "Opening clears all lent memory (output aside), frees all portions, and sets width 608, length N, origin 0,0, ZT, nothing owed." The
+// number of free portions is then that of all (paper 02, §6). It looks at lengths alone (1), so that any memory can be opened, and "a refused opening returns zeros" and leaves what it was lent. `open` promises one equation
 // between its result with every lent list at exit and `opened` (specs/Opening.antt) of what it was lent.
 ghost use mathlib.Core.Path.{_≡_};
 ghost use Rattle.session.specs.Label.{labelled};
@@ -48,11 +48,12 @@ pub fn open(
         return refused();
     }
     let rows = (background.len() / BYTES_A_ROW) as u16;
+    let portions = links.len() as u16;
     pages::whiten(page);
     pages::whiten(background);
     clearing::clear(store, links, directory);
     stored_values::unset_all(values);
-    let session = Session::fresh(rows);
+    let session = Session::fresh(rows, portions);
     Labelled {
         answer: Answer::Taken,
         session: session,

@@ -8,10 +8,10 @@ use Rattle.grammar.specs.declared.PageCommand.{PageCommand}
 use Rattle.grammar.specs.declared.PageCommand.the-variants.{Length, Width, Turn, White}
 use Rattle.session.specs.declared.Session.{Session}
 use Rattle.answers.specs.declared.Answer.the-variants.{Taken}
-use Rattle.session.specs.Session.{sized, turning}
+use Rattle.session.specs.Session.{sized, turning, sixteenBits}
 use Rattle.lent.specs.Lent.{World}
 use Rattle.results.specs.World.{State, state, withBackground, inactive}
-use Rattle.results.specs.Result.{done, sixteenBits, Ran, ran}
+use Rattle.results.specs.Result.{done, Ran, ran}
 
 -- "Both whiten the background, as does `N`"
 abbrev pub whitened : World → World
@@ -22,7 +22,7 @@ abbrev pub pageRuns : World → Session → PageCommand → State
 pageRuns w s (Length l) = state (sized s (s .width) (sixteenBits (l .m))) (whitened w)
 pageRuns w s (Width m) = state (sized s (sixteenBits (m .m)) (s .length)) (whitened w)
 pageRuns w s (Turn t) = state (turning s (cond (t .half) 1 0)) w
-pageRuns w s White = inactive s (whitened w)
+pageRuns w s White = inactive (state s (whitened w))
 
 -- what such a command leaves
 abbrev pub pageBy : World → Session → PageCommand → Ran

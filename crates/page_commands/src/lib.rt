@@ -15,10 +15,10 @@ use grammar::Turn;
 use grammar::Width;
 use results::Done;
 use results::activate;
-use results::sixteen_bits;
 use results::taken;
 use session::NO_FORM;
 use session::Session;
+use session::sixteen_bits;
 
 fn set_length(session: Session, l: Length, background: &mut [u8]) -> Done
     ensures { λ r. ⌜ ran r (world (now (background .exit)) [] [] [] []) [] ≡ pageBy (world (now (background .entry)) [] [] [] []) session (Tall l) ⌝ }

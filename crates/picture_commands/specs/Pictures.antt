@@ -6,6 +6,7 @@ use mathlib.Core.List.{List, [], _∷_}
 use lib.ListN.{length}
 use Rattle.pcx.specs.Rules.{legal as legalPicture}
 use Rattle.growing.specs.Keep.{kept}
+use Rattle.free_number.specs.After.{afterStored}
 use Rattle.grammar.specs.declared.PictureCommand.{PictureCommand}
 use Rattle.grammar.specs.declared.PictureCommand.the-variants.{Store, Erase}
 use Rattle.parts.specs.Names.{packedOf}
@@ -20,18 +21,18 @@ use Rattle.results.specs.Result.{Ran, ranBy}
 use Rattle.results.specs.Named.{lookup, named, notFound, erasedNamed, erasedEvery}
 
 -- [10] "name in use (FS, GM)", [16] "not a legal picture", then [19] and [23], whether there is room for its bytes; [11] "name not found (.. GK ..)"
-abbrev pub pictureRows : World → List ℕ → List ℕ → PictureCommand → List Row
-pictureRows w line more (Store p) =
+abbrev pub pictureRows : World → Session → List ℕ → List ℕ → PictureCommand → List Row
+pictureRows w s line more (Store p) =
     row InUse (isAt (lookup w true line (p .at) (p .length)))
     ∷ row Illegal (not (legalPicture more))
-    ∷ fullRows (w .links) (w .directory) (length more)
-pictureRows w line more (Erase n) = row Missing (notFound w true line n) ∷ []
+    ∷ fullRows (s .free) (w .directory) (length more)
+pictureRows w s line more (Erase n) = row Missing (notFound w true line n) ∷ []
 
 -- `GK"*"` "erases all, none included"
 abbrev pub pictureRuns : World → Session → List ℕ → List ℕ → PictureCommand → State
-pictureRuns w s line more (Store p) = state s (withMemory w (kept (memoryOf w) 2 (packedOf line (p .at) (p .length)) more))
-pictureRuns w s line more (Erase n) = state s (cond (n .all) (erasedEvery w true) (erasedNamed w (named w true line n)))
+pictureRuns w s line more (Store p) = state (afterStored s (length more)) (withMemory w (kept (memoryOf w) 2 (packedOf line (p .at) (p .length)) more))
+pictureRuns w s line more (Erase n) = cond (n .all) (erasedEvery s w true) (erasedNamed s w (named w true line n))
 
 -- what such a command leaves
 abbrev pub pictureBy : World → Session → List ℕ → List ℕ → PictureCommand → Ran
-pictureBy w s line more c = ranBy (answerOf (pictureRows w line more c)) s w [] (pictureRuns w s line more c) []
+pictureBy w s line more c = ranBy (answerOf (pictureRows w s line more c)) s w [] (pictureRuns w s line more c) []

@@ -1,7 +1,8 @@
 // Pictures: GM stores one, GK erases one or all.
 //
-// Paper 01: `GM"Name",n` with the n bytes behind its line, and `GK"Name"`, where `"*"` erases all. `run_picture` promises one equation with `pictureBy`
-// (specs/Pictures.antt): its rows of the table, then what it does.
+// Paper 01: `GM"Name",n` with the n bytes behind its line, and `GK"Name"`, where `"*"` erases all. Room is asked of the
+// session's number of free portions, which GM and GK keep right (paper 02, §6). `run_picture` promises one equation with `pictureBy` (specs/Pictures.antt): its rows of
+// the table, then what it does.
 ghost use mathlib.Core.Path.{_≡_};
 ghost use mathlib.Core.List.{[]};
 ghost use Rattle.grammar.specs.declared.PictureCommand.the-variants.{Store as Keep, Erase};
@@ -10,6 +11,7 @@ ghost use Rattle.results.specs.Result.{ran};
 ghost use Rattle.picture_commands.specs.Pictures.{pictureBy};
 use answers::Answer;
 use answers::is_taken;
+use free_number::after_stored;
 use full::full_answer;
 use grammar::Named;
 use grammar::PictureCommand;
@@ -18,6 +20,7 @@ use parts::packed;
 use results::Done;
 use results::answered;
 use results::names::entry_of;
+use results::names::erase_every;
 use results::names::erase_found;
 use results::names::is_at;
 use results::names::is_missing;
@@ -44,12 +47,13 @@ fn keep_picture(
     if !pcx::is_legal(more) {
         return answered(Answer::Illegal, session);
     }
-    let full = full_answer(links, directory, more.len());
+    let free = session.free as usize;
+    let full = full_answer(free, directory, more.len());
     if !is_taken(full) {
         return answered(full, session);
     }
     growing::keep(store, links, directory, 2, title, more);
-    taken(session)
+    taken(after_stored(session, more.len()))
 }
 
 fn erase_picture(
@@ -68,11 +72,11 @@ fn erase_picture(
         return answered(Answer::Missing, session);
     }
     if all {
-        erasing::erase_all(store, links, directory, true);
-        return taken(session);
+        let after = erase_every(session, store, links, directory, true);
+        return taken(after);
     }
-    erase_found(store, links, directory, found);
-    taken(session)
+    let after = erase_found(session, store, links, directory, found);
+    taken(after)
 }
 
 // A command of pictures, with the bytes behind a GM's line.

@@ -14,6 +14,7 @@ use press_settings::Settings;
 use press_settings::saying::failed;
 use press_settings::saying::wrong;
 use session::Session;
+use session::sixteen_bits;
 
 // What is known between two turns. A descriptor that is not there is -1; store is the argument that names the store, 0 for none, and file the one that is read,
 // 0 for standard input; ready says that a command stands at the front of what is read.
@@ -358,7 +359,8 @@ pub fn begin(
     };
     lasting::load_body(file, background, store, links, directory);
     slots::load_values(file, k, values);
-    let session = slots::session_of(file, k);
+    let held = slots::session_of(file, k);
+    let session = held.roomed(sixteen_bits(store::free_count(links)));
     let sound = sound::is_sound(session, background, store, links, directory, values);
     admitted(first, k, session, sound, file)
 }

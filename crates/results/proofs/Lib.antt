@@ -1,3 +1,4 @@
 pub mod Answers
 pub mod Lengths
 pub mod Parts
+pub mod Erasing

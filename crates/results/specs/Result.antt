@@ -1,6 +1,6 @@
 -- What a command leaves of everything it is lent: as its table answers, or as it was.
 -- Assumes nothing.
-use Prim.Native.Nat.{ℕ, min}
+use Prim.Native.Nat.{ℕ}
 use mathlib.Core.Bool.{cond}
 use mathlib.Core.List.{List}
 use lib.ListN.{length}
@@ -15,10 +15,6 @@ use Rattle.results.specs.World.{State}
 
 abbrev pub done : Answer → Session → ℕ → Done
 done a s k = record { answer = a; session = s; written = k }
-
--- a number as a session keeps it, of 16 bits: every number within its limits is
-abbrev pub sixteenBits : ℕ → ℕ
-sixteenBits n = min n 65535
 
 -- a command over a part x of what it is lent: taken it leaves t, refused the part as it was
 abbrev pub settles : {A : Type 0} → Answer → Session → A → Done × A → Done × A

@@ -40,5 +40,5 @@ abbrev pub unsetIn : World → World
 unsetIn w = withValues w (unset (w .values))
 
 -- no form is active any more
-abbrev pub inactive : Session → World → State
-inactive s w = state (activated s noForm) (unsetIn w)
+abbrev pub inactive : State → State
+inactive st = state (activated (st .session) noForm) (unsetIn (st .world))

@@ -1,13 +1,13 @@
 // What a command leaves, and what the groups of commands share.
 //
 // Each command checks first, by its rows of paper 01's table, and only then changes what it was lent. What it leaves is `Done`: its answer, the session
-// after it and how many bytes it wrote. A name that a command gives is looked up here, in the one directory of forms and pictures. A number that goes
-// into a session is cut to its 16 bits by one function for every number, so that no caller is asked for anything; within its limits it stays as it is.
+// after it and how many bytes it wrote. A name that a command gives is looked up here, in the one directory of forms and pictures. What FK
+// and GK erase is erased here for both, with the number of free portions after it.
 ghost use mathlib.Core.Path.{_≡_};
 ghost use Rattle.stored_values.specs.Stored.{unset};
 ghost use Rattle.answers.specs.declared.Answer.the-variants.{Taken};
 ghost use Rattle.session.specs.Session.{activated};
-ghost use Rattle.results.specs.Result.{done, sixteenBits};
+ghost use Rattle.results.specs.Result.{done};
 use answers::Answer;
 use session::Session;
 use stored_values::unset_all;
@@ -40,13 +40,6 @@ pub fn taken(session: Session) -> Done
         session: session,
         written: 0,
     }
-}
-
-// A number as a session keeps it.
-pub fn sixteen_bits(n: usize) -> u16
-    ensures { λ r. ⌜ r ≡ sixteenBits n ⌝ }
-{
-    if n < 65535 { n as u16 } else { 65535 }
 }
 
 // "FR unsets all values; so does the end of activity."

@@ -6,12 +6,16 @@ ghost use Rattle.finding.specs.Find.{titledAt};
 ghost use Rattle.parts.specs.Names.{packedOf};
 ghost use Rattle.recording.specs.Judged.{isAt};
 ghost use Rattle.lent.specs.Lent.{world};
-ghost use Rattle.results.specs.Named.{placeOf, erasedNamed};
-use crate::sixteen_bits;
+ghost use Rattle.results.specs.World.{state};
+ghost use Rattle.results.specs.Named.{placeOf, erasedNamed, erasedEvery};
 use finding::Found;
+use free_number::after_erased;
+use free_number::after_erased_all;
 use grammar::Named;
 use parts::packed;
 use session::NO_FORM;
+use session::Session;
+use session::sixteen_bits;
 
 pub fn is_at(found: Found) -> bool
     ensures { λ r. ⌜ r ≡ isAt found ⌝ }
@@ -50,14 +54,37 @@ pub fn place_of(found: Found) -> u16
     }
 }
 
-// The memory without an entry that was found.
-pub fn erase_found(store: &mut [u8], links: &mut [u16], directory: &mut [u8], found: Found)
-    ensures { λ _. ⌜ world [] (now (store .exit)) (now (links .exit)) (now (directory .exit)) [] ≡ erasedNamed (world [] (now (store .entry)) (now (links .entry)) (now (directory .entry)) []) found ⌝ }
+// The memory without an entry that was found, and the session with its portions free again.
+pub fn erase_found(
+    session: Session,
+    store: &mut [u8],
+    links: &mut [u16],
+    directory: &mut [u8],
+    found: Found,
+) -> Session
+    ensures { λ r. ⌜ state r (world [] (now (store .exit)) (now (links .exit)) (now (directory .exit)) []) ≡ erasedNamed session (world [] (now (store .entry)) (now (links .entry)) (now (directory .entry)) []) found ⌝ }
 {
     match found {
         Found::At(i) => {
+            let after = after_erased(session, directory, i);
             erasing::erase(store, links, directory, i);
+            after
         }
-        Found::Nothing => {}
+        Found::Nothing => session,
     }
+}
+
+// The same of all forms, or of all pictures.
+pub fn erase_every(
+    session: Session,
+    store: &mut [u8],
+    links: &mut [u16],
+    directory: &mut [u8],
+    picture: bool,
+) -> Session
+    ensures { λ r. ⌜ state r (world [] (now (store .exit)) (now (links .exit)) (now (directory .exit)) []) ≡ erasedEvery session (world [] (now (store .entry)) (now (links .entry)) (now (directory .entry)) []) picture ⌝ }
+{
+    let after = after_erased_all(session, directory, picture);
+    erasing::erase_all(store, links, directory, picture);
+    after
 }

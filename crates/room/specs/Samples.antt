@@ -21,19 +21,19 @@ unfolding cell
 one-empty = refl
 
 -- 512 bytes take the last portions that are free; for one more there is no room
-fills : hasRoom links directory 512 ≡ true
+fills : hasRoom 2 directory 512 ≡ true
 unfolding hasRoom lowestFrom cell
 fills = refl
 
-too-much : hasRoom links directory 513 ≡ false
+too-much : hasRoom 2 directory 513 ≡ false
 unfolding hasRoom lowestFrom cell
 too-much = refl
 
 -- the form has 212 bytes of its second portion left
-grows : canGrow links (entry directory 0) 724 ≡ true
+grows : canGrow 2 (entry directory 0) 724 ≡ true
 unfolding canGrow cell size
 grows = refl
 
-no-more : canGrow links (entry directory 0) 725 ≡ false
+no-more : canGrow 2 (entry directory 0) 725 ≡ false
 unfolding canGrow cell size
 no-more = refl

@@ -1,8 +1,9 @@
-// Room in the store (paper 01): "New entries and portions are the lowest free". Where the next portion and the next entry are, and whether something new fits or
-// something stored can grow: all from links and directory alone, on any memory. Portions and entries run out apart (paper 02, §5), so each is asked for by itself.
+// Room in the store (paper 01): "New entries and portions are the lowest free". Where the next portion and the next entry are, from links and directory; and
+// whether an entry is empty or something stored can grow, from the directory and the number of free portions alone (paper 02, §6). All of it on any memory.
+// Portions and entries run out apart (§5), so each is asked for by itself.
 ghost use mathlib.Core.Path.{_≡_};
 ghost use Rattle.store.specs.Entry.{entry};
-ghost use Rattle.room.specs.Room.{lowestPortion, lowestEntry, emptyCount, hasPortions, hasEntry, hasRoom, canGrow};
+ghost use Rattle.room.specs.Room.{lowestPortion, lowestEntry, emptyCount, hasEntry, canGrow};
 use finding::Found;
 use store::BYTES_AN_ENTRY;
 use store::MOST_SIZE;
@@ -43,13 +44,6 @@ pub fn empty_count(directory: &[u8]) -> usize
     n
 }
 
-// Whether so many portions are free.
-pub fn has_portions(links: &[u16], n: usize) -> bool
-    ensures { λ r. ⌜ r ≡ hasPortions (now (links .entry)) n ⌝ }
-{
-    n <= store::free_count(links)
-}
-
 // Whether an entry is empty.
 pub fn has_entry(directory: &[u8]) -> bool
     ensures { λ r. ⌜ r ≡ hasEntry (now (directory .entry)) ⌝ }
@@ -57,19 +51,9 @@ pub fn has_entry(directory: &[u8]) -> bool
     lowest_entry(directory) < directory.len() / BYTES_AN_ENTRY
 }
 
-// Whether there is room for a new entry of a size: an empty entry, and as many free portions as are needed.
-pub fn has_room(links: &[u16], directory: &[u8], size: usize) -> bool
-    ensures { λ r. ⌜ r ≡ hasRoom (now (links .entry)) (now (directory .entry)) size ⌝ }
-{
-    if has_entry(directory) {
-        return has_portions(links, store::needed_for(size));
-    }
-    false
-}
-
-// Whether so many bytes can be put behind entry i.
-pub fn can_grow(links: &[u16], directory: &[u8], i: usize, more: usize) -> bool
-    ensures { λ r. ⌜ r ≡ canGrow (now (links .entry)) (entry (now (directory .entry)) i) more ⌝ }
+// Whether so many bytes can be put behind entry i, with so many portions free.
+pub fn can_grow(free: usize, directory: &[u8], i: usize, more: usize) -> bool
+    ensures { λ r. ⌜ r ≡ canGrow free (entry (now (directory .entry)) i) more ⌝ }
 {
     if store::kind_at(directory, i) == 0 {
         return false;
@@ -78,5 +62,5 @@ pub fn can_grow(links: &[u16], directory: &[u8], i: usize, more: usize) -> bool
     if MOST_SIZE - s < more {
         return false;
     }
-    has_portions(links, store::needed_for(s + more) - store::needed_for(s))
+    store::needed_for(s + more) - store::needed_for(s) <= free
 }

@@ -1,6 +1,7 @@
--- "The session holds width, length, turn, origin, counters with set or unset (then 0), active form, labels owed and drawn."
+-- "The session holds width, length, turn, origin, counters with set or unset (then 0), active form, labels owed and drawn"; paper 02, §6: "Keep the number of
+-- free portions in the session."
 -- Assumes nothing.
-use Prim.Native.Nat.{ℕ, _+_, _-_}
+use Prim.Native.Nat.{ℕ, _+_, _-_, min}
 use mathlib.Core.Bool.{cond, _||_}
 use mathlib.Core.List.{[], _∷_}
 use lib.Dec.{eqb}
@@ -32,45 +33,64 @@ mostLabels = 65535
 abbrev pub blank : Counters
 blank = record { set = 0 ∷ 0 ∷ 0 ∷ 0 ∷ 0 ∷ 0 ∷ 0 ∷ 0 ∷ 0 ∷ 0 ∷ []; value = 0 ∷ 0 ∷ 0 ∷ 0 ∷ 0 ∷ 0 ∷ 0 ∷ 0 ∷ 0 ∷ 0 ∷ [] }
 
-abbrev pub session : ℕ → ℕ → ℕ → ℕ → ℕ → ℕ → ℕ → ℕ → Counters → Session
-session width length turn x y active owed drawn counters =
-    record { width = width; length = length; turn = turn; x = x; y = y; active = active; owed = owed; drawn = drawn; counters = counters }
+-- a number as a session keeps it, of 16 bits: every number within its limits is
+abbrev pub sixteenBits : ℕ → ℕ
+sixteenBits n = min n 65535
+
+abbrev pub session : ℕ → ℕ → ℕ → ℕ → ℕ → ℕ → ℕ → ℕ → Counters → ℕ → Session
+session width length turn x y active owed drawn counters free =
+    record {
+      width = width;
+      length = length;
+      turn = turn;
+      x = x;
+      y = y;
+      active = active;
+      owed = owed;
+      drawn = drawn;
+      counters = counters;
+      free = free;
+    }
 
 -- ---- the setters: all else stays
 
 -- `Qm,g`, `qm`
 abbrev pub sized : Session → ℕ → ℕ → Session
-sized s width length = session width length (s .turn) (s .x) (s .y) (s .active) (s .owed) (s .drawn) (s .counters)
+sized s width length = session width length (s .turn) (s .x) (s .y) (s .active) (s .owed) (s .drawn) (s .counters) (s .free)
 
 -- `ZT`, `ZB`
 abbrev pub turning : Session → ℕ → Session
-turning s turn = session (s .width) (s .length) turn (s .x) (s .y) (s .active) (s .owed) (s .drawn) (s .counters)
+turning s turn = session (s .width) (s .length) turn (s .x) (s .y) (s .active) (s .owed) (s .drawn) (s .counters) (s .free)
 
 -- `Rm,n`: "It replaces the earlier one"
 abbrev pub based : Session → ℕ → ℕ → Session
-based s x y = session (s .width) (s .length) (s .turn) x y (s .active) (s .owed) (s .drawn) (s .counters)
+based s x y = session (s .width) (s .length) (s .turn) x y (s .active) (s .owed) (s .drawn) (s .counters) (s .free)
 
 -- the active form
 abbrev pub withActive : Session → ℕ → Session
-withActive s active = session (s .width) (s .length) (s .turn) (s .x) (s .y) active (s .owed) (s .drawn) (s .counters)
+withActive s active = session (s .width) (s .length) (s .turn) (s .x) (s .y) active (s .owed) (s .drawn) (s .counters) (s .free)
 
 -- labels owed and drawn
 abbrev pub withLabels : Session → ℕ → ℕ → Session
-withLabels s owed drawn = session (s .width) (s .length) (s .turn) (s .x) (s .y) (s .active) owed drawn (s .counters)
+withLabels s owed drawn = session (s .width) (s .length) (s .turn) (s .x) (s .y) (s .active) owed drawn (s .counters) (s .free)
 
 -- `?Cn,value`
 abbrev pub counting : Session → Counters → Session
-counting s counters = session (s .width) (s .length) (s .turn) (s .x) (s .y) (s .active) (s .owed) (s .drawn) counters
+counting s counters = session (s .width) (s .length) (s .turn) (s .x) (s .y) (s .active) (s .owed) (s .drawn) counters (s .free)
+
+-- the number of free portions
+abbrev pub roomed : Session → ℕ → Session
+roomed s free = session (s .width) (s .length) (s .turn) (s .x) (s .y) (s .active) (s .owed) (s .drawn) (s .counters) free
 
 -- ---- what is made of them
 
 -- "a refused opening returns zeros"
 abbrev pub none : Session
-none = session 0 0 0 0 0 0 0 0 blank
+none = session 0 0 0 0 0 0 0 0 blank 0
 
--- "Opening .. sets width 608, length N, origin 0,0, ZT, nothing owed": N rows. No form is active
-abbrev pub fresh : ℕ → Session
-fresh rows = withActive (sized none mostWidth rows) noForm
+-- "Opening .. frees all portions, and sets width 608, length N, origin 0,0, ZT, nothing owed": N rows, so many portions. No form is active
+abbrev pub fresh : ℕ → ℕ → Session
+fresh rows portions = roomed (withActive (sized none mostWidth rows) noForm) portions
 
 -- "FR unsets all values; so does the end of activity, by N or FK"
 abbrev pub activated : Session → ℕ → Session

@@ -1,11 +1,11 @@
 // The session, and its methods.
 //
 // Paper 01, "What is lent": "The session holds width, length, turn, origin, counters with set or unset (then 0), active form, labels owed
-// and drawn." It is plain unsigned numbers by value, so that any bytes are some session and sound alone judges it; what changes it is a
+// and drawn"; and since paper 02, §6, the number of free portions. It is plain unsigned numbers by value, so that any bytes are some session and sound alone judges it; what changes it is a
 // method that takes the session and hands the next one back: the origin replaced, the counters moved, a label drawn (`labels`).
 // Whether a session is sound with the memory beside it is left to crate `sound`, and when a method is called to crate `station`.
 ghost use mathlib.Core.Path.{_≡_};
-ghost use Rattle.session.specs.Session.{fresh, none, blank, sized, turning, based, activated, counting, owing, moved, counted};
+ghost use Rattle.session.specs.Session.{fresh, none, blank, sized, turning, based, activated, counting, roomed, owing, moved, counted, sixteenBits};
 pub use active_form::NO_FORM;
 use answers::Answer;
 use counters::Counters;
@@ -36,12 +36,20 @@ pub struct Session {
     pub owed: u16,
     pub drawn: u16,
     pub counters: Counters,
+    pub free: u16,
 }
 
 // What opening and a label call answer.
 pub struct Labelled {
     pub answer: Answer,
     pub session: Session,
+}
+
+// A number as a session keeps it.
+pub fn sixteen_bits(n: usize) -> u16
+    ensures { λ r. ⌜ r ≡ sixteenBits n ⌝ }
+{
+    if n < 65535 { n as u16 } else { 65535 }
 }
 
 // No counter is set.
@@ -55,9 +63,9 @@ fn unset() -> Counters
 }
 
 impl Session {
-    // "Opening .. sets width 608, length N, origin 0,0, ZT, nothing owed."
-    pub fn fresh(rows: u16) -> Session
-        ensures { λ r. ⌜ r ≡ fresh rows ⌝ }
+    // "Opening .. frees all portions, and sets width 608, length N, origin 0,0, ZT, nothing owed."
+    pub fn fresh(rows: u16, portions: u16) -> Session
+        ensures { λ r. ⌜ r ≡ fresh rows portions ⌝ }
     {
         let counters = unset();
         Session {
@@ -70,6 +78,7 @@ impl Session {
             owed: 0,
             drawn: 0,
             counters: counters,
+            free: portions,
         }
     }
 
@@ -88,6 +97,7 @@ impl Session {
             owed: 0,
             drawn: 0,
             counters: counters,
+            free: 0,
         }
     }
 
@@ -136,6 +146,15 @@ impl Session {
     {
         let mut s = self;
         s.counters = counters;
+        s
+    }
+
+    // The number of free portions, after a command that stores or erases.
+    pub fn roomed(self, free: u16) -> Session
+        ensures { λ r. ⌜ r ≡ roomed self free ⌝ }
+    {
+        let mut s = self;
+        s.free = free;
         s
     }
 

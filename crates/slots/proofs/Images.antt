@@ -1,18 +1,13 @@
--- The session's image has its size.
-use mathlib.Core.Path.{_≡_, refl, sym, _∙_}
-use mathlib.Core.List.{List}
-use Prim.Native.Nat.{ℕ}
-use lib.ListN.{length}
-use lib.Seq.{sets}
+-- A slot loses nothing of the session: what it holds of the image, and the number of free portions, are the session again.
+use mathlib.Core.Path.{_≡_, ap}
+use lib.ListN.{take}
 use Rattle.session.specs.declared.Session.{Session}
-use Rattle.low_first.specs.Low.{bytesOf}
-use Rattle.image.specs.Image.{counterBytes, imageOf, imageSize}
-use Rattle.ground.proofs.Stores.{sets-all}
+use Rattle.session.specs.Session.{roomed}
+use Rattle.low_first.specs.Low.{numberAt, bytesOf}
+use Rattle.image.specs.Image.{everyFive, counterBytes, sessionOf, imageOf, Fits}
+use Rattle.image.proofs.Inverse.{session-image}
+use Rattle.slots.specs.Slots.{heldImage}
 
-image-long : (s : Session) → length (imageOf s) ≡ imageSize
-unfolding imageOf bytesOf counterBytes
-image-long s = refl
-
--- an image stored over as many bytes is all there is
-pub image-whole : (z : List ℕ) (s : Session) → length z ≡ imageSize → sets z 0 (imageOf s) ≡ imageOf s
-image-whole z s h = sets-all z (imageOf s) (image-long s ∙ sym h)
+pub held-again : (s : Session) → Fits s → roomed (sessionOf (take heldImage (imageOf s))) (s .free) ≡ s
+unfolding numberAt bytesOf everyFive counterBytes sessionOf imageOf
+held-again s f = ap (λ (t : Session). roomed t (s .free)) (session-image s f)

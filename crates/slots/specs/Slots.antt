@@ -1,5 +1,5 @@
--- The two slots of a lasting store's file: order, pictures so far, the session's image, the values, and the sum of all these, which starts from the
--- sum of head and body. Assumes nothing.
+-- The two slots of a lasting store's file: order, pictures so far, the front of the session's image, the values, and the sum of all these, which starts from
+-- the sum of head and body. Assumes nothing.
 use Prim.Native.Nat.{ℕ, _+_, _*_, _%_}
 use mathlib.Core.Bool.{Bool, not, _&&_}
 use mathlib.Core.List.{List}
@@ -8,7 +8,7 @@ use lib.Seq.{sets}
 use lib.Dec.{eqb}
 use Rattle.session.specs.declared.Session.{Session}
 use Rattle.low_first.specs.Low.{numberAt, bytesOf}
-use Rattle.image.specs.Image.{imageOf, imageSize}
+use Rattle.image.specs.Image.{imageOf}
 use Rattle.lent.specs.Lent.{bytesOfValues}
 use Rattle.file_parts.specs.Sums.{sumOn, partOf}
 
@@ -31,15 +31,19 @@ picturesAt = 4
 abbrev pub imageAt : ℕ
 imageAt = 8
 
+-- the session's image without its last number, that of free portions: the links in the file's body say it
+abbrev pub heldImage : ℕ
+heldImage = 65
+
 abbrev pub valuesAt : ℕ
-valuesAt = imageAt + imageSize
+valuesAt = imageAt + heldImage
 
 abbrev pub sumAt : ℕ
 sumAt = valuesAt + bytesOfValues
 
 -- order, pictures, session and values in the slot at a place
 abbrev pub filled : List ℕ → ℕ → ℕ → ℕ → Session → List ℕ → List ℕ
-filled file at order pictures s values = sets (sets (sets (sets file at (bytesOf 4 order)) (at + picturesAt) (bytesOf 4 pictures)) (at + imageAt) (imageOf s)) (at + valuesAt) (take bytesOfValues values)
+filled file at order pictures s values = sets (sets (sets (sets file at (bytesOf 4 order)) (at + picturesAt) (bytesOf 4 pictures)) (at + imageAt) (take heldImage (imageOf s))) (at + valuesAt) (take bytesOfValues values)
 
 -- the sum of a slot starts from the sum of head and body
 abbrev pub slotSum : List ℕ → ℕ → ℕ

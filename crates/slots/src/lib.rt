@@ -4,12 +4,13 @@
 // (specs/Slots.antt). A slot's sum starts from the sum of head and body, so that it is not taken for one of another body.
 ghost use mathlib.Core.Path.{_≡_};
 ghost use Prim.Native.Nat.{_+_};
+ghost use lib.ListN.{take};
 ghost use lib.Seq.{sets};
 ghost use Rattle.low_first.specs.Low.{numberAt};
-ghost use Rattle.image.specs.Image.{sessionOf, imageOf, imageSize};
+ghost use Rattle.image.specs.Image.{sessionOf, imageOf};
 ghost use Rattle.lent.specs.Lent.{bytesOfValues};
 ghost use Rattle.file_parts.specs.Sums.{partOf};
-ghost use Rattle.slots.specs.Slots.{slotOf, picturesAt, imageAt, valuesAt, filled, slotted, whole, tornAt};
+ghost use Rattle.slots.specs.Slots.{slotOf, picturesAt, imageAt, heldImage, valuesAt, filled, slotted, whole, tornAt};
 use file_parts::four_at;
 use file_parts::part;
 use file_parts::put_four;
@@ -32,7 +33,10 @@ const PICTURES_AT: usize = 4;
 
 const IMAGE_AT: usize = 8;
 
-const VALUES_AT: usize = IMAGE_AT + IMAGE;
+// The image without its last number, that of free portions: the links in the file's body say it, and files keep their format.
+const HELD_IMAGE: usize = 65;
+
+const VALUES_AT: usize = IMAGE_AT + HELD_IMAGE;
 
 const SUM_AT: usize = VALUES_AT + BYTES_OF_VALUES;
 
@@ -54,11 +58,11 @@ pub fn slot_at(order: u32) -> usize
 }
 
 fn put_session(file: &mut [u8], at: usize, session: Session)
-    ensures { λ _. ⌜ now (file .exit) ≡ sets (now (file .entry)) at (imageOf session) ⌝ }
+    ensures { λ _. ⌜ now (file .exit) ≡ sets (now (file .entry)) at (take heldImage (imageOf session)) ⌝ }
 {
     let mut image = [0u8; IMAGE];
     image::encode(session, &mut image);
-    put(file, at, &image);
+    put(file, at, front(&image, HELD_IMAGE));
 }
 
 fn fill_slot(file: &mut [u8], order: u32, pictures: u32, session: Session, values: &[u8])
@@ -96,11 +100,11 @@ pub fn pictures_of(file: &[u8], k: usize) -> u32
     four_at(file, page_of(k) + PICTURES_AT)
 }
 
-// The session of slot k.
+// The session of slot k, but for the number of free portions, which is 0.
 pub fn session_of(file: &[u8], k: usize) -> Session
-    ensures { λ r. ⌜ r ≡ sessionOf (partOf (now (file .entry)) (slotOf k + imageAt) imageSize) ⌝ }
+    ensures { λ r. ⌜ r ≡ sessionOf (partOf (now (file .entry)) (slotOf k + imageAt) heldImage) ⌝ }
 {
-    image::decode(part(file, page_of(k) + IMAGE_AT, IMAGE))
+    image::decode(part(file, page_of(k) + IMAGE_AT, HELD_IMAGE))
 }
 
 // The values of slot k.

@@ -1,2 +1,3 @@
+pub mod Numbered
 pub mod Clauses
 pub mod EntryRows

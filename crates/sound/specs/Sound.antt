@@ -1,4 +1,4 @@
--- Paper 01: "Sound means: ..", one named test a clause, in its order and words. A test takes only what it reads.
+-- Paper 01: "Sound means: ..", one named test a clause, in its order and words, and what paper 02 adds to it. A test takes only what it reads.
 -- Assumes nothing.
 use Prim.Native.Nat.{ℕ}
 use mathlib.Core.Bool.{Bool, _&&_}
@@ -7,6 +7,7 @@ use lib.Dec.{leb}
 use Rattle.kinds.specs.Bytes.{between}
 use Rattle.outside.specs.Outside.{whiteOutside}
 use Rattle.store_sound.specs.Sound.{storeSound}
+use Rattle.free_number.specs.Number.{freeNumber}
 use Rattle.content_check.specs.Contents.{contentsOk}
 use Rattle.activity_check.specs.Activity.{activitySound}
 use Rattle.session.specs.declared.Session.{Session}
@@ -26,6 +27,9 @@ backgroundOk width length background = whiteOutside width length background
 -- "names upper-case, legal, unique per kind (1 and 3 are one kind); at most one entry of kind 3; each chain of exactly size/256 rounded up, at least
 -- one, portions; no portion in two chains; all others free; unused bytes zero" is `storeSound` of crate `store_sound`
 
+-- "Sound now also means that this number equals the portions of the lent store less those that the stored sizes call for" (paper 02, §6) is `freeNumber` of crate
+-- `free_number`
+
 -- "each form a row of normalised lines that recording would take one after another (presence of pictures aside); each picture legal" is `contentsOk` of
 -- crate `content_check`
 
@@ -38,5 +42,6 @@ sound s w =
     numbersOk (rowsOf w) s
     && (backgroundOk (s .width) (s .length) (w .background)
     && (storeSound (w .store) (w .links) (w .directory)
+    && (freeNumber (w .links) (w .directory) (s .free)
     && (contentsOk (w .store) (w .links) (w .directory)
-    && activitySound s (w .directory) (activeBytes (w .store) (w .links) (w .directory) (s .active)) (w .values))))
+    && activitySound s (w .directory) (activeBytes (w .store) (w .links) (w .directory) (s .active)) (w .values)))))

@@ -3,12 +3,14 @@
 // Paper 01's paragraph "Sound means: .." is `sound` (specs/Sound.antt), a conjunction with one named test a clause, in the paper's order and words.
 // `is_sound` decides it exactly, for any session and any memory, in one pass over what is lent: each portion, each entry and each line of each form is
 // looked at once, and the active form's lines once more. The clauses on the store, on what its entries hold and on the active form are decided in
-// `store_check`, `content_check` and `activity_check`. `entry_answer` is what every read and label call checks first: 1, 2 and 3. That every call
+// `store_check`, `content_check` and `activity_check`; the number of free portions (crate `free_number`) by a count of the links marked free, which on a store that
+// is sound is the same (proofs/Numbered.antt). `entry_answer` is what every read and label call checks first: 1, 2 and 3. That every call
 // keeps a sound memory sound is said in crate `keeps_sound`.
 ghost use mathlib.Core.Path.{_≡_};
 ghost use mathlib.Core.Bool.{_&&_};
-ghost use lib.Dec.{leb};
+ghost use lib.Dec.{eqb, leb};
 ghost use Rattle.kinds.specs.Bytes.{between};
+ghost use Rattle.store.specs.Chain.{freeCount};
 ghost use Rattle.lent.specs.Lent.{world};
 ghost use Rattle.session.specs.Session.{leastWidth, mostWidth, mostX, mostY};
 ghost use Rattle.sound.specs.Sound.{backgroundOk, sound};
@@ -51,6 +53,13 @@ fn background_ok(background: &[u8], width: u16, length: u16) -> bool
     outside::white_outside(background, wide(width), wide(length))
 }
 
+// "this number equals the portions of the lent store less those that the stored sizes call for": on a sound store these are the links marked free.
+fn number_ok(free: u16, links: &[u16]) -> bool
+    ensures { λ r. ⌜ r ≡ eqb free (freeCount (now (links .entry))) ⌝ }
+{
+    wide(free) == store::free_count(links)
+}
+
 // Whether a session and the memory beside it are sound.
 pub fn is_sound(
     session: Session,
@@ -77,6 +86,9 @@ pub fn is_sound(
         return false;
     }
     if !store_check::store_sound(store, links, directory) {
+        return false;
+    }
+    if !number_ok(session.free, links) {
         return false;
     }
     if !content_check::contents_ok(store, links, directory) {

@@ -9,11 +9,10 @@ use lib.Seq.{sets}
 use borrow.Author.Tests.{eq-eqb, ne-eqb}
 use Rattle.cells.specs.Cell.{setCell}
 use Rattle.store.specs.Entry.{entry, kind}
-use Rattle.finding.specs.declared.Found.the-variants.{At, Nothing}
 use Rattle.finding.specs.Find.{isRecording}
-use Rattle.memory.specs.Memory.{Memory, memory}
-use Rattle.room.specs.Room.{lowestPortion, lowestEntry, hasRoom}
-use Rattle.starting.specs.Start.{newEntry, begun, started, startedAt, finished}
+use Rattle.memory.specs.Memory.{memory}
+use Rattle.room.specs.Room.{lowestPortion, lowestEntry}
+use Rattle.starting.specs.Start.{newEntry, begun, finished}
 
 pub begin-is : (ls dir : List ℕ) (k : ℕ) (n : List ℕ) (q i : ℕ) (e ls′ dir′ : List ℕ) → q ≡ lowestPortion ls → i ≡ lowestEntry dir → ls′ ≡ set ls q 65534 → e ≡ newEntry k n q
     → dir′ ≡ sets dir (i * 16 + 0) e
@@ -31,19 +30,6 @@ module _ (st ls dir : List ℕ) (k : ℕ) (n : List ℕ) where
       → memory st ls′ dir′ ≡ begun (memory st ls dir) k n
   unfolding begun
   begun-is ls′ dir′ a b = λ j. memory st (a j) (b j)
-
-  pub start-no : (r : Bool) → r ≡ hasRoom ls dir 0 → r ≡ false → (Nothing ≡ startedAt (memory st ls dir) 0) × (memory st ls dir ≡ started (memory st ls dir) k n)
-  start-no r e z = (
-    sym (ap (λ (b : Bool). cond b (At (lowestEntry dir)) Nothing) (sym e ∙ z)),
-    sym (ap (λ (b : Bool). cond b (begun (memory st ls dir) k n) (memory st ls dir)) (sym e ∙ z)),
-  )
-
-  pub start-yes : (r : Bool) (i : ℕ) (m : Memory) → r ≡ hasRoom ls dir 0 → r ≡ true → i ≡ lowestEntry dir → m ≡ begun (memory st ls dir) k n
-      → (At i ≡ startedAt (memory st ls dir) 0) × (m ≡ started (memory st ls dir) k n)
-  start-yes r i m e z a b = (
-    ap At a ∙ sym (ap (λ (b : Bool). cond b (At (lowestEntry dir)) Nothing) (sym e ∙ z)),
-    b ∙ sym (ap (λ (b : Bool). cond b (begun (memory st ls dir) k n) (memory st ls dir)) (sym e ∙ z)),
-  )
 
 module _ (dir : List ℕ) (i k : ℕ) (e : k ≡ kind (entry dir i)) where
   pub finish-no : (k ≡ 3 → ⊥) → (false ≡ isRecording dir i) × (dir ≡ finished dir i)

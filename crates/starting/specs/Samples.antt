@@ -7,10 +7,8 @@ use lib.ListN.{replicate}
 use Rattle.cells.specs.Cell.{cell}
 use Rattle.cells.specs.Scan.{lowestFrom}
 use Rattle.store.specs.Chain.{endLink, freeLink}
-use Rattle.finding.specs.declared.Found.the-variants.{Nothing}
 use Rattle.memory.specs.Memory.{Memory, memory}
-use Rattle.room.specs.Room.{hasRoom}
-use Rattle.starting.specs.Start.{nameEnd, newEntry, begun, started, startedAt, finished}
+use Rattle.starting.specs.Start.{nameEnd, newEntry, begun, finished}
 
 abbrev pub title : List ℕ
 title = code "A" ∷ code "B" ∷ 0 ∷ 0 ∷ 0 ∷ 0 ∷ 0 ∷ 0 ∷ []
@@ -19,17 +17,13 @@ abbrev pub clear : Memory
 clear = memory (replicate 1024 0) (replicate 4 freeLink) (replicate 32 0)
 
 -- a form "AB" is started in the first entry and the first portion
-begins : started clear 3 title .links ≡ endLink ∷ freeLink ∷ freeLink ∷ freeLink ∷ []
-unfolding hasRoom begun lowestFrom cell nameEnd newEntry
+begins : begun clear 3 title .links ≡ endLink ∷ freeLink ∷ freeLink ∷ freeLink ∷ []
+unfolding begun lowestFrom cell nameEnd newEntry
 begins = refl
 
-its-entry : started clear 3 title .directory ≡ 3 ∷ 2 ∷ code "A" ∷ code "B" ∷ replicate 28 0
-unfolding hasRoom begun lowestFrom cell nameEnd newEntry
+its-entry : begun clear 3 title .directory ≡ 3 ∷ 2 ∷ code "A" ∷ code "B" ∷ replicate 28 0
+unfolding begun lowestFrom cell nameEnd newEntry
 its-entry = refl
-
-no-room : startedAt (memory (replicate 256 0) (endLink ∷ []) (replicate 32 0)) 0 ≡ Nothing
-unfolding hasRoom lowestFrom cell
-no-room = refl
 
 -- a form that is finished is kind 1, one that is not being recorded stays
 finishes : finished (3 ∷ 2 ∷ code "A" ∷ code "B" ∷ replicate 28 0) 0 ≡ 1 ∷ 2 ∷ code "A" ∷ code "B" ∷ replicate 28 0

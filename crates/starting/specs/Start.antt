@@ -8,11 +8,9 @@ use Rattle.cells.specs.Cell.{setCell}
 use Rattle.cells.specs.Scan.{lowest}
 use Rattle.store.specs.Chain.{endLink}
 use Rattle.store.specs.Entry.{bytesAnEntry}
-use Rattle.finding.specs.declared.Found.{Found}
-use Rattle.finding.specs.declared.Found.the-variants.{At, Nothing}
 use Rattle.finding.specs.Find.{isRecording}
 use Rattle.memory.specs.Memory.{Memory, memory}
-use Rattle.room.specs.Room.{lowestPortion, lowestEntry, hasRoom}
+use Rattle.room.specs.Room.{lowestPortion, lowestEntry}
 
 -- "name in 8 bytes zero-filled": how many bytes a name has before the zeros
 unfoldable pub nameEnd : List ℕ → ℕ
@@ -39,20 +37,13 @@ newEntry k n q =
     ∷ 0
     ∷ []
 
--- a new entry of a kind, with a name and one portion
+-- "A starting form takes one portion": a new entry of a kind, with a name and one portion. Whether there is room is asked
+-- before (crate `room`)
 unfoldable pub begun : Memory → ℕ → List ℕ → Memory
 begun m k n =
     memory (m .store)
     (set (m .links) (lowestPortion (m .links)) endLink)
     (setCell bytesAnEntry (m .directory) (lowestEntry (m .directory)) (newEntry k n (lowestPortion (m .links))))
-
--- "A starting form takes one portion": it is started where there is room for one, and else nothing changes
-abbrev pub started : Memory → ℕ → List ℕ → Memory
-started m k n = cond (hasRoom (m .links) (m .directory) 0) (begun m k n) m
-
--- the number of a new entry that is to have this size, where there is room for it
-abbrev pub startedAt : Memory → ℕ → Found
-startedAt m size = cond (hasRoom (m .links) (m .directory) size) (At (lowestEntry (m .directory))) Nothing
 
 -- a form that was being recorded is one: kind 3 to 1
 unfoldable pub finished : List ℕ → ℕ → List ℕ

@@ -1,16 +1,14 @@
 // An entry is started and a form is finished (paper 01): "New entries and portions are the lowest free", "A starting form takes one portion", and the end of
-// recording makes kind 3 kind 1. Each is one equation over the lists that it changes, on any memory; where there is no room, or no form is being recorded in
-// the entry, it answers so and changes nothing.
+// recording makes kind 3 kind 1. Each is one equation over the lists that it changes, on any memory. Whether there is room is asked before (crate `full`); where
+// no form is being recorded in the entry, finishing answers so and changes nothing.
 ghost use mathlib.Core.Path.{_≡_};
 ghost use lib.ListN.{set};
 ghost use Rattle.cells.specs.Cell.{setCell};
 ghost use Rattle.store.specs.Chain.{endLink};
 ghost use Rattle.store.specs.Entry.{bytesAnEntry};
 ghost use Rattle.finding.specs.Find.{isRecording};
-ghost use Rattle.memory.specs.Memory.{memory};
 ghost use Rattle.room.specs.Room.{lowestPortion, lowestEntry};
-ghost use Rattle.starting.specs.Start.{nameEnd, newEntry, started, startedAt, finished};
-use finding::Found;
+ghost use Rattle.starting.specs.Start.{nameEnd, newEntry, finished};
 use memory::put_entry;
 use memory::put_link;
 use store::BYTES_AN_ENTRY;
@@ -55,7 +53,7 @@ fn new_entry(kind: u8, title: [u8; 8], q: usize) -> [u8; BYTES_AN_ENTRY]
     ]
 }
 
-// Starts an entry of a kind with a name and one portion, where there is room: the new entry's number. The store does not change: its free portions are zero already.
+// Starts an entry of a kind with a name and one portion: the new entry's number. The store does not change: its free portions are zero already.
 pub fn begin(links: &mut [u16], directory: &mut [u8], kind: u8, title: [u8; 8]) -> usize
     ensures at { λ r. ⌜ r ≡ lowestEntry (now (directory .entry)) ⌝ }
     ensures links { λ r. ⌜ now (links .exit) ≡ set (now (links .entry)) (lowestPortion (now (links .entry))) endLink ⌝ }
@@ -67,24 +65,6 @@ pub fn begin(links: &mut [u16], directory: &mut [u8], kind: u8, title: [u8; 8]) 
     let e = new_entry(kind, title, q);
     put_entry(directory, i, 0, &e);
     i
-}
-
-// The same, if there is room.
-pub fn start(
-    store: &mut [u8],
-    links: &mut [u16],
-    directory: &mut [u8],
-    kind: u8,
-    title: [u8; 8],
-) -> Found
-    ensures answer { λ r. ⌜ r ≡ startedAt (memory (now (store .entry)) (now (links .entry)) (now (directory .entry))) 0 ⌝ }
-    ensures memory { λ r. ⌜ memory (now (store .exit)) (now (links .exit)) (now (directory .exit)) ≡ started (memory (now (store .entry)) (now (links .entry)) (now (directory .entry))) kind title ⌝ }
-{
-    if !room::has_room(links, directory, 0) {
-        return Found::Nothing;
-    }
-    let i = begin(links, directory, kind, title);
-    Found::At(i)
 }
 
 // Finishes the form that entry i records.

@@ -127,15 +127,15 @@ unfolding answerOf numberOf
 late-answer [] e = refl
 late-answer (r ∷ rs) e = late-first (r .answer) (r .applies) rs e (late-answer rs (all-rest (late (r .answer)) (allLate rs) e))
 
-late-record : (w : World) (line : List ℕ) (i : ℕ) (c : Command) → allLate (recordRows w line i c) ≡ true
+late-record : (w : World) (s : Session) (line : List ℕ) (i : ℕ) (c : Command) → allLate (recordRows w s line i c) ≡ true
 unfolding numberOf
-late-record w line i (item it) = refl
-late-record w line i End = refl
-late-record w line i (Page c) = refl
-late-record w line i (Forms c) = refl
-late-record w line i (Pictures c) = refl
-late-record w line i (Values c) = refl
-late-record w line i (Listing c) = refl
+late-record w s line i (item it) = refl
+late-record w s line i End = refl
+late-record w s line i (Page c) = refl
+late-record w s line i (Forms c) = refl
+late-record w s line i (Pictures c) = refl
+late-record w s line i (Values c) = refl
+late-record w s line i (Listing c) = refl
 
 late-run : (w : World) (s : Session) (line more : List ℕ) (room : ℕ) (c : Command) → allLate (runRows w s line more room c) ≡ true
 unfolding numberOf
@@ -156,7 +156,7 @@ late-run w s line more room (Listing ListPictures) = refl
 late-run w s line more room (Listing (ListForm n)) = refl
 
 late-placed : (w : World) (s : Session) (line more : List ℕ) (room : ℕ) (c : Command) (f : Found) → allLate (placedRows w s line more room c f) ≡ true
-late-placed w s line more room c (At i) = late-record w line i c
+late-placed w s line more room c (At i) = late-record w s line i c
 late-placed w s line more room c Nothing = late-run w s line more room c
 
 late-line : (w : World) (s : Session) (line more : List ℕ) (room : ℕ) (r : Read) → allLate (lineRows w s line more room r) ≡ true

@@ -22,8 +22,8 @@ use Rattle.store_sound.proofs.Linked.{Linked, held-below, free-out}
 use Rattle.store_sound.proofs.Bytes.{Filled}
 use Rattle.store_sound.proofs.Facts.{Sound, sound-facts, sizesOf, lent-few, lent-store, many-some, chain-few}
 use Rattle.store_sound.proofs.Moving.{Moved, inside, content-at, changed-sound, moved-is}
-use Rattle.growing.specs.Grow.{Growing, growing, putAll, withSize, grown, appended}
-use Rattle.room.specs.Room.{canGrow}
+use Rattle.growing.specs.Grow.{Growing, growing, putAll, withSize, grown}
+use Rattle.room.specs.Room.{neededFor, canGrow}
 use Rattle.growing.proofs.Growth.{putAll-store, putAll-links}
 use Rattle.store_sound.proofs.Changes.{last-in}
 use Rattle.store_sound.proofs.PutSound.{Grows}
@@ -142,17 +142,17 @@ four-bytes n h =
 
 -- ---- the move
 
-pub grow-says : (ls e : List ℕ) (more : ℕ) → canGrow ls e more ≡ true
-    → (kind e ≡ 0 → ⊥) × (size e + more < 4294967296) × (needed (size e + more) - needed (size e) ≤ freeCount ls)
+pub grow-says : (free : ℕ) (e : List ℕ) (more : ℕ) → canGrow free e more ≡ true
+    → (kind e ≡ 0 → ⊥) × (size e + more < 4294967296) × (neededFor (size e) more ≤ free)
 unfolding canGrow
-grow-says ls e more h =
+grow-says free e more h =
     let r = and-right (not (eqb (kind e) 0)) _ h in (
       λ z. false≢true (sym (ap not (eq-eqb (kind e) 0 z)) ∙ and-left (not (eqb (kind e) 0)) _ h),
       ltb-true _ _ (and-left (ltb (size e + more) 4294967296) _ r),
       leb-true _ _ (and-right (ltb (size e + more) 4294967296) _ r),
     )
 
-module _ (st ls dir : List ℕ) (i : ℕ) (bytes : List ℕ) (h : storeSound st ls dir ≡ true) (bi : i < entries dir) (can : canGrow ls (entry dir i) (length bytes) ≡ true) where
+module _ (st ls dir : List ℕ) (i : ℕ) (bytes : List ℕ) (h : storeSound st ls dir ≡ true) (bi : i < entries dir) (can : canGrow (freeCount ls) (entry dir i) (length bytes) ≡ true) where
   s : Sound st ls dir
   s = sound-facts st ls dir h
 
@@ -169,13 +169,13 @@ module _ (st ls dir : List ℕ) (i : ℕ) (bytes : List ℕ) (h : storeSound st 
   dir′ = withSize dir i total
 
   stored : kind e ≡ 0 → ⊥
-  stored = grow-says ls e (length bytes) can .0
+  stored = grow-says (freeCount ls) e (length bytes) can .0
 
   bound : total < 4294967296
-  bound = grow-says ls e (length bytes) can .1
+  bound = grow-says (freeCount ls) e (length bytes) can .1
 
-  enough : needed total - needed (size e) ≤ freeCount ls
-  enough = grow-says ls e (length bytes) can .2
+  enough : neededFor (size e) (length bytes) ≤ freeCount ls
+  enough = grow-says (freeCount ls) e (length bytes) can .2
 
   long : length e ≡ 16
   long = length-cell 16 dir i (inside dir i bi)
@@ -285,6 +285,3 @@ module _ (st ls dir : List ℕ) (i : ℕ) (bytes : List ℕ) (h : storeSound st 
       (λ j b ne. ap (λ (p : ℕ). bytesOf (g .store) (chain (g .links) p (counts dir′ j))) (firsts′ j b) ∙ more .others j b ne)
       (λ j b ne. ap (λ (p : ℕ). chain (g .links) p (counts dir′ j)) (firsts′ j b) ∙ more .chains j b ne) _
       (λ t. held (kind′ t) (name′ t) (content′ t)))
-
-  pub append-moved : Moved (memory st ls dir) (appended (memory st ls dir) i bytes) i (held (kind (entry dir i)) (name (entry dir i)) (contentOf st ls (entry dir i) ++ bytes))
-  append-moved = rw can grow-moved

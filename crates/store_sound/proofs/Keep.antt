@@ -5,8 +5,7 @@ use mathlib.Core.Bool.{true, not}
 use Prim.Native.Nat.{ℕ, _+_, _-_, _/_, _≤_, _<_}
 use native.Mathlib.Omega.{arith}
 use lib.ListN.{length, getD, set}
-use lib.Dec.{ltb}
-use borrow.Author.Tests.{ne-eqb, ltb-true, le-leb, lt-ltb}
+use borrow.Author.Tests.{ne-eqb, le-leb, lt-ltb}
 use Rattle.cells.specs.Cell.{setCell}
 use Rattle.cells.proofs.Counts.{one-yes, one-no}
 use Rattle.cells.proofs.Cells.{setCell-same}
@@ -14,31 +13,26 @@ use Rattle.store.specs.Chain.{needed, freeCount}
 use Rattle.store.specs.Entry.{entries, entry, kind, name}
 use Rattle.contents.specs.Content.{contentOf}
 use Rattle.memory.specs.Memory.{memory}
-use Rattle.ground.proofs.Tests.{and-left, and-right, and-both}
+use Rattle.ground.proofs.Tests.{and-both}
 use Rattle.store_sound.specs.Shelf.{Held, held}
 use Rattle.store_sound.proofs.Moving.{Moved, moved-twice, inside}
 use Rattle.room.specs.Room.{lowestPortion, canGrow, lowestEntry, hasRoom}
 use Rattle.growing.specs.Grow.{grown}
 use Rattle.starting.specs.Start.{newEntry, begun}
-use Rattle.growing.specs.Keep.{canKeep, kept}
+use Rattle.growing.specs.Keep.{kept}
 use Rattle.store_sound.proofs.Room.{lowest-below, lowest-free, times-set}
 use Rattle.store_sound.proofs.Start.{MayStart, room-says, begin-moved, new-long, new-kind, new-size, new-name, new-content}
 use Rattle.store_sound.proofs.Grow.{grow-moved}
 
-module _ (st ls dir : List ℕ) (k : ℕ) (n : List ℕ) (bytes : List ℕ) (a : MayStart st ls dir k n) (can : canKeep (memory st ls dir) (length bytes) ≡ true) where
-  short : length bytes < 4294967296
-  short = ltb-true _ _ (and-left (ltb (length bytes) 4294967296) _ can)
-
-  room : hasRoom ls dir (length bytes) ≡ true
-  room = and-right (ltb (length bytes) 4294967296) _ can
-
+module _ (st ls dir : List ℕ) (k : ℕ) (n : List ℕ) (bytes : List ℕ) (a : MayStart st ls dir k n) (short : length bytes < 4294967296)
+    (room : hasRoom (freeCount ls) dir (length bytes) ≡ true) where
   bi : lowestEntry dir < entries dir
-  bi = room-says ls dir (length bytes) room .0
+  bi = room-says (freeCount ls) dir (length bytes) room .0
 
   free : needed (length bytes) ≤ freeCount ls
-  free = room-says ls dir (length bytes) room .1
+  free = room-says (freeCount ls) dir (length bytes) room .1
 
-  room₀ : hasRoom ls dir 0 ≡ true
+  room₀ : hasRoom (freeCount ls) dir 0 ≡ true
   unfolding hasRoom
   room₀ = and-both _ _ (lt-ltb (lowestEntry dir) (entries dir) bi) (le-leb 1 (freeCount ls) (omega (arith, free)))
 
@@ -73,7 +67,7 @@ module _ (st ls dir : List ℕ) (k : ℕ) (n : List ℕ) (bytes : List ℕ) (a :
       let b = lowest-below ls (omega (arith, free)) in
       omega (arith, times-set 65535 ls q 65534 b, one-yes (getD ls q 0) 65535 (lowest-free ls b), one-no 65534 65535 (λ z. omega arith))
 
-  can₁ : canGrow ls₁ (entry dir₁ i) (length bytes) ≡ true
+  can₁ : canGrow (freeCount ls₁) (entry dir₁ i) (length bytes) ≡ true
   unfolding canGrow
   can₁ =
       rw (here, new-size k n q) (and-both _ _ (ap not (ne-eqb (kind (newEntry k n q)) 0 (λ z. omega (arith, new-kind k n q, a .some))))
@@ -86,5 +80,5 @@ module _ (st ls dir : List ℕ) (k : ℕ) (n : List ℕ) (bytes : List ℕ) (a :
       let m₂ = grow-moved st ls₁ dir₁ i bytes (m₁ .sound) bi₁ can₁ in
       let x : held (kind (entry dir₁ i)) (name (entry dir₁ i)) (contentOf st ls₁ (entry dir₁ i) ++ bytes) ≡ held k n bytes =
       ap (λ (e : List ℕ). held (kind e) (name e) (contentOf st ls₁ e ++ bytes)) here ∙ (λ t. held (new-kind k n q t) (new-name k n q (a .long) t) (new-content k n q st ls₁ t ++ bytes)) in
-      rw (can, begun-is) (moved-twice (memory st ls dir) (memory st ls₁ dir₁) (grown (memory st ls₁ dir₁) i bytes) i (held k n []) (held k n bytes) m₁
+      rw begun-is (moved-twice (memory st ls dir) (memory st ls₁ dir₁) (grown (memory st ls₁ dir₁) i bytes) i (held k n []) (held k n bytes) m₁
       (subst (λ (y : Held). Moved (memory st ls₁ dir₁) (grown (memory st ls₁ dir₁) i bytes) i y) x m₂))

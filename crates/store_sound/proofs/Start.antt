@@ -28,7 +28,7 @@ use Rattle.finding.specs.declared.Found.the-variants.{Nothing}
 use Rattle.finding.specs.Find.{isEmpty, isRecording, recorded, sameName, titled, titledAt}
 use Rattle.finding.proofs.Finding.{nothing-says}
 use Rattle.room.specs.Room.{lowestPortion, lowestEntry, hasRoom}
-use Rattle.starting.specs.Start.{newEntry, begun, started}
+use Rattle.starting.specs.Start.{newEntry, begun}
 use Rattle.store_sound.proofs.Changes.{start}
 use Rattle.store_sound.proofs.Room.{lowest-below, lowest-free}
 
@@ -90,11 +90,11 @@ pub record MayStart (st ls dir : List ℕ) (k : ℕ) (n : List ℕ) : Type 0 whe
   pub fresh : titledAt dir (eqb k 2) n ≡ Nothing
   pub quiet : k ≡ 3 → recorded dir ≡ Nothing
 
-pub room-says : (ls dir : List ℕ) (sz : ℕ) → hasRoom ls dir sz ≡ true → (lowestEntry dir < entries dir) × (needed sz ≤ freeCount ls)
+pub room-says : (free : ℕ) (dir : List ℕ) (sz : ℕ) → hasRoom free dir sz ≡ true → (lowestEntry dir < entries dir) × (needed sz ≤ free)
 unfolding hasRoom
-room-says ls dir sz h = (ltb-true _ _ (and-left (ltb (lowestEntry dir) (entries dir)) _ h), leb-true _ _ (and-right (ltb (lowestEntry dir) (entries dir)) _ h))
+room-says free dir sz h = (ltb-true _ _ (and-left (ltb (lowestEntry dir) (entries dir)) _ h), leb-true _ _ (and-right (ltb (lowestEntry dir) (entries dir)) _ h))
 
-module _ (st ls dir : List ℕ) (k : ℕ) (n : List ℕ) (a : MayStart st ls dir k n) (room : hasRoom ls dir 0 ≡ true) where
+module _ (st ls dir : List ℕ) (k : ℕ) (n : List ℕ) (a : MayStart st ls dir k n) (room : hasRoom (freeCount ls) dir 0 ≡ true) where
   s : Sound st ls dir
   s = sound-facts st ls dir (a .sound)
 
@@ -117,10 +117,10 @@ module _ (st ls dir : List ℕ) (k : ℕ) (n : List ℕ) (a : MayStart st ls dir
   ls′ = set ls q 65534
 
   bi : i < E
-  bi = room-says ls dir 0 room .0
+  bi = room-says (freeCount ls) dir 0 room .0
 
   bq : q < length ls
-  bq = lowest-below ls (omega (arith, room-says ls dir 0 room .1))
+  bq = lowest-below ls (omega (arith, room-says (freeCount ls) dir 0 room .1))
 
   free : getD ls q 0 ≡ 65535
   free = lowest-free ls bq
@@ -179,6 +179,3 @@ module _ (st ls dir : List ℕ) (k : ℕ) (n : List ℕ) (a : MayStart st ls dir
       (others-bytes st st ls ls′ (firsts dir) (counts dir) (sizesOf dir) (firsts dir′) (counts dir′) (sizesOf dir′) E i [] (q ∷ []) (s .links) change (s .bytes) fill)
       (others ls ls′ (firsts dir) (counts dir) (firsts dir′) (counts dir′) E i [] (q ∷ []) (s .links) change) _
       (λ t. held (new-kind k n q t) (new-name k n q (a .long) t) (new-content k n q st ls′ t)))
-
-  pub start-moved : Moved (memory st ls dir) (started (memory st ls dir) k n) (lowestEntry dir) (held k n [])
-  start-moved = rw room begin-moved

@@ -21,11 +21,11 @@ use Rattle.session.specs.declared.Session.{Session}
 use Rattle.answers.specs.declared.Answer.{Answer}
 use Rattle.answers.specs.declared.Answer.the-variants.{Taken, Missing, Undeclared, Misfit, Unset, RunsOut}
 use Rattle.answers.specs.Answers.{Row, row, answerOf}
-use Rattle.session.specs.Session.{counting, owing}
+use Rattle.session.specs.Session.{counting, owing, sixteenBits}
 use Rattle.lent.specs.Lent.{World}
 use Rattle.session.specs.Active.{activeOf, activeDeclared}
 use Rattle.results.specs.World.{State, state, withValues, unsetIn}
-use Rattle.results.specs.Result.{sixteenBits, Ran, ranBy}
+use Rattle.results.specs.Result.{Ran, ranBy}
 
 -- the table's answers of what entering a value answers; 13 points to the number of `?V` or `?C`
 abbrev pub enteredAnswer : Entered → Answer

@@ -20,9 +20,9 @@ use grammar::row::ENTERED_AT;
 use parts::inside;
 use results::Done;
 use results::answered;
-use results::sixteen_bits;
 use results::taken;
 use session::Session;
+use session::sixteen_bits;
 use stored_values::unset_all;
 
 // [13] and [17], by what entering a value answers.

@@ -1,6 +1,6 @@
-use mathlib.Core.Path.{ap}
 use Rattle.answers.specs.Answers.{answerOf, isTaken, numberOf}
-use Rattle.results.proofs.Parts.{inMemory, refused-by, taken-by}
+use Rattle.starting.proofs.Starting.{begun-is}
+use Rattle.results.proofs.Parts.{refused-by, taken-by, ran-stored}
 use borrow.Author.Needs.{needs}
 use Rattle.form_commands.proofs.start_form.Statement.{statement}
 use Rattle.form_commands.proofs.start_form.Tie as tie
@@ -24,6 +24,9 @@ returns : tie.Need-returns
 unfolding answerOf isTaken numberOf
 returns c = rw (c .answered .ensures, ← c .before .before .before .before .before .packed .ensures, ← c .before .before .before .find .ensures, ← c .before .before .is-at .ensures, c .before .if1 .taken)
 
+cast-free : tie.Need-cast-free
+cast-free c = search needs
+
 full-answer-requires : tie.Need-full-answer-requires
 full-answer-requires c κs = search needs
 
@@ -36,46 +39,55 @@ answered-requires-2 c κs = search needs
 same-length-2 : tie.Need-same-length-2
 same-length-2 c = search needs
 
-same-length-3 : tie.Need-same-length-3
-same-length-3 c = search needs
-
 returns-2 : tie.Need-returns-2
 unfolding answerOf
-returns-2 c = rw (
-  c .answered2 .ensures,
-  ← c .before .before .before .before .before .before .before .before .before .before .packed .ensures,
-  ← c .before .before .before .before .before .before .before .before .find .ensures,
-  ← c .before .before .before .before .before .before .before .is-at .ensures,
-  c .before .before .before .before .before .before .if1 .left,
-)
-    (refused-by _ _ _ _ _ _ _ (c .before .before .before .full-answer .ensures) (c .before .before .is-taken .ensures) (c .before .if2 .taken))
+returns-2 c =
+    let f = c .before .before .before in let i = f .before .before .before in
+    rw (c .answered2 .ensures, ← i .before .before .before .before .packed .ensures, ← i .before .before .find .ensures, ← i .before .is-at .ensures, i .if1 .left)
+    (refused-by _ _ _ _ _ _ _ (f .full-answer .ensures) (c .before .before .is-taken .ensures) (c .before .if2 .taken))
 
-start-requires : tie.Need-start-requires
-start-requires c κs = search needs
+begin-requires : tie.Need-begin-requires
+begin-requires c κs = search needs
+
+after-stored-requires : tie.Need-after-stored-requires
+after-stored-requires c κs = search needs
 
 taken-requires : tie.Need-taken-requires
 taken-requires c κs = search needs
 
+same-length-3 : tie.Need-same-length-3
+same-length-3 c = search needs
+
 same-length-4 : tie.Need-same-length-4
 same-length-4 c = search needs
 
-same-length-5 : tie.Need-same-length-5
-same-length-5 c = search needs
-
-same-length-6 : tie.Need-same-length-6
-same-length-6 c = search needs
-
 returns-3 : tie.Need-returns-3
 unfolding answerOf
-returns-3 c = rw (
-  c .taken .ensures,
-  ← c .before .before .before .before .before .before .before .before .before .before .before .before .before .before .before .before .before .before .before .before .packed .ensures,
-  ← c .before .before .before .before .before .before .before .before .before .before .before .before .before .before .before .before .before .before .find .ensures,
-  ← c .before .before .before .before .before .before .before .before .before .before .before .before .before .before .before .before .before .is-at .ensures,
-  c .before .before .before .before .before .before .before .before .before .before .before .before .before .before .before .before .if1 .left,
-)
-    (taken-by _ _ _ _ _ _ (c .before .before .before .before .before .before .before .before .before .before .before .before .before .full-answer .ensures) (c .before .before .before .before .before .before .before .before .before .before .before .before .is-taken .ensures) (c .before .before .before .before .before .before .before .before .before .before .before .if2 .left)
-    (ap (inMemory _ _ _ _) (c .before .before .before .before .before .before .before .start .ensures .1)))
+returns-3 c =
+    let b = c .before .before .before .before .before .before in let t = b .before .before .before in let i = t .before .before .before .before .before in
+    rw (c .taken .ensures, ← i .before .before .before .before .packed .ensures, ← i .before .before .find .ensures, ← i .before .is-at .ensures, i .if1 .left)
+    (taken-by _ _ _ _ _ _ (t .before .before .full-answer .ensures) (t .before .is-taken .ensures) (t .if2 .left)
+    (ran-stored _ _ _ _ _ _ _ (c .before .after-stored .ensures) (begun-is _ _ _ _ _ _ _ (b .begin .ensures .1 .0) (b .begin .ensures .1 .1))))
 
 pub start-form-spec : {M : Type 1} → statement M
-start-form-spec = tie.close (tie.spec packed-requires find-requires is-at-requires answered-requires same-length returns full-answer-requires is-taken-requires answered-requires-2 same-length-2 same-length-3 returns-2 start-requires taken-requires same-length-4 same-length-5 same-length-6 returns-3)
+start-form-spec =
+    tie.close
+    (tie.spec
+    packed-requires
+    find-requires
+    is-at-requires
+    answered-requires
+    same-length
+    returns
+    cast-free
+    full-answer-requires
+    is-taken-requires
+    answered-requires-2
+    same-length-2
+    returns-2
+    begin-requires
+    after-stored-requires
+    taken-requires
+    same-length-3
+    same-length-4
+    returns-3)

@@ -30,16 +30,20 @@ word-at-requires-7 c κs = search needs
 counters-of-requires : tie.Need-counters-of-requires
 counters-of-requires c κs = search needs
 
+word-at-requires-8 : tie.Need-word-at-requires-8
+word-at-requires-8 c κs = search needs
+
 returns : tie.Need-returns
-returns c = session-read _ (c .before .before .before .before .before .before .before .before .word-at .ensures)
-    (c .before .before .before .before .before .before .before .word-at2 .ensures)
-    (c .before .before .before .before .before .before .byte .ensures)
-    (c .before .before .before .before .before .word-at3 .ensures)
-    (c .before .before .before .before .word-at4 .ensures)
-    (c .before .before .before .word-at5 .ensures)
-    (c .before .before .word-at6 .ensures)
-    (c .before .word-at7 .ensures)
-    (c .counters-of .ensures)
+returns c = session-read _ (c .before .before .before .before .before .before .before .before .before .word-at .ensures)
+    (c .before .before .before .before .before .before .before .before .word-at2 .ensures)
+    (c .before .before .before .before .before .before .before .byte .ensures)
+    (c .before .before .before .before .before .before .word-at3 .ensures)
+    (c .before .before .before .before .before .word-at4 .ensures)
+    (c .before .before .before .before .word-at5 .ensures)
+    (c .before .before .before .word-at6 .ensures)
+    (c .before .before .word-at7 .ensures)
+    (c .before .counters-of .ensures)
+    (c .word-at8 .ensures)
 
 pub decode-spec : {M : Type 1} → statement M
 decode-spec =
@@ -54,4 +58,5 @@ decode-spec =
     word-at-requires-6
     word-at-requires-7
     counters-of-requires
+    word-at-requires-8
     returns)

@@ -1,5 +1,5 @@
 use Rattle.low_first.specs.Low.{bytesOf}
-use Rattle.image.specs.Image.{imageOf}
+use Rattle.image.specs.Image.{counterBytes, imageOf}
 use borrow.Author.Needs.{needs}
 use Rattle.image.proofs.encode.Statement.{statement}
 use Rattle.image.proofs.encode.Tie as tie
@@ -16,12 +16,24 @@ put-requires c κs = search needs
 put-counters-requires : tie.Need-put-counters-requires
 put-counters-requires c κs = search needs
 
+low-requires : tie.Need-low-requires
+low-requires c κs = search needs
+
+high-requires : tie.Need-high-requires
+high-requires c κs = search needs
+
+slice-aggregate-put-2 : tie.Need-slice-aggregate-put-2
+slice-aggregate-put-2 c = search needs
+
+put-requires-2 : tie.Need-put-requires-2
+put-requires-2 c κs = search needs
+
 same-length : tie.Need-same-length
 same-length c = search needs
 
 returns : tie.Need-returns
-unfolding bytesOf imageOf
-returns c = rw (c .before .before .put-counters .ensures, c .before .before .before .before .before .before .before .put .ensures, c .before .before .before .before .before .before .before .before .before .before .head .ensures)
+unfolding bytesOf counterBytes imageOf
+returns c = rw (c .before .before .put2 .ensures, c .before .before .before .before .before .before .low .ensures, c .before .before .before .before .before .high .ensures, c .before .before .before .before .before .before .before .before .before .put-counters .ensures, c .before .before .before .before .before .before .before .before .before .before .before .before .before .before .put .ensures, c .before .before .before .before .before .before .before .before .before .before .before .before .before .before .before .before .before .head .ensures)
 
 pub encode-spec : {M : Type 1} → statement M
 encode-spec =
@@ -31,5 +43,9 @@ encode-spec =
     slice-aggregate-put
     put-requires
     put-counters-requires
+    low-requires
+    high-requires
+    slice-aggregate-put-2
+    put-requires-2
     same-length
     returns)

@@ -1,6 +1,6 @@
 use mathlib.Core.Path.{sym, _∙_}
 use native.Mathlib.Omega.{arith}
-use Rattle.lent.proofs.Lengths.{page-bound}
+use Rattle.lent.proofs.Lengths.{page-bound, links-bound}
 use Rattle.opening.proofs.Cleared.{opened-wrong, opened-uneven, opened-good}
 use borrow.Author.Needs.{needs}
 use Rattle.opening.proofs.open.Statement.{statement}
@@ -23,6 +23,9 @@ returns-2 c = rw (c .refused2 .ensures) (sym (opened-uneven _ _ (sym (c .before 
 
 cast-rows : tie.Need-cast-rows
 cast-rows c = let h = page-bound _ _ _ _ _ (sym (c .before .before .lengths-wrong .ensures) ∙ c .before .if1 .left) in omega (arith, h)
+
+cast-portions : tie.Need-cast-portions
+cast-portions c = let h = links-bound _ _ _ _ _ (sym (c .before .before .lengths-wrong .ensures) ∙ c .before .if1 .left) in omega (arith, h)
 
 whiten-requires : tie.Need-whiten-requires
 whiten-requires c κs = search needs
@@ -75,6 +78,7 @@ open-spec =
     refused-requires-2
     returns-2
     cast-rows
+    cast-portions
     whiten-requires
     whiten-requires-2
     clear-requires

@@ -72,6 +72,15 @@ load-values-requires c κs = search needs
 session-of-requires : tie.Need-session-of-requires
 session-of-requires c κs = search needs
 
+free-count-requires : tie.Need-free-count-requires
+free-count-requires c κs = search needs
+
+sixteen-bits-requires : tie.Need-sixteen-bits-requires
+sixteen-bits-requires c κs = search needs
+
+roomed-requires : tie.Need-roomed-requires
+roomed-requires c κs = search needs
+
 is-sound-requires : tie.Need-is-sound-requires
 is-sound-requires c κs = search needs
 
@@ -79,19 +88,19 @@ admitted-requires : tie.Need-admitted-requires
 admitted-requires c κs = search needs
 
 same-length-13 : tie.Need-same-length-13
-same-length-13 c = omega (arith, c .before .before .before .before .before .before .before .before .before .before .before .before .before .before .before .before .before .before .before .before .before .before .background2 .given, c .before .before .before .before .before .before .before .before .before .before .before .before .before .before .before .before .before .before .before .before .before .before .before .before .before .before .before .before .before .before .before .before .before .before .before .before .before .before .before .before .before .before .before .before .before .background .given)
+same-length-13 c = omega (arith, c .before .before .before .before .before .before .before .before .before .before .before .before .before .before .before .before .before .before .before .before .before .before .before .before .before .before .background2 .given, c .before .before .before .before .before .before .before .before .before .before .before .before .before .before .before .before .before .before .before .before .before .before .before .before .before .before .before .before .before .before .before .before .before .before .before .before .before .before .before .before .before .before .before .before .before .before .before .before .before .background .given)
 
 same-length-14 : tie.Need-same-length-14
-same-length-14 c = omega (arith, c .before .before .before .before .before .before .before .before .before .before .before .before .before .before .before .before .before .before .before .before .store2 .given, c .before .before .before .before .before .before .before .before .before .before .before .before .before .before .before .before .before .before .before .before .before .before .before .before .before .before .before .before .before .before .before .before .before .before .before .before .before .before .before .before .before .before .before .store .given)
+same-length-14 c = omega (arith, c .before .before .before .before .before .before .before .before .before .before .before .before .before .before .before .before .before .before .before .before .before .before .before .before .store2 .given, c .before .before .before .before .before .before .before .before .before .before .before .before .before .before .before .before .before .before .before .before .before .before .before .before .before .before .before .before .before .before .before .before .before .before .before .before .before .before .before .before .before .before .before .before .before .before .before .store .given)
 
 same-length-15 : tie.Need-same-length-15
-same-length-15 c = omega (arith, c .before .before .before .before .before .before .before .before .before .before .before .before .before .before .before .before .before .before .links2 .given, c .before .before .before .before .before .before .before .before .before .before .before .before .before .before .before .before .before .before .before .before .before .before .before .before .before .before .before .before .before .before .before .before .before .before .before .before .before .before .before .before .before .links .given)
+same-length-15 c = omega (arith, c .before .before .before .before .before .before .before .before .before .before .before .before .before .before .before .before .before .before .before .before .before .before .links2 .given, c .before .before .before .before .before .before .before .before .before .before .before .before .before .before .before .before .before .before .before .before .before .before .before .before .before .before .before .before .before .before .before .before .before .before .before .before .before .before .before .before .before .before .before .before .before .links .given)
 
 same-length-16 : tie.Need-same-length-16
-same-length-16 c = omega (arith, c .before .before .before .before .before .before .before .before .before .before .before .before .before .before .before .before .directory2 .given, c .before .before .before .before .before .before .before .before .before .before .before .before .before .before .before .before .before .before .before .before .before .before .before .before .before .before .before .before .before .before .before .before .before .before .before .before .before .before .before .directory .given)
+same-length-16 c = omega (arith, c .before .before .before .before .before .before .before .before .before .before .before .before .before .before .before .before .before .before .before .before .directory2 .given, c .before .before .before .before .before .before .before .before .before .before .before .before .before .before .before .before .before .before .before .before .before .before .before .before .before .before .before .before .before .before .before .before .before .before .before .before .before .before .before .before .before .before .before .directory .given)
 
 same-length-17 : tie.Need-same-length-17
-same-length-17 c = omega (arith, c .before .before .before .before .before .before .before .before .before .before .before .values2 .given, c .before .before .before .before .before .before .before .before .before .before .before .before .before .before .before .before .before .before .before .before .before .before .before .before .before .before .before .before .before .before .before .before .before .before .before .before .before .values .given)
+same-length-17 c = omega (arith, c .before .before .before .before .before .before .before .before .before .before .before .before .before .before .before .values2 .given, c .before .before .before .before .before .before .before .before .before .before .before .before .before .before .before .before .before .before .before .before .before .before .before .before .before .before .before .before .before .before .before .before .before .before .before .before .before .before .before .before .before .values .given)
 
 same-length-18 : tie.Need-same-length-18
 same-length-18 c = search needs
@@ -126,6 +135,9 @@ begin-spec =
     load-body-requires
     load-values-requires
     session-of-requires
+    free-count-requires
+    sixteen-bits-requires
+    roomed-requires
     is-sound-requires
     admitted-requires
     same-length-13

@@ -29,14 +29,11 @@ needed-for-requires c κs = search needs
 needed-for-requires-2 : tie.Need-needed-for-requires-2
 needed-for-requires-2 c κs = search needs
 
-sub-has-portions : tie.Need-sub-has-portions
-sub-has-portions c = omega (arith, c .before .needed-for .ensures, c .needed-for2 .ensures)
-
-has-portions-requires : tie.Need-has-portions-requires
-has-portions-requires c κs = search needs
+sub-result : tie.Need-sub-result
+sub-result c = omega (arith, c .before .needed-for .ensures, c .needed-for2 .ensures)
 
 returns-3 : tie.Need-returns-3
-returns-3 c = grow-free _ _ _ _ _ (c .before .before .before .before .before .before .kind-at .ensures .0) (c .before .before .before .before .size-at .ensures .0) _ _ _ (c .before .before .before .before .before .if1 .left) (c .before .before .before .before .size-at .ensures .1) (c .before .before .before .if2 .left) (c .before .before .needed-for .ensures) (c .before .needed-for2 .ensures) (c .has-portions .ensures)
+returns-3 c = grow-free _ _ _ _ _ (c .before .before .before .before .before .kind-at .ensures .0) (c .before .before .before .size-at .ensures .0) _ _ (c .before .before .before .before .if1 .left) (c .before .before .before .size-at .ensures .1) (c .before .before .if2 .left) (c .before .needed-for .ensures) (c .needed-for2 .ensures)
 
 pub can-grow-spec : {M : Type 1} → statement M
 can-grow-spec =
@@ -50,6 +47,5 @@ can-grow-spec =
     add-needed-for
     needed-for-requires
     needed-for-requires-2
-    sub-has-portions
-    has-portions-requires
+    sub-result
     returns-3)

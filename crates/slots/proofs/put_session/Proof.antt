@@ -1,6 +1,8 @@
 use mathlib.Core.Path.{refl, ap, _∙_}
+use lib.ListN.{take}
 use lib.Seq.{sets}
-use Rattle.slots.proofs.Images.{image-whole}
+use Rattle.image.proofs.Inverse.{whole}
+use Rattle.slots.specs.Slots.{heldImage}
 use borrow.Author.Needs.{needs}
 use Rattle.slots.proofs.put_session.Statement.{statement}
 use Rattle.slots.proofs.put_session.Tie as tie
@@ -11,8 +13,11 @@ slice-aggregate-encode c = search needs
 encode-requires : tie.Need-encode-requires
 encode-requires c κs = search needs
 
-slice-aggregate-put : tie.Need-slice-aggregate-put
-slice-aggregate-put c = search needs
+slice-aggregate-front : tie.Need-slice-aggregate-front
+slice-aggregate-front c = search needs
+
+front-requires : tie.Need-front-requires
+front-requires c κs = search needs
 
 put-requires : tie.Need-put-requires
 put-requires c κs = search needs
@@ -21,7 +26,8 @@ same-length : tie.Need-same-length
 same-length c = search needs
 
 returns : tie.Need-returns
-returns c = let a = c .before .before .before .before .before .before .before .before .before .args in c .before .before .put .ensures ∙ ap (sets (a .file .now) (a .at)) (c .before .before .before .before .before .before .encode .ensures ∙ image-whole _ (a .session) refl)
+returns c = let a = c .before .before .before .before .before .before .before .before .before .before .args in
+    c .before .before .put .ensures ∙ ap (sets (a .file .now) (a .at)) (c .before .before .before .front .ensures ∙ ap (take heldImage) (c .before .before .before .before .before .before .before .encode .ensures ∙ whole _ (a .session) refl))
 
 pub put-session-spec : {M : Type 1} → statement M
 put-session-spec =
@@ -29,7 +35,8 @@ put-session-spec =
     (tie.spec
     slice-aggregate-encode
     encode-requires
-    slice-aggregate-put
+    slice-aggregate-front
+    front-requires
     put-requires
     same-length
     returns)

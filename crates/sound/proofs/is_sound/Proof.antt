@@ -1,5 +1,6 @@
 use Rattle.sound.specs.Sound.{numbersOk, sound}
 use Rattle.sound.proofs.Clauses.{stop, skip}
+use Rattle.sound.proofs.Numbered.{number-ok}
 use borrow.Author.Needs.{needs}
 use Rattle.sound.proofs.is_sound.Statement.{statement}
 use Rattle.sound.proofs.is_sound.Tie as tie
@@ -28,26 +29,40 @@ returns-3 c = let b = c .before .before .before in let n = b .before .before in
     skip _ _ _ _ (n .numbers-ok .ensures) (b .before .if1 .left)
     (skip _ _ _ _ (b .background-ok .ensures) (c .before .before .if2 .left) (stop _ _ _ (c .before .store-sound .ensures) (c .if3 .taken)))
 
-contents-ok-requires : tie.Need-contents-ok-requires
-contents-ok-requires c κs = search needs
+number-ok-requires : tie.Need-number-ok-requires
+number-ok-requires c κs = search needs
 
 returns-4 : tie.Need-returns-4
 unfolding sound numbersOk
 returns-4 c = let t = c .before .before .before in let b = t .before .before in let n = b .before .before in
     skip _ _ _ _ (n .numbers-ok .ensures) (b .before .if1 .left)
     (skip _ _ _ _ (b .background-ok .ensures) (t .before .if2 .left)
-    (skip _ _ _ _ (t .store-sound .ensures) (c .before .before .if3 .left) (stop _ _ _ (c .before .contents-ok .ensures) (c .if4 .taken))))
+    (skip _ _ _ _ (t .store-sound .ensures) (c .before .before .if3 .left)
+    (stop _ _ _ (number-ok _ _ _ _ _ _ (t .store-sound .ensures) (c .before .before .if3 .left) (c .before .number-ok .ensures)) (c .if4 .taken))))
+
+contents-ok-requires : tie.Need-contents-ok-requires
+contents-ok-requires c κs = search needs
+
+returns-5 : tie.Need-returns-5
+unfolding sound numbersOk
+returns-5 c = let f = c .before .before .before in let t = f .before .before in let b = t .before .before in let n = b .before .before in
+    skip _ _ _ _ (n .numbers-ok .ensures) (b .before .if1 .left)
+    (skip _ _ _ _ (b .background-ok .ensures) (t .before .if2 .left)
+    (skip _ _ _ _ (t .store-sound .ensures) (f .before .if3 .left)
+    (skip _ _ _ _ (number-ok _ _ _ _ _ _ (t .store-sound .ensures) (f .before .if3 .left) (f .number-ok .ensures)) (c .before .before .if4 .left)
+    (stop _ _ _ (c .before .contents-ok .ensures) (c .if5 .taken)))))
 
 activity-sound-requires : tie.Need-activity-sound-requires
 activity-sound-requires c κs = search needs
 
-returns-5 : tie.Need-returns-5
+returns-6 : tie.Need-returns-6
 unfolding sound numbersOk
-returns-5 c = let e = c .before .before in let t = e .before .before in let b = t .before .before in let n = b .before .before in
+returns-6 c = let e = c .before .before in let f = e .before .before in let t = f .before .before in let b = t .before .before in let n = b .before .before in
     skip _ _ _ _ (n .numbers-ok .ensures) (b .before .if1 .left)
     (skip _ _ _ _ (b .background-ok .ensures) (t .before .if2 .left)
-    (skip _ _ _ _ (t .store-sound .ensures) (e .before .if3 .left)
-    (skip _ _ _ _ (e .contents-ok .ensures) (c .before .if4 .left) (c .activity-sound .ensures))))
+    (skip _ _ _ _ (t .store-sound .ensures) (f .before .if3 .left)
+    (skip _ _ _ _ (number-ok _ _ _ _ _ _ (t .store-sound .ensures) (f .before .if3 .left) (f .number-ok .ensures)) (e .before .if4 .left)
+    (skip _ _ _ _ (e .contents-ok .ensures) (c .before .if5 .left) (c .activity-sound .ensures)))))
 
 pub is-sound-spec : {M : Type 1} → statement M
 is-sound-spec =
@@ -59,7 +74,9 @@ is-sound-spec =
     returns-2
     store-sound-requires
     returns-3
-    contents-ok-requires
+    number-ok-requires
     returns-4
+    contents-ok-requires
+    returns-5
     activity-sound-requires
-    returns-5)
+    returns-6)
