@@ -2,6 +2,7 @@
 -- and makes room again.
 -- Assumes nothing.
 use Prim.Native.Nat.{ℕ, zero, suc}
+use Prim.Native.Char.{code}
 use mathlib.Core.List.{List, [], _∷_, _++_, map}
 use lib.ListN.{drop, replicate}
 use Rattle.kinds.specs.Text.{bytes}
@@ -39,7 +40,7 @@ abbrev pub links : List ℕ
 links = endLink ∷ replicate 3 freeLink
 
 abbrev pub directory : List ℕ
-directory = 3 ∷ 1 ∷ 65 ∷ (replicate 9 0 ++ (242 ∷ replicate 19 0))
+directory = 3 ∷ 1 ∷ code "A" ∷ (replicate 9 0 ++ (242 ∷ replicate 19 0))
 
 unfoldable pub memory : World
 memory = world (replicate 76 0) (portion ++ replicate 768 0) links directory (replicate 340 0)

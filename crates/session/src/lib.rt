@@ -1,8 +1,9 @@
 // The session, and its methods.
 //
 // Paper 01, "What is lent": "The session holds width, length, turn, origin, counters with set or unset (then 0), active form, labels owed
-// and drawn"; and since paper 02, §6, the number of free portions. It is plain unsigned numbers by value, so that any bytes are some session and sound alone judges it; what changes it is a
-// method that takes the session and hands the next one back: the origin replaced, the counters moved, a label drawn (`labels`).
+// and drawn"; and since paper 02, §6, the number of free portions. It is plain unsigned numbers by value, so that any bytes are some session and
+// sound alone judges it; a number that goes into it is cut to its 16 bits by one function for all, so that no caller is asked for anything. What
+// changes it is a method that takes the session and hands the next one back: the origin replaced, the counters moved, a label drawn (`labels`).
 // Whether a session is sound with the memory beside it is left to crate `sound`, and when a method is called to crate `station`.
 ghost use mathlib.Core.Path.{_≡_};
 ghost use Rattle.session.specs.Session.{fresh, none, blank, sized, turning, based, activated, counting, roomed, owing, moved, counted, sixteenBits};
