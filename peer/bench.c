@@ -12,9 +12,9 @@
 #include "station.h"
 
 #ifdef SELF
-static const struct station the_station = {peer_open, peer_command, peer_label};
+static const struct station the_station = {peer_open, peer_command, peer_label, peer_fits};
 #else
-static const struct station the_station = {station_open, station_command, station_label};
+static const struct station the_station = {station_open, station_command, station_label, station_fits};
 #endif
 
 enum { ROUNDS = 20 };
@@ -88,6 +88,8 @@ static void copy_work(struct work *to, const struct work *from)
     set_up_desk(&to->desk, from->room, 0);
     restore(to, from);
     put_on_desk(&to->desk, FONT, font, font_length);
+    put_on_desk(&to->desk, INPUT, from->desk.bytes[INPUT], from->length[INPUT]);
+    to->desk.question = from->desk.question;
 }
 
 /* A picture of so many dots, each line two runs of five bytes and then single bytes, sent as GM. */
@@ -166,7 +168,7 @@ static double time_lines(const struct station *s, const struct work *from, unsig
     return all;
 }
 
-static double time_labels(const struct station *s, const struct work *from, unsigned count)
+static double time_calls(const struct station *s, const struct work *from, enum call_kind call, unsigned count)
 {
     struct work w;
     double start;
@@ -174,11 +176,21 @@ static double time_labels(const struct station *s, const struct work *from, unsi
     copy_work(&w, from);
     start = now();
     for (unsigned i = 0; i < count; i++)
-        if (call_station(s, &w.desk, LABEL, w.length) != 0)
+        if (call_station(s, &w.desk, call, w.length) != 0)
             exit(1);
     start = now() - start;
     clear_away(&w.desk);
     return start;
+}
+
+static double time_labels(const struct station *s, const struct work *from, unsigned count)
+{
+    return time_calls(s, from, LABEL, count);
+}
+
+static double time_questions(const struct station *s, const struct work *from, unsigned count)
+{
+    return time_calls(s, from, FITS, count);
 }
 
 static void measure(const char *what, const struct work *from, unsigned count,
@@ -267,6 +279,27 @@ static void recorded_lines(void)
     clear_away(&w.desk);
 }
 
+/* The greatest memory, all taken but the last entry and as many portions as the picture needs, and no name differs from the one asked for before its
+ * last byte: each pass runs to its end. */
+static void questions(void)
+{
+    static const uint8_t name[] = "PICTURE8";
+    struct work w;
+
+    open_work(&w, 240, MOST_PORTIONS, MOST_ENTRIES);
+    for (unsigned i = 0; i + 1 < MOST_ENTRIES; i++)
+        memcpy(w.desk.bytes[DIRECTORY] + ENTRY * i, (const uint8_t[]){1 + i % 2, 8, 'P', 'I', 'C', 'T', 'U', 'R', 'E', '7'}, 10);
+    memset(w.desk.bytes[LINKS], 0, 2 * (MOST_PORTIONS - MOST_PICTURE / PORTION));
+    put_on_desk(&w.desk, INPUT, name, 8);
+    w.length[INPUT] = 8;
+    w.desk.question = (struct question){PICTURE, MOST_PICTURE};
+    printf("a picture of %u bytes: %u of %u portions free\n", MOST_PICTURE, free_left(&w), MOST_PORTIONS);
+    measure("will a picture fit", &w, 2000, time_questions);
+    w.desk.question.kind = FORM;
+    measure("will a form fit", &w, 2000, time_questions);
+    clear_away(&w.desk);
+}
+
 static void long_label(void)
 {
     struct work w;
@@ -331,5 +364,6 @@ int main(void)
     long_label();
     small_labels();
     recorded_lines();
+    questions();
     return 0;
 }

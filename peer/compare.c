@@ -7,8 +7,9 @@
  * only 6, 7 and 12 to 15 point and none past the line's LF, that memory is sound after every taken call, that within one job a
  * counter with a step never shows a value twice, that only a job's last label unsets one, that 19 and 23 are given by what was
  * free and empty before the call, to no line but those that may ask for it, that after every taken call the number of free portions is
- * what a fresh count finds, and has moved only where it may, and that an image of another length is 1 and one refused by opening all zero. The
- * first difference is told with
+ * what a fresh count finds, and has moved only where it may, that an image of another length is 1 and one refused by opening all zero, and
+ * that the question whether it fits changes nothing and has the answer of the FS or GM that is sent right behind it on a copy of the memory, if that
+ * is sound. The first difference is told with
  * the seed of its session and ends the run. At the end: how often each call gave each answer, and of the answers that point how
  * many places they were seen to point to, how many of these more than nine times, and how often to the LF. With -DSELF the station
  * is the peer again, which tries the generator and this program alone. */
@@ -23,21 +24,22 @@
 #include "station.h"
 
 #ifdef SELF
-static const struct station the_station = {peer_open, peer_command, peer_label};
+static const struct station the_station = {peer_open, peer_command, peer_label, peer_fits};
 #else
-static const struct station the_station = {station_open, station_command, station_label};
+static const struct station the_station = {station_open, station_command, station_label, station_fits};
 #endif
 
-static const char *const call_names[] = {"open", "command", "label"};
+static const char *const call_names[CALLS] = {"open", "command", "label", "question"};
 
-/* before: the peer's memory as it was before the call. */
+/* before: the peer's memory as it was before the call. What a question asks about is then sent there. */
 struct pair {
     struct desk station, peer, before;
 };
 
 enum { PLACES = MOST_LINE + 1, MOST_SHOWN = 256 };
 
-static uint64_t reached[3][ANSWERS], other;
+static uint64_t reached[CALLS][ANSWERS], other;
+static uint64_t sent_forms, sent_pictures;
 static uint64_t pointed[ANSWERS][PLACES], to_lf[ANSWERS];
 
 /* The values that the counters had on the labels of the job under way, as far as its labels were drawn one after another. No
@@ -66,10 +68,12 @@ static void tell_difference(const struct generator *g, const struct event *e, ui
     for (int s = 0; s < SLICES; s++)
         printf(" %s %zu", slice_names[s], e->length[s]);
     putchar('\n');
-    if (e->call == COMMAND) {
+    if (e->call == FITS)
+        printf("kind %u, size %" PRIu64 ", name ", e->question.kind, e->question.size);
+    if (e->call == COMMAND)
         printf("input: ");
+    if (e->call == COMMAND || e->call == FITS)
         write_bytes(e->bytes, e->count);
-    }
 }
 
 /* The first place where a slice differs; true if there is one. */
@@ -112,6 +116,7 @@ static int may_change(const struct event *e, unsigned answer, enum slice s)
     switch (e->call) {
     case OPEN: return s == SESSION || (answer == 0 && s != OUTPUT && s != COUNTS);
     case COMMAND: return s == COUNTS ? e->length[COUNTS] == 3 : answer == 0 && s != PAGE;
+    case FITS: return 0;
     default: return answer == 0 && (s == SESSION || s == PAGE);
     }
 }
@@ -144,7 +149,7 @@ static void note_place(const struct pair *p, const struct event *e, unsigned ans
 {
     uint64_t place = count_of(p, 2);
 
-    if (!points(answer))
+    if (e->call != COMMAND || !points(answer))
         return;
     pointed[answer][place]++;
     to_lf[answer] += e->bytes[place] == '\n';
@@ -327,10 +332,86 @@ static void check_room(const struct pair *p, const struct generator *g, const st
     }
 }
 
-static void check_promises(const struct pair *p, const struct generator *g, const struct event *e, unsigned answer, uint64_t calls)
-{
-    struct facts facts;
+/* ---- will it fit? ---- */
 
+/* Exactly when 1 is due; and a wrong kind is 7 if not 1. */
+static int refused_so(const struct event *e, unsigned answer)
+{
+    size_t links = e->length[LINKS], entries = e->length[DIRECTORY] / ENTRY;
+    bool right = e->length[SESSION] == IMAGE && links > 0 && links <= MOST_PORTIONS && entries > 0 && entries <= MOST_ENTRIES
+              && e->length[DIRECTORY] == entries * ENTRY;
+
+    if (!right || answer == BAD_LENGTH)
+        return !right && answer == BAD_LENGTH;
+    return e->question.kind == FORM || e->question.kind == PICTURE || answer == OUTSIDE_LIMITS;
+}
+
+/* A name that a line can hold between its quotes, legal or not, and a number that it can write. */
+static int can_be_sent(const struct event *e)
+{
+    for (size_t i = 0; i < e->count; i++)
+        if (e->bytes[i] < 32 || e->bytes[i] > 126 || e->bytes[i] == '"')
+            return 0;
+    return e->count <= 200 && (e->question.kind == FORM || (e->question.kind == PICTURE && e->question.size <= 999999999));
+}
+
+/* The FS or GM that the question is about, with a legal font, on the memory as it was before the question. */
+static unsigned send_asked(struct pair *p, const struct event *e)
+{
+    static const uint8_t font[] = {1, 2, 0, 8, 8, 255, 0, 0};
+    static uint8_t input[MOST_PICTURE + 300];
+    const char *name = (const char *)e->bytes;
+    size_t length[SLICES], size = e->question.size;
+
+    memcpy(length, e->length, sizeof length);
+    length[COUNTS] = 3;
+    length[FONT] = sizeof font;
+    if (e->question.kind == FORM)
+        length[INPUT] = (size_t)sprintf((char *)input, "FS\"%.*s\"\n", (int)e->count, name);
+    else if (size > MOST_PICTURE)  /* no bytes are read */
+        length[INPUT] = (size_t)sprintf((char *)input, "GM\"%.*s\",%zu\n", (int)e->count, name, size);
+    else
+        length[INPUT] = write_picture(input, name, e->count, size);
+    put_on_desk(&p->before, FONT, font, sizeof font);
+    put_on_desk(&p->before, INPUT, input, length[INPUT]);
+    return call_station(&peer_station, &p->before, COMMAND, length);
+}
+
+/* "gives the answer that GM, with a legal picture of that size, or FS would give if sent then". Of a memory that is not sound, or of which the
+ * store, background or values are lent wrongly, nothing is said; where no legal picture has this size, GM's 16 stands where it goes before. */
+static int answered_as_sent(struct pair *p, const struct event *e, unsigned answer)
+{
+    unsigned sent;
+
+    if (!can_be_sent(e))
+        return 1;
+    sent = send_asked(p, e);
+    if (sent == NOT_SOUND || (sent == BAD_LENGTH && answer != BAD_LENGTH))
+        return 1;
+    *(e->question.kind == FORM ? &sent_forms : &sent_pictures) += 1;
+    if (sent == NOT_A_PICTURE && e->question.size < PICTURE_HEAD + 2)
+        return answer == TAKEN || answer == TOO_FEW_PORTIONS || answer == NO_EMPTY_ENTRY;
+    return sent == answer;
+}
+
+static void check_question(struct pair *p, const struct generator *g, const struct event *e, unsigned answer, uint64_t calls)
+{
+    if (e->count > 0 && memcmp(p->peer.bytes[INPUT], e->bytes, e->count) != 0) {
+        tell_difference(g, e, calls);
+        printf("the name was changed\n");
+        exit(1);
+    }
+    if (!refused_so(e, answer) || !answered_as_sent(p, e, answer)) {
+        tell_difference(g, e, calls);
+        printf("the peer answered %u, which is not for these lengths or this kind, or not what the command itself is answered\n", answer);
+        exit(1);
+    }
+}
+
+/* ---- all of it ---- */
+
+static void check_unchanged(const struct pair *p, const struct generator *g, const struct event *e, unsigned answer, uint64_t calls)
+{
     for (int s = 0; s < SLICES; s++)
         if (s != FONT && s != INPUT && !may_change(e, answer, (enum slice)s)
             && memcmp(p->before.bytes[s], p->peer.bytes[s], p->peer.room[s]) != 0) {
@@ -338,6 +419,12 @@ static void check_promises(const struct pair *p, const struct generator *g, cons
             printf("the peer answered %u and changed %s\n", answer, slice_names[s]);
             exit(1);
         }
+}
+
+static void check_promises(const struct pair *p, const struct generator *g, const struct event *e, unsigned answer, uint64_t calls)
+{
+    struct facts facts;
+
     if (e->call == COMMAND && e->length[COUNTS] == 3 && !place_allowed(p, e, answer)) {
         tell_difference(g, e, calls);
         printf("the peer answered %u with place %" PRIu64 "\n", answer, count_of(p, 2));
@@ -363,6 +450,7 @@ static void make_call(struct pair *p, struct generator *g, const struct event *e
     keep(p);
     put_on_desk(&p->station, INPUT, e->bytes, e->count);
     put_on_desk(&p->peer, INPUT, e->bytes, e->count);
+    p->station.question = p->peer.question = e->question;
     ours = call_station(&the_station, &p->station, e->call, e->length);
     theirs = call_station(&peer_station, &p->peer, e->call, e->length);
     if (ours != theirs || !slices_same(p)) {
@@ -372,7 +460,11 @@ static void make_call(struct pair *p, struct generator *g, const struct event *e
             tell_slice(p, (enum slice)s);
         exit(1);
     }
-    check_promises(p, g, e, theirs, calls);
+    check_unchanged(p, g, e, theirs, calls);
+    if (e->call == FITS)
+        check_question(p, g, e, theirs, calls);
+    else
+        check_promises(p, g, e, theirs, calls);
     note_place(p, e, theirs);
     if (theirs < ANSWERS)
         reached[e->call][theirs]++;
@@ -385,7 +477,8 @@ static void poke(struct pair *p, const struct event *e)
 {
     p->station.bytes[e->slice][e->at] = e->byte;
     p->peer.bytes[e->slice][e->at] = e->byte;
-    shown_count = 0;
+    if (!e->passing)
+        shown_count = 0;
 }
 
 static void both_fonts(struct pair *p, const struct event *e)
@@ -396,9 +489,10 @@ static void both_fonts(struct pair *p, const struct event *e)
 
 static void tell_reached(uint64_t calls)
 {
-    printf("%" PRIu64 " calls, no difference\nanswer      open   command     label\n", calls);
+    printf("%" PRIu64 " calls, no difference\nanswer      open   command     label      fits\n", calls);
     for (int a = 0; a < ANSWERS; a++)
-        printf("%6d %9" PRIu64 " %9" PRIu64 " %9" PRIu64 "\n", a, reached[OPEN][a], reached[COMMAND][a], reached[LABEL][a]);
+        printf("%6d %9" PRIu64 " %9" PRIu64 " %9" PRIu64 " %9" PRIu64 "\n", a, reached[OPEN][a], reached[COMMAND][a], reached[LABEL][a],
+               reached[FITS][a]);
     if (other)
         printf("other answers: %" PRIu64 "\n", other);
 }
@@ -442,6 +536,7 @@ int main(int argc, char **argv)
     }
     tell_reached(calls);
     tell_places();
+    printf("asked and then sent: %" PRIu64 " FS, %" PRIu64 " GM\n", sent_forms, sent_pictures);
     clear_away(&p.station);
     clear_away(&p.peer);
     clear_away(&p.before);

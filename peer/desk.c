@@ -1,6 +1,7 @@
 /* desk.c: see desk.h. */
 #include "desk.h"
 
+#include <stdio.h>
 #include <stdlib.h>
 #include <string.h>
 
@@ -9,7 +10,7 @@
 const char *const slice_names[SLICES] = {"session", "counts", "font", "page", "background", "store", "links", "directory",
                                          "values", "output", "input"};
 
-const struct station peer_station = {peer_open, peer_command, peer_label};
+const struct station peer_station = {peer_open, peer_command, peer_label, peer_fits};
 
 void clear_away(struct desk *d)
 {
@@ -56,6 +57,9 @@ uint8_t call_station(const struct station *station, struct desk *d, enum call_ki
         return station->command(b[SESSION], n[SESSION], (uint64_t *)(void *)b[COUNTS], n[COUNTS], b[FONT], n[FONT],
                                 b[BACKGROUND], n[BACKGROUND], b[STORE], n[STORE], (uint16_t *)(void *)b[LINKS], n[LINKS],
                                 b[DIRECTORY], n[DIRECTORY], b[VALUE], n[VALUE], b[OUTPUT], n[OUTPUT], b[INPUT], n[INPUT]);
+    case FITS:
+        return station->fits(b[SESSION], n[SESSION], (const uint16_t *)(const void *)b[LINKS], n[LINKS], b[DIRECTORY], n[DIRECTORY],
+                             d->question.kind, b[INPUT], n[INPUT], d->question.size);
     default:
         return station->label(b[SESSION], n[SESSION], b[FONT], n[FONT], b[PAGE], n[PAGE], b[BACKGROUND], n[BACKGROUND],
                               b[STORE], n[STORE], (const uint16_t *)(const void *)b[LINKS], n[LINKS], b[DIRECTORY],
@@ -84,4 +88,22 @@ void usual_room(size_t room[SLICES], const size_t length[SLICES], size_t font, s
     room[LINKS] = length[LINKS] * 2;
     room[FONT] = font;
     room[INPUT] = input;
+}
+
+/* 8 dots wide. Its bytes stand for themselves, but as many of the first as are more than whole lines are runs of one. */
+size_t write_picture(uint8_t *line, const char *name, size_t name_length, size_t size)
+{
+    size_t head = (size_t)sprintf((char *)line, "GM\"%.*s\",%zu\n", (int)name_length, name, size), body = size - PICTURE_HEAD;
+    size_t row = body > 2 * MOST_ROWS ? 10 : 2, high = body / row;
+    uint8_t *picture = line + head;
+
+    memset(picture, 0, size);
+    if (size < PICTURE_HEAD + 2)
+        return head + size;
+    memcpy(picture, (const uint8_t[]){10, 5, 1, 1, 0, 0, 0, 0, 7, 0, (uint8_t)(high - 1), (uint8_t)((high - 1) >> 8)}, 12);
+    picture[65] = 1;
+    picture[66] = (uint8_t)row;
+    for (size_t i = 0; i < body % row; i++)
+        picture[PICTURE_HEAD + 2 * i] = 193;
+    return head + size;
 }

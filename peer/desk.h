@@ -1,4 +1,4 @@
-/* desk.h: lent memory for one station, so that the same call can be made on two stations, each on its own desk. */
+/* desk.h: lent memory for one station, so that the same call can be made on two stations, each on its own desk; and a picture to send. */
 #ifndef DESK_H
 #define DESK_H
 
@@ -9,18 +9,25 @@ enum slice { SESSION, COUNTS, FONT, PAGE, BACKGROUND, STORE, LINKS, DIRECTORY, V
 
 extern const char *const slice_names[SLICES];
 
+/* What FITS asks, beside the name. */
+struct question {
+    uint8_t kind;
+    uint64_t size;
+};
+
 /* bytes[s] is the slice, room[s] the bytes there are, which may be more than a call is lent. Of FONT and INPUT the last byte
- * is the last of its block, so that reading too far is seen by a checker of memory. */
+ * is the last of its block, so that reading too far is seen by a checker of memory. For FITS the name is INPUT. */
 struct desk {
     uint8_t *bytes[SLICES];
     size_t room[SLICES];
     uint8_t *block[SLICES];
     size_t block_size[SLICES];
+    struct question question;
 };
 
-enum call_kind { OPEN, COMMAND, LABEL };
+enum call_kind { OPEN, COMMAND, LABEL, FITS, CALLS };
 
-/* A station: station.h's three calls, or the peer's. */
+/* A station: station.h's four calls, or the peer's. */
 struct station {
     uint8_t (*open)(uint8_t *, size_t, uint8_t *, size_t, uint8_t *, size_t, uint8_t *, size_t, uint16_t *, size_t, uint8_t *,
                     size_t, uint8_t *, size_t);
@@ -28,6 +35,8 @@ struct station {
                        uint16_t *, size_t, uint8_t *, size_t, uint8_t *, size_t, uint8_t *, size_t, const uint8_t *, size_t);
     uint8_t (*label)(uint8_t *, size_t, const uint8_t *, size_t, uint8_t *, size_t, const uint8_t *, size_t, const uint8_t *,
                      size_t, const uint16_t *, size_t, const uint8_t *, size_t, const uint8_t *, size_t);
+    uint8_t (*fits)(const uint8_t *, size_t, const uint16_t *, size_t, const uint8_t *, size_t, uint8_t, const uint8_t *, size_t,
+                    uint64_t);
 };
 
 extern const struct station peer_station;
@@ -45,5 +54,8 @@ uint8_t call_station(const struct station *station, struct desk *d, enum call_ki
 /* The lengths, in elements, and the room, in bytes, of a desk of so many rows, portions, entries and output bytes. */
 void usual_lengths(size_t length[SLICES], unsigned rows, unsigned portions, unsigned entries, size_t output);
 void usual_room(size_t room[SLICES], const size_t length[SLICES], size_t font, size_t input);
+
+/* GM with this name and a picture of just so many bytes, legal if they are 130 or more. Gives the length of line and picture. */
+size_t write_picture(uint8_t *line, const char *name, size_t name_length, size_t size);
 
 #endif

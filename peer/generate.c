@@ -1994,6 +1994,14 @@ static void damage(struct generator *g)
     g->calls_to_repair = between(g, 1, 3);
 }
 
+/* The pokes that put back what stood there before so many. */
+static void put_back(struct generator *g, unsigned count)
+{
+    g->poke_count = g->poke_next = 0;
+    while (count-- > 0)
+        g->pokes[g->poke_count++] = g->undo[count];
+}
+
 /* What was changed is put back, unless a call has gone on from there. */
 static void repair(struct generator *g)
 {
@@ -2002,19 +2010,16 @@ static void repair(struct generator *g)
     if (g->touched)
         return;
     lend_portions(g, g->portions_before);
-    for (unsigned i = g->undo_count; i-- > 0;)
-        g->pokes[g->poke_count++] = g->undo[i];
+    put_back(g, g->undo_count);
 }
 
 /* ---- lengths ---- */
 
-/* One lent length that is not the session's: wrong, or right for another memory. Never more than there is room for. */
-static void other_length(struct generator *g, struct event *e)
+/* A lent length that is not the session's: wrong, or right for another memory. Never more than there is room for. */
+static void other_length(struct generator *g, struct event *e, enum slice s)
 {
     static const unsigned units[SLICES] = {[SESSION] = 1, [COUNTS] = 1, [PAGE] = 76, [BACKGROUND] = 76, [STORE] = 256,
                                            [LINKS] = 1, [DIRECTORY] = 16, [VALUE] = 34, [OUTPUT] = 1};
-    static const enum slice which[] = {SESSION, COUNTS, PAGE, BACKGROUND, STORE, LINKS, DIRECTORY, VALUE, OUTPUT};
-    enum slice s = which[below(g, 9)];
     size_t most = s == COUNTS ? g->desk->room[s] / 8 : s == LINKS ? g->desk->room[s] / 2 : g->desk->room[s];
     size_t n = e->length[s];
 
@@ -2031,6 +2036,13 @@ static void other_length(struct generator *g, struct event *e)
         e->length[LINKS] = e->length[STORE] / 256;
     if (s == BACKGROUND && chance(g, 50))
         e->length[PAGE] = e->length[BACKGROUND];
+}
+
+static void some_other_length(struct generator *g, struct event *e)
+{
+    static const enum slice which[] = {SESSION, COUNTS, PAGE, BACKGROUND, STORE, LINKS, DIRECTORY, VALUE, OUTPUT};
+
+    other_length(g, e, which[below(g, 9)]);
 }
 
 /* ---- events ---- */
@@ -2096,6 +2108,7 @@ static void new_session(struct generator *g, struct event *e)
                              [DIRECTORY] = 32, [VALUE] = 34, [OUTPUT] = 16};
 
     g->state = g->seed++ * 0x2545f4914f6cdd1du + 12345;
+    g->asking_state = ~g->state;
     choose_sizes(g);
     g->calls_left = g->small ? 45 : between(g, 30, 150);
     g->opened = false;
@@ -2161,10 +2174,258 @@ static void call_event(struct generator *g, struct event *e)
     g->number_before = number_of(g);
     memcpy(e->length, g->length, sizeof e->length);
     if (chance(g, e->call == OPEN ? 20 : 3))
-        other_length(g, e);
+        some_other_length(g, e);
     g->last_call = e->call;
     g->last_usual = memcmp(e->length, g->length, sizeof e->length) == 0;
     g->calls_left--;
+}
+
+/* ---- will it fit? ---- */
+
+/* The chances of the questions, or back to those of all else. */
+static void change_chances(struct generator *g)
+{
+    uint64_t state = g->state;
+
+    g->state = g->asking_state;
+    g->asking_state = state;
+}
+
+static uint8_t name_byte(struct generator *g)
+{
+    uint8_t byte = text_byte(g);
+
+    return byte == '*' ? '+' : byte;
+}
+
+/* A legal name in the line: one that is stored, one of those that commands use, or any; eight bytes a little likelier. */
+static void put_legal_name(struct generator *g)
+{
+    static const uint8_t kinds[] = {FORM, PICTURE, RECORDING};
+    unsigned length = chance(g, 30) ? 8 : between(g, 1, 8);
+
+    if (chance(g, 45) && put_stored_name(g, kinds[below(g, 3)]) && g->line.length > 0)
+        return;
+    if (chance(g, 60))
+        put_words(g, name_pool[below(g, sizeof name_pool / sizeof name_pool[0])]);
+    else
+        while (length--)
+            put(g, name_byte(g));
+}
+
+/* The name that these questions are about; what is planted in the directory for them is about it too. */
+static void choose_asked(struct generator *g)
+{
+    g->line.length = 0;
+    put_legal_name(g);
+    g->asked.length = g->line.length;
+    memcpy(g->asked.bytes, g->line.bytes, g->line.length);
+}
+
+static uint8_t as_capital(uint8_t byte)
+{
+    return byte >= 'a' && byte <= 'z' ? (uint8_t)(byte - 32) : byte;
+}
+
+/* An entry gets that name, or nearly: of another kind, with small letters, another length byte, one above 8, a byte changed, any fill. */
+static void plant_name(struct generator *g)
+{
+    unsigned at = ENTRY * below(g, g->entries), length = (unsigned)g->asked.length;
+    unsigned kinds[] = {FORM, PICTURE, FORM, PICTURE, FORM, PICTURE, RECORDING, EMPTY, 4, 255};
+    unsigned lengths[] = {length, length, length, length, length, length + 1, length - 1, 0, 9, between(g, 9, 255), length | 8, length + 128};
+    bool folded = chance(g, 85), filled = chance(g, 50);
+
+    poke_number(g, DIRECTORY, at, some_of(g, kinds, 10), 1);
+    poke_number(g, DIRECTORY, at + 1, some_of(g, lengths, chance(g, 60) ? 1 : 12), 1);
+    for (unsigned i = 0; i < 8; i++) {
+        uint8_t fill = filled ? (uint8_t)random_number(g) : 0, byte = g->asked.bytes[i];
+        add_poke(g, DIRECTORY, at + 2 + i, i >= length ? fill : folded ? as_capital(byte) : byte);
+    }
+    if (chance(g, 20))
+        add_poke(g, DIRECTORY, at + 2 + below(g, 8), near_byte(g, as_capital(g->asked.bytes[below(g, length)])));
+}
+
+static uint8_t some_kind(struct generator *g)
+{
+    static const uint8_t kinds[] = {FORM, PICTURE, FORM, PICTURE, EMPTY, RECORDING, 4, 128, 255};
+
+    return chance(g, 90) ? kinds[below(g, 9)] : (uint8_t)random_number(g);
+}
+
+static void plant_kinds(struct generator *g)
+{
+    for (unsigned times = between(g, 1, 4); times > 0; times--)
+        add_poke(g, DIRECTORY, ENTRY * below(g, g->entries), some_kind(g));
+}
+
+/* No entry is of kind 0 or 3, or one of them alone is, the first and the last a little likelier. */
+static void plant_all_kinds(struct generator *g)
+{
+    static const uint8_t kinds[] = {FORM, PICTURE, FORM, PICTURE, 4, 255};
+    unsigned alone[] = {0, g->entries - 1, below(g, g->entries)};
+
+    for (unsigned i = 0; i < g->entries; i++)
+        add_poke(g, DIRECTORY, ENTRY * i, kinds[below(g, 6)]);
+    if (chance(g, 60))
+        add_poke(g, DIRECTORY, ENTRY * some_of(g, alone, 3), chance(g, 85) ? EMPTY : RECORDING);
+}
+
+/* So many links are free, here and there; the others are an end, a portion's number or nearly free. */
+static void mark_links(struct generator *g)
+{
+    unsigned all = g->portions, some[] = {0, 1, 2, 3, all - 1, all, 127, 128, 129, below(g, all + 1)}, left = some_of(g, some, 10);
+
+    for (unsigned i = 0; i < all; i++) {
+        unsigned taken[] = {CHAIN_END, CHAIN_END, 0, 0xfeff, 0x00ff, 0xff00, i, below(g, all)};
+        bool free = below(g, all - i) < left;
+        left -= free;
+        poke_number(g, LINKS, 2 * i, free ? FREE : some_of(g, taken, 8), 2);
+    }
+}
+
+static void plant_owed(struct generator *g)
+{
+    static const unsigned owed[] = {0, 0, 1, 255, 256, 0xff00, 65535};
+
+    poke_number(g, SESSION, 11, some_of(g, owed, 7), 2);
+}
+
+/* No labels are owed and nothing is recorded, so that 8 and 9 leave it to the later answers. */
+static void free_the_way(struct generator *g)
+{
+    poke_number(g, SESSION, 11, 0, 2);
+    for (unsigned i = 0; i < g->entries; i++)
+        if (entry(g, i)[0] == RECORDING)
+            add_poke(g, DIRECTORY, ENTRY * i, FORM);
+}
+
+static void damage_for_questions(struct generator *g)
+{
+    g->poke_count = g->poke_next = 0;
+    g->passing = true;
+    if (chance(g, 70))
+        free_the_way(g);
+    for (unsigned times = between(g, 1, g->small ? 2 : 4); times > 0; times--)
+        switch (below(g, 20)) {
+        case 0: case 1: case 2: case 3: case 4: case 5: plant_name(g); break;
+        case 6: case 7: plant_kinds(g); break;
+        case 8: case 9: case 10: plant_all_kinds(g); break;
+        case 11: case 12: case 13: mark_links(g); break;
+        case 14: case 15: damage_links(g); break;
+        case 16: damage_session(g); break;
+        case 17: case 18: damage_number(g); break;
+        default: plant_owed(g); break;
+        }
+}
+
+/* Before some calls. Where damage is under way already the questions are asked of that; of memory that is great mostly as it stands. */
+static void plan_questions(struct generator *g)
+{
+    unsigned most = g->portions + g->entries > 300 ? 30 : 45;
+
+    g->call_due = true;
+    change_chances(g);
+    if (chance(g, g->small ? 3 : 9)) {
+        choose_asked(g);
+        g->questions_left = between(g, 1, g->small ? 2 : 4);
+        if (!g->damaged && chance(g, most))
+            damage_for_questions(g);
+    }
+    change_chances(g);
+}
+
+/* A byte of the name is one at or past an edge of what may stand in names. */
+static void spoil_name(struct generator *g)
+{
+    static const uint8_t edges[] = {0, 10, 31, 32, 33, '"', '*', '@', '[', '`', '{', 126, 127, 128, 'a' + 128, 255};
+
+    if (g->line.length > 0)
+        g->line.bytes[below(g, (unsigned)g->line.length)] = chance(g, 90) ? edges[below(g, sizeof edges)] : (uint8_t)random_number(g);
+}
+
+/* Mostly the name that these questions are about, in any case; or one byte longer or shorter, 256 bytes longer, spoilt, another, of any bytes. */
+static void put_asked_name(struct generator *g)
+{
+    unsigned k = below(g, 100), length = chance(g, 90) ? below(g, 20) : below(g, g->small ? 20 : 700);
+
+    g->line.length = 0;
+    if (k < 8)
+        put_legal_name(g);
+    else if (k < 14)
+        put_words(g, bad_names[below(g, 8)]);
+    else if (k < 19)
+        while (length--)
+            put(g, (uint8_t)random_number(g));
+    else
+        for (size_t i = 0; i < g->asked.length; i++)
+            put_cased(g, g->asked.bytes[i]);
+    if (k >= 92)
+        spoil_name(g);
+    else if (k >= 88)
+        put(g, name_byte(g));
+    else if (k >= 85 && g->line.length > 0)
+        g->line.length--;
+    else if (k == 84 && !g->small)
+        put_text(g, 256);
+}
+
+/* At the edges of the limits, at those of a portion, and about what the free links hold; and such as 8, 16 or 32 bits make another of. */
+static uint64_t asked_size(struct generator *g)
+{
+    static const uint64_t edges[] = {0, 1, 2, 127, 128, 129, 130, 131, 255, 256, 257, 511, 512, 513, 32511, 32512, 32513, 32767, 32768, 32769, 33024, 33025,
+                                     65535, 65536, 65537, 0x10100, 0x100000000, 0x100000001, 0x100000100, 0x8000000000000000, 0x8000000000000100,
+                                     0xffffffffffffff01, 0xffffffffffffff00, 0xffffffffffffffff};
+    static const int about[] = {-256, -255, -1, 0, 0, 0, 1, 1, 1, 2, 255, 256, 257};
+    int64_t room = 0;
+
+    for (unsigned i = 0; i < g->portions; i++)
+        room += link_of(g, i) == FREE ? PORTION : 0;
+    if (chance(g, 45) && room <= MOST_PICTURE)
+        return (uint64_t)(room + about[below(g, 13)]);
+    if (chance(g, 40))
+        return edges[below(g, sizeof edges / sizeof edges[0])];
+    return chance(g, 95) ? between(g, 1, chance(g, 70) ? 1500 : MOST_PICTURE) : random_number(g);
+}
+
+static void question_event(struct generator *g, struct event *e)
+{
+    static const enum slice lent[] = {SESSION, LINKS, DIRECTORY};
+    static const uint8_t kinds[] = {0, 3, 4, 128 + FORM, 128 + PICTURE, 255};
+    unsigned one_more = g->portions == MOST_PORTIONS ? 1 : g->entries == MOST_ENTRIES ? 2 : 0;  /* than there may be: of lent */
+
+    change_chances(g);
+    put_asked_name(g);
+    e->kind = CALL;
+    e->call = g->last_call = FITS;
+    e->question = (struct question){(uint8_t)between(g, FORM, PICTURE), asked_size(g)};
+    if (chance(g, 6))
+        e->question.kind = chance(g, 80) ? kinds[below(g, 6)] : (uint8_t)random_number(g);
+    e->bytes = g->line.bytes;
+    e->count = g->line.length;
+    memcpy(e->length, g->length, sizeof e->length);
+    e->length[INPUT] = e->count;
+    if (chance(g, one_more ? 25 : 5))
+        other_length(g, e, lent[one_more ? one_more : below(g, 3)]);
+    g->questions_left--;
+    change_chances(g);
+}
+
+/* The call that is due, with questions before it and what belongs to them. */
+static void due_event(struct generator *g, struct event *e)
+{
+    if (g->poke_next == g->poke_count && g->questions_left == 0 && g->passing) {
+        put_back(g, g->poke_count);
+        g->passing = false;
+    }
+    if (g->poke_next < g->poke_count) {
+        poke_event(g, e);
+        e->passing = true;
+    } else if (g->questions_left > 0)
+        question_event(g, e);
+    else {
+        g->call_due = false;
+        call_event(g, e);
+    }
 }
 
 /* Rarely the font is spoilt for a call or two, or the memory. */
@@ -2187,6 +2448,10 @@ static void spoil_something(struct generator *g)
 void next_event(struct generator *g, struct event *e)
 {
     memset(e, 0, sizeof *e);
+    if (g->call_due) {
+        due_event(g, e);
+        return;
+    }
     if (g->calls_left == 0 || labels_owed(g) > 5000) {
         bool far = g->calls_left > 0 && g->opened && !g->damaged;  /* so many labels would never end */
         if (g->calls_left == 0 || (far && chance(g, 5))) {
@@ -2207,12 +2472,16 @@ void next_event(struct generator *g, struct event *e)
         font_event(g, e);
     else if (g->poke_next < g->poke_count)
         poke_event(g, e);
-    else
-        call_event(g, e);
+    else {
+        plan_questions(g);
+        due_event(g, e);
+    }
 }
 
 void tell_answer(struct generator *g, unsigned answer)
 {
+    if (g->last_call == FITS)
+        return;
     if (g->calls_to_repair > 0)
         g->calls_to_repair--;
     if (answer == 0)

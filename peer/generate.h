@@ -11,8 +11,8 @@
 
 enum event_kind { SET_UP, NEW_FONT, POKE, CALL };
 
-/* SET_UP: room and fill of all slices. NEW_FONT: bytes, count. POKE: one byte of a slice. CALL: the call, its lengths, and
- * for COMMAND the input in bytes, count. */
+/* SET_UP: room and fill of all slices. NEW_FONT: bytes, count. POKE: one byte of a slice; a passing one is put back before the next call that
+ * is no question. CALL: the call, its lengths, for COMMAND the input in bytes, count, and for FITS the name there and the question. */
 struct event {
     enum event_kind kind;
     size_t room[SLICES];
@@ -20,10 +20,12 @@ struct event {
     enum slice slice;
     size_t at;
     uint8_t byte;
+    bool passing;
     enum call_kind call;
     size_t length[SLICES];
     const uint8_t *bytes;
     size_t count;
+    struct question question;
 };
 
 enum { MOST_POKES = 5000, MOST_INPUT = 70000, MOST_FONT = 30000 };
@@ -70,6 +72,12 @@ struct generator {
     unsigned lost;                   /* answers 3 in a row that no damage explains */
     unsigned number_before;          /* the number of free portions before the last call */
     unsigned portions_before;        /* how many portions were lent before the damage */
+
+    /* Questions whether it fits come before a call that is due, by chances of their own: the other calls are the same without them. */
+    uint64_t asking_state;
+    bool call_due, passing;          /* passing: the pokes are put back when the questions are asked */
+    unsigned questions_left;
+    struct line asked;               /* the name that most of them ask for */
 };
 
 void start_generator(struct generator *g, uint64_t first_seed, bool small, const struct desk *desk);

@@ -1,7 +1,7 @@
 /* peer.h: the independent station, written in C from the papers alone, and what its parts say to one another.
  *
- * It stands beside the proved station so that both can be run on the same calls. The three calls at the end are
- * station.h's under the names peer_open, peer_command and peer_label. Numbers in square brackets are answers.
+ * It stands beside the proved station so that both can be run on the same calls. The four calls at the end are
+ * station.h's under the names peer_open, peer_command, peer_label and peer_fits. Numbers in square brackets are answers.
  *
  *   lines.c    the written form of a line, its limits, its normal form, the place of a fault
  *   data.c     elements, declarations, fit data, the bytes that data shows, how counters go on
@@ -10,7 +10,8 @@
  *   drawing.c  boxes, turns, frames, text and its font
  *   bars.c     the four bar types and the line under the bars
  *   sound.c    the session image and the rule of a sound memory
- *   station.c  the three calls
+ *   station.c  opening, command and label
+ *   fits.c     the question whether it fits, asked without the others
  */
 #ifndef PEER_H
 #define PEER_H
@@ -273,7 +274,7 @@ bool all_declared_set(const struct memory *m, const struct session *s, const str
 bool counter_runs_out(const struct session *s, const struct declarations *d, unsigned labels);
 bool sound(const struct memory *m, const struct session *s, struct facts *f);
 
-/* ---- station.c: the three calls, as station.h tells ---- */
+/* ---- station.c: three of the calls, as station.h tells ---- */
 
 uint8_t peer_open(uint8_t *session, size_t session_len,
                   uint8_t *page, size_t page_len,
@@ -302,5 +303,14 @@ uint8_t peer_label(uint8_t *session, size_t session_len,
                    const uint16_t *links, size_t links_len,
                    const uint8_t *directory, size_t directory_len,
                    const uint8_t *values, size_t values_len);
+
+/* ---- fits.c: the fourth ---- */
+
+uint8_t peer_fits(const uint8_t *session, size_t session_len,
+                  const uint16_t *links, size_t links_len,
+                  const uint8_t *directory, size_t directory_len,
+                  uint8_t kind,
+                  const uint8_t *name, size_t name_len,
+                  uint64_t size);
 
 #endif

@@ -66,17 +66,24 @@ static void make_call(struct desk *d, enum call_kind kind, size_t font_length)
 {
     static unsigned calls;
     size_t length[SLICES] = {[FONT] = font_length};
-    uint64_t counts[3];
+    uint64_t counts[3] = {0};
     unsigned answer;
 
     for (unsigned i = 0; i < 9; i++)
         length[told[i]] = next_number();
-    if (kind == COMMAND) {
+    if (kind == FITS) {
+        d->question.kind = (uint8_t)next_byte();
+        d->question.size = 0;
+        for (unsigned i = 0; i < 64; i += 8)
+            d->question.size |= (uint64_t)next_byte() << i;
+    }
+    if (kind == COMMAND || kind == FITS) {
         length[INPUT] = next_number();
         put_on_desk(d, INPUT, next_bytes_of(length[INPUT]), length[INPUT]);
     }
     answer = call_station(&peer_station, d, kind, length);
-    memcpy(counts, d->bytes[COUNTS], sizeof counts);
+    if (kind != FITS)
+        memcpy(counts, d->bytes[COUNTS], sizeof counts);
     printf("%u %u %" PRIu64 " %" PRIu64 " %" PRIu64 " %08" PRIx32 "\n", ++calls, answer, counts[0], counts[1], counts[2],
            digest_of(d));
 }
@@ -104,6 +111,7 @@ int main(int argc, char **argv)
         case 'O': make_call(&d, OPEN, font_length); break;
         case 'C': make_call(&d, COMMAND, font_length); break;
         case 'L': make_call(&d, LABEL, font_length); break;
+        case 'W': make_call(&d, FITS, font_length); break;
         default: fprintf(stderr, "no such record at %zu\n", place - 1); return 1;
         }
     }

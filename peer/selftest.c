@@ -1,6 +1,6 @@
-/* selftest.c: paper 01's sample session, as paper 02 changed it, and its ten proof cases, as far as the three calls show them,
- * paper 02's line under the bars, places of refusals, counters that run out, two kinds of full and the number of free portions, and
- * drawing dot by dot.
+/* selftest.c: paper 01's sample session, as paper 02 changed it, and its ten proof cases, as far as the calls show them,
+ * paper 02's line under the bars, places of refusals, counters that run out, two kinds of full, the number of free portions and the
+ * question whether it fits, and drawing dot by dot.
  *
  *   selftest                   runs all of them
  *   selftest bars TYPE W DATA  writes the modules of one symbol, narrow 1 and wide W, as 1 (bar) and 0, for zint-check
@@ -1136,25 +1136,13 @@ static unsigned ask(struct bench *b, const char *line)
     return answer_to(b, text, (size_t)length);
 }
 
-/* GM with a legal picture of just so many bytes, 130 or more: most stand for themselves, and some of the first are runs of one. */
 static unsigned load(struct bench *b, const char *name, unsigned size)
 {
     static uint8_t bytes[MOST_PICTURE + 64];
-    unsigned head = (unsigned)snprintf((char *)bytes, 40, "GM\"%s\",%u\n", name, size);
-    unsigned body = size - PICTURE_HEAD, line = body > 8000 ? 16 : 2, pairs = body % line;
-    uint8_t *picture = bytes + head;
+    size_t length = write_picture(bytes, name, strlen(name), size);
 
-    memset(picture, 0, PICTURE_HEAD);
-    memset(picture + PICTURE_HEAD, 85, body);
-    memcpy(picture, (const uint8_t[]){10, 5, 1, 1, 0, 0, 0, 0, 7}, 9);
-    picture[10] = (uint8_t)(body / line - 1);
-    picture[11] = (uint8_t)((body / line - 1) >> 8);
-    picture[65] = 1;
-    picture[66] = (uint8_t)line;
-    for (unsigned i = 0; i < pairs; i++)
-        picture[PICTURE_HEAD + 2 * i] = 193;
-    memcpy(picture + size, "FI\n", 3);
-    return answer_to(b, bytes, head + size + 3);
+    memcpy(bytes + length, "FI\n", 3);
+    return answer_to(b, bytes, length + 3);
 }
 
 /* A line of text of so many bytes with its LF, 16 to 256. */
@@ -2002,6 +1990,355 @@ static void free_number_cases(void)
     clear_away(&b.desk);
 }
 
+/* ---- will it fit? ---- */
+
+static unsigned question(struct bench *b, unsigned kind, uint64_t size, const void *name, size_t length)
+{
+    put_on_desk(&b->desk, INPUT, name, length);
+    b->length[INPUT] = length;
+    b->desk.question = (struct question){(uint8_t)kind, size};
+    return call_station(&peer_station, &b->desk, FITS, b->length);
+}
+
+/* 255 if something was changed. */
+static unsigned fits(struct bench *b, unsigned kind, const char *name, uint64_t size)
+{
+    uint64_t before = digest_of(b);
+    unsigned answer = question(b, kind, size, name, strlen(name));
+
+    return digest_of(b) == before && memcmp(b->desk.bytes[INPUT], name, strlen(name)) == 0 ? answer : 255;
+}
+
+/* Both kinds give this answer; the picture needs one portion. */
+static int both(struct bench *b, const char *name, unsigned answer)
+{
+    return fits(b, FORM, name, 0) == answer && fits(b, PICTURE, name, 256) == answer;
+}
+
+/* By hand: nothing owed, every link free, every entry of this kind with the name A and zeros behind it. */
+static void spread(struct bench *b, unsigned portions, unsigned entries, uint8_t kind)
+{
+    b->length[LINKS] = portions;
+    b->length[DIRECTORY] = (size_t)ENTRY * entries;
+    memset(b->desk.bytes[SESSION], 0, IMAGE);
+    memset(b->desk.bytes[LINKS], 0xff, 2 * (size_t)portions);
+    memset(b->desk.bytes[DIRECTORY], 0, b->length[DIRECTORY]);
+    for (unsigned i = 0; i < entries; i++)
+        memcpy(b->desk.bytes[DIRECTORY] + ENTRY * i, (const uint8_t[]){kind, 1, 'A'}, 3);
+}
+
+static void put_link(struct bench *b, unsigned i, unsigned link)
+{
+    b->desk.bytes[LINKS][2 * i] = (uint8_t)link;
+    b->desk.bytes[LINKS][2 * i + 1] = (uint8_t)(link >> 8);
+}
+
+/* All lengths that there is room for: 69 bytes, 2,026 links, 514 entries. */
+static void asked_lengths(struct bench *b)
+{
+    unsigned wrong = 0;
+    uint64_t before;
+
+    spread(b, 2026, 514, EMPTY);
+    spread(b, 1, 1, EMPTY);
+    before = digest_of(b);
+    for (b->length[SESSION] = 0; b->length[SESSION] <= IMAGE + 2; b->length[SESSION]++)
+        wrong += question(b, FORM, 0, "A", 1) != (b->length[SESSION] == IMAGE ? 0 : 1);
+    check("1: an image of another length than 67", wrong == 0);
+    b->length[SESSION] = IMAGE;
+    for (b->length[LINKS] = 0; b->length[LINKS] <= 2026; b->length[LINKS]++)
+        wrong += question(b, PICTURE, 256, "A", 1) != (b->length[LINKS] >= 1 && b->length[LINKS] <= 2024 ? 0 : 1);
+    check("1: 0, 2,025 or 2,026 links, 1 to 2,024 are right", wrong == 0);
+    b->length[LINKS] = 1;
+    for (b->length[DIRECTORY] = 0; b->length[DIRECTORY] <= 514 * ENTRY; b->length[DIRECTORY]++)
+        wrong += question(b, FORM, 0, "A", 1) != (b->length[DIRECTORY] % ENTRY == 0 && b->length[DIRECTORY] >= 1 && b->length[DIRECTORY] <= 8192 ? 0 : 1);
+    check("1: a directory that is not 1 to 512 whole entries", wrong == 0 && digest_of(b) == before);
+}
+
+static void asked_kinds_and_sizes(struct bench *b)
+{
+    unsigned wrong = 0;
+
+    spread(b, 128, 1, EMPTY);
+    for (unsigned kind = 0; kind < 256; kind++)
+        wrong += question(b, kind, 1, "A", 1) != (kind == FORM || kind == PICTURE ? 0 : 7);
+    check("7: each kind but 1 and 2", wrong == 0);
+    for (unsigned size = 0; size <= 70000; size++)
+        wrong += question(b, PICTURE, size, "A", 1) != (size >= 1 && size <= 32768 ? 0 : 7) || question(b, FORM, size, "A", 1) != 0;
+    check("7: a picture's size outside 1 to 32,768, no form's", wrong == 0);
+    for (unsigned bit = 16; bit < 64; bit++)
+        for (uint64_t more = 0; more <= 257; more++) {
+            uint64_t size = ((uint64_t)1 << bit) + more;
+            wrong += question(b, PICTURE, size, "A", 1) != 7 || question(b, PICTURE, 0 - more - 1, "A", 1) != 7 || question(b, FORM, size, "A", 1) != 0;
+        }
+    check("7: so with sizes of up to 64 bits", wrong == 0 && fits(b, FORM, "A", UINT64_MAX) == 0);
+    for (unsigned left = 0; left <= 128; left++) {
+        spread(b, 128, 1, EMPTY);
+        for (unsigned i = 0; i < 128 - left; i++)
+            put_link(b, i * 37 % 128, CHAIN_END);
+        for (unsigned size = 1; size <= 32768; size += size % PORTION < 2 || size % PORTION == 255 ? 1 : 23)
+            wrong += question(b, PICTURE, size, "A", 1) != (sheets(size) > left ? 19 : 0);
+        wrong += question(b, FORM, 32768, "A", 1) != (left == 0 ? 19 : 0);
+    }
+    check("19: size/256 rounded up for a picture, one for a form", wrong == 0);
+}
+
+static bool legal_byte(unsigned byte)
+{
+    return byte >= 32 && byte <= 126 && byte != '*' && byte != '"';
+}
+
+/* Each byte at each place of names of each length; then the lengths, those that 8 or 16 bits make another of too. */
+static void asked_names(struct bench *b)
+{
+    static const unsigned lengths[] = {0, 1, 2, 3, 4, 5, 6, 7, 8, 9, 10, 16, 255, 256, 257, 264, 265, 65535, 65536};
+    static char text[65536];
+    unsigned wrong = 0;
+
+    spread(b, 1, 1, EMPTY);
+    for (unsigned length = 1; length <= 8; length++)
+        for (unsigned i = 0; i < 256 * length; i++) {
+            char name[8] = {'A', 'b', ' ', '9', '~', 'z', '!', 'Q'};
+            name[i / 256] = (char)i;
+            wrong += question(b, FORM, 0, name, length) != (legal_byte(i % 256) ? 0 : 7) || question(b, PICTURE, 9, name, length) != (legal_byte(i % 256) ? 0 : 7);
+        }
+    check("7: bytes outside 32 to 126, `*` and quote, at each place", wrong == 0);
+    memset(text, 'A', sizeof text);
+    for (unsigned i = 0; i < sizeof lengths / sizeof lengths[0]; i++)
+        wrong += question(b, FORM, 0, text, lengths[i]) != (lengths[i] >= 1 && lengths[i] <= 8 ? 0 : 7);
+    check("7: no bytes, or more than eight", wrong == 0 && both(b, "*", 7) && both(b, "A*", 7) && both(b, "a{z`@[~ ", 0));
+}
+
+/* Each byte asked for against each byte stored, at a place of the name and nowhere else. */
+static int bytes_in_use(struct bench *b, unsigned place)
+{
+    uint8_t *entry = b->desk.bytes[DIRECTORY] + ENTRY;
+    unsigned wrong = 0;
+
+    for (unsigned both = 0; both < 65536; both++) {
+        unsigned asked = both % 256, capital = asked >= 'a' && asked <= 'z' ? asked - 32 : asked;
+        char name[] = "XYZXYZXY";
+        name[place] = (char)asked;
+        memcpy(entry, "\2\10XYZXYZXY", 10);
+        entry[2 + place] = (uint8_t)(both >> 8);
+        wrong += question(b, PICTURE, 9, name, 8) != (!legal_byte(asked) ? 7 : capital == both >> 8 ? 10 : 0);
+        wrong += question(b, FORM, 9, name, 8) != (legal_byte(asked) ? 0 : 7);
+    }
+    return wrong == 0;
+}
+
+static void asked_names_in_use(struct bench *b)
+{
+    uint8_t *entry = b->desk.bytes[DIRECTORY] + ENTRY;
+    unsigned wrong = 0;
+
+    spread(b, 1, 3, EMPTY);
+    check("10: small letters of the name asked for are capitals", bytes_in_use(b, 0) && bytes_in_use(b, 3) && bytes_in_use(b, 7));
+    for (unsigned stored = 0; stored < 256; stored++)
+        for (unsigned length = 1; length <= 8; length++) {
+            memcpy(entry, "\1\0ABCDEFGH", 10);
+            entry[1] = (uint8_t)stored;
+            wrong += question(b, FORM, 0, "abCDEfgh", length) != (stored == length ? 10 : 0) || question(b, PICTURE, 1, "ABCDEFGH", length) != 0;
+        }
+    check("10: the length byte is the name's; above 8 it is nobody's", wrong == 0);
+    for (unsigned length = 1; length <= 8; length++)
+        for (unsigned byte = 0; byte < 256; byte++) {
+            memset(entry + 1, (int)byte, 15);
+            memcpy(entry, (const uint8_t[]){PICTURE, (uint8_t)length}, 2);
+            memcpy(entry + 2, "ABCDEFGH", length);
+            wrong += question(b, PICTURE, 1, "ABCDEFGH", length) != 10 || question(b, FORM, 1, "ABCDEFGH", length) != 0;
+        }
+    check("10: fill, first portion and size are not looked at", wrong == 0);
+}
+
+/* Each kind byte on one entry; every other one is a picture of another name, or empty. */
+static void asked_kind_bytes(struct bench *b)
+{
+    unsigned wrong = 0;
+
+    for (unsigned kind = 0; kind < 256; kind++)
+        for (unsigned empty = 0; empty <= 1; empty++) {
+            unsigned other = kind == RECORDING ? 9 : empty || kind == EMPTY ? 0 : 23;
+            spread(b, 1, 3, EMPTY);
+            for (unsigned i = 0; i < 3; i++)
+                b->desk.bytes[DIRECTORY][ENTRY * i] = i == 1 ? (uint8_t)kind : empty ? EMPTY : 4;
+            wrong += fits(b, FORM, "a", 0) != (kind == FORM ? 10 : other) || fits(b, PICTURE, "a", 256) != (kind == PICTURE ? 10 : other) || !both(b, "B", other);
+        }
+    check("9, 10 and 23 by the kind byte, whatever else stands there", wrong == 0);
+}
+
+/* One entry alone is the one that counts, at each place of a directory of 1, 2, 8 and 512. */
+static void asked_places(struct bench *b)
+{
+    static const unsigned entries[] = {1, 2, 8, 512};
+    unsigned wrong = 0;
+
+    for (unsigned i = 0; i < 4; i++)
+        for (unsigned at = 0; at < entries[i]; at++) {
+            uint8_t *entry = b->desk.bytes[DIRECTORY] + ENTRY * at;
+            spread(b, 1, entries[i], PICTURE);
+            wrong += question(b, FORM, 0, "A", 1) != 23 || question(b, PICTURE, 1, "B", 1) != 23;
+            entry[0] = EMPTY;
+            wrong += question(b, FORM, 0, "A", 1) != 0 || question(b, PICTURE, 1, "B", 1) != 0;
+            entry[0] = RECORDING;
+            wrong += question(b, FORM, 0, "B", 1) != 9 || question(b, PICTURE, 1, "B", 1) != 9;
+            entry[0] = FORM;
+            entry[2] = 'Z';
+            wrong += question(b, FORM, 0, "z", 1) != 10 || question(b, PICTURE, 1, "z", 1) != 23;
+        }
+    check("one entry alone, at each place of 1, 2, 8 and 512", wrong == 0);
+    for (unsigned portions = 1; portions <= 2024; portions += portions < 300 ? 1 : 1724)
+        for (unsigned at = 0; at < portions; at++) {
+            spread(b, portions, 1, EMPTY);
+            memset(b->desk.bytes[LINKS], 0, 2 * (size_t)portions);
+            put_link(b, at, FREE);
+            wrong += question(b, FORM, 0, "A", 1) != 0 || question(b, PICTURE, 256, "A", 1) != 0 || question(b, PICTURE, 257, "A", 1) != 19;
+        }
+    check("one free link alone, at each place of 1 to 300 and 2,024", wrong == 0);
+}
+
+/* The only link and the labels owed with each number; then each other byte of the image, the number of free portions too. */
+static void asked_numbers(struct bench *b)
+{
+    unsigned links = 0, owed = 0, image = 0;
+
+    spread(b, 1, 1, EMPTY);
+    for (unsigned number = 0; number < 65536; number++) {
+        put_link(b, 0, number);
+        links += question(b, FORM, 0, "A", 1) != (number == FREE ? 0 : 19) || question(b, PICTURE, 1, "A", 1) != (number == FREE ? 0 : 19);
+    }
+    for (unsigned number = 0; number < 65536; number++) {
+        put_image(b, 11, number, 2);
+        owed += question(b, FORM, 0, "A", 1) != (number ? 8 : 0) || question(b, PICTURE, 1, "A", 1) != (number ? 8 : 0);
+    }
+    put_image(b, 11, 0, 2);
+    for (unsigned i = 0; i < 256 * IMAGE; i++) {
+        if (i / 256 == 11 || i / 256 == 12)
+            continue;
+        put_image(b, i / 256, i % 256, 1);
+        image += question(b, FORM, 0, "A", 1) != 0 || question(b, PICTURE, 256, "A", 1) != 0 || question(b, PICTURE, 257, "A", 1) != 19;
+    }
+    check("19: a link is free at 65535 and at no other number", links == 0);
+    check("8: each of the 65,535 numbers of labels owed", owed == 0);
+    check("no other byte of the image is looked at", image == 0);
+}
+
+/* What each answer is given for, all at once, and each choice of them: bit 0 for 1, and so on up to 23. "in that order" */
+static void asked_together(struct bench *b)
+{
+    static const unsigned answers[] = {1, 7, 8, 9, 10, 19, 23, 0};
+    unsigned wrong = 0;
+
+    for (unsigned choice = 0; choice < 128; choice++)
+        for (unsigned way = 0; way < 6; way++) {
+            unsigned kind = way % 2 ? PICTURE : FORM, first = 0;
+            bool outside = choice & 2;
+            while (first < 7 && !(choice >> first & 1))
+                first++;
+            spread(b, 3, 3, choice & 64 ? (uint8_t)(3 - kind) : EMPTY);
+            if (choice & 16)
+                b->desk.bytes[DIRECTORY][0] = (uint8_t)kind;
+            if (choice & 8)
+                b->desk.bytes[DIRECTORY][ENTRY] = RECORDING;
+            for (unsigned i = 0; i < 3 && choice & 32; i++)
+                put_link(b, i, CHAIN_END);
+            put_image(b, 11, choice & 4 ? 1 : 0, 2);
+            *(way < 2 ? &b->length[SESSION] : way < 4 ? &b->length[LINKS] : &b->length[DIRECTORY]) += choice & 1 ? (way < 2 ? 1 : way < 4 ? 2024 : 15) : 0;
+            wrong += fits(b, outside && way < 2 ? 3 : kind, outside && way >= 2 && (way < 4 || kind == FORM) ? "A*" : "A",
+                          outside && way == 5 ? 32769 : 700) != answers[first];
+            b->length[SESSION] = IMAGE;
+        }
+    check("1, 7, 8, 9, 10, 19, 23: of each choice the first is given", wrong == 0);
+}
+
+/* ---- asked, and then sent ---- */
+
+struct asked_twice {
+    unsigned steps, seen[ANSWERS], wrong;
+};
+
+/* Session, store, links and directory, the slices that FS and GM change, and their room. */
+struct kept {
+    uint8_t bytes[SLICES][SHELF * PORTION + 16];
+};
+
+static const enum slice kept_slices[] = {SESSION, STORE, LINKS, DIRECTORY};
+
+static void keep_slices(const struct bench *b, struct kept *k)
+{
+    for (unsigned i = 0; i < 4; i++)
+        memcpy(k->bytes[kept_slices[i]], b->desk.bytes[kept_slices[i]], b->desk.room[kept_slices[i]]);
+}
+
+static void give_back(struct bench *b, const struct kept *k)
+{
+    for (unsigned i = 0; i < 4; i++)
+        memcpy(b->desk.bytes[kept_slices[i]], k->bytes[kept_slices[i]], b->desk.room[kept_slices[i]]);
+}
+
+/* The question, and then the command itself on the same memory, which is given back. A label is owed now and then; nothing is recorded then and no
+ * form is active, so it is sound. */
+static void ask_and_send(struct bench *b, struct asked_twice *t, bool recording)
+{
+    static const char *const names[] = {"A", "b", "C", "d", "E", "f", "A", "B", "c", "g", "AB", "A ", "", "*", "b*", "123456789"};
+    static uint8_t line[MOST_PICTURE + 64];
+    static struct kept before;
+    const char *name = names[chance_number() % 16];
+    unsigned kind = 1 + (unsigned)(chance_number() % 2), size = chance_number() % 40 ? size_by_chance() : 32600 + (unsigned)(chance_number() % 300), answer;
+    size_t length;
+
+    keep_slices(b, &before);
+    if (!recording && chance_number() % 8 == 0)
+        put_image(b, 11, 1 + (unsigned)(chance_number() % 65535), 2);
+    answer = fits(b, kind, name, size);
+    length = kind == PICTURE && size <= MOST_PICTURE ? write_picture(line, name, strlen(name), size)
+                                                     : (size_t)sprintf((char *)line, kind == FORM ? "FS\"%s\"\n" : "GM\"%s\",%u\n", name, size);
+    t->wrong += answer >= ANSWERS || send_bytes(b, line, length) != answer;
+    t->seen[answer % ANSWERS]++;
+    t->steps++;
+    give_back(b, &before);
+}
+
+static void asked_and_sent(void)
+{
+    struct asked_twice t = {0};
+    struct full_twice commands = {0};
+    struct bench b;
+    char text[100];
+
+    lay_out(&b, 40, SHELF, 6, 64);
+    while (t.steps < 30000) {
+        struct on_paper p = {.portions = 1 + (unsigned)(chance_number() % SHELF), .entries = 1 + (unsigned)(chance_number() % 6), .recording = -1};
+        begin(&b, p.portions, p.entries, 0);
+        for (unsigned i = 0; i < 60; i++) {
+            step_twice(&b, &p, &commands);
+            ask_and_send(&b, &t, p.recording >= 0);
+        }
+    }
+    snprintf(text, sizeof text, "sent then: 7 %u, 8 %u, 9 %u, 10 %u, 19 %u, 23 %u, 0 %u", t.seen[7], t.seen[8], t.seen[9], t.seen[10], t.seen[19], t.seen[23], t.seen[0]);
+    check(text, t.wrong == 0 && commands.wrong == 0);
+    clear_away(&b.desk);
+}
+
+static void fits_cases(void)
+{
+    struct bench b;
+
+    lay_out(&b, 1, 2026, 514, 0);
+    asked_lengths(&b);
+    asked_places(&b);
+    clear_away(&b.desk);
+    lay_out(&b, 1, 128, 3, 0);
+    asked_kinds_and_sizes(&b);
+    asked_names(&b);
+    asked_names_in_use(&b);
+    asked_kind_bytes(&b);
+    asked_numbers(&b);
+    asked_together(&b);
+    asked_and_sent();
+    clear_away(&b.desk);
+}
+
 /* ---- rectangles, the turned page, a picture ---- */
 
 /* Rectangles in each ink, kept dot by dot in a second page. */
@@ -2120,6 +2457,7 @@ int main(int argc, char **argv)
     running_cases();
     full_cases();
     free_number_cases();
+    fits_cases();
     rectangle_cases();
     picture_case();
     return failures != 0;

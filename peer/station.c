@@ -1,4 +1,4 @@
-/* station.c: the three calls. */
+/* station.c: opening, command and label. */
 #include <string.h>
 
 #include "peer.h"

@@ -1,4 +1,4 @@
-/* station.h: the three calls of the label station, as a C program sees them.
+/* station.h: the four calls of the label station, as a C program sees them.
  *
  * The station owns no memory. Whoever calls it lends everything: the page, the background, the store with its links and
  * its directory, the values, and the session itself as an image of 67 bytes. A call reads and changes what it is lent and
@@ -20,6 +20,7 @@
  *   output      where FI, GI and FP write; any length
  *   input       the bytes not read yet; any length
  *   counts      3 numbers, stored at every answer: bytes read from the input, bytes written to the output, place of the fault
+ *   name        of a form or picture that is asked for; any bytes and any length, judged by answer 7
  *
  * The place tells where in the line a refusal points. The first byte of the line is 0. Answers 6, 7 and 12 to 15 point to the
  * first byte of the field or element at fault, the leftmost if there are several:
@@ -81,5 +82,27 @@ uint8_t station_label(uint8_t *session, size_t session_len,
                       const uint16_t *links, size_t links_len,
                       const uint8_t *directory, size_t directory_len,
                       const uint8_t *values, size_t values_len);
+
+/* Will it fit? The answer that FS (kind 1) or GM with a legal picture of so many bytes (kind 2) would give if it were sent now. No form and
+ * no picture is read, so neither store nor font is lent, and nothing is changed. It does not look for soundness: on a memory that is
+ * not sound it goes by what it finds. The first of these answers that applies is given:
+ *
+ *   1   the image has not 67 bytes, the links are not 1 to 2,024, or the directory is not 1 to 512 whole entries
+ *   7   another kind; a name that is not 1 to 8 bytes from 32 to 126 without `*` and quote; a picture's size outside 1 to 32,768. A
+ *       form's size may be anything
+ *   8   labels are owed
+ *   9   some entry is of kind 3
+ *   10  some entry of that kind has this length byte and these bytes; small letters of the name asked for count as capitals
+ *   19  fewer links are 65535 than needed: one for a form, size/256 rounded up for a picture. The session's number is not asked
+ *   23  no entry is of kind 0
+ *   0   it fits
+ *
+ * On every sound session and store that is what FS or GM then answers; only 2, of the font, and 16, of the picture's bytes, are not told. */
+uint8_t station_fits(const uint8_t *session, size_t session_len,
+                     const uint16_t *links, size_t links_len,
+                     const uint8_t *directory, size_t directory_len,
+                     uint8_t kind,
+                     const uint8_t *name, size_t name_len,
+                     uint64_t size);
 
 #endif

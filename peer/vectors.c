@@ -5,8 +5,8 @@
  * Without a seed it writes what is kept in peer/vectors: six sessions by chance, behind
  * them a seventh that is written here and draws every word of the line under the bars, an eighth of lines that are refused, in which
  * every kind of piece is once at fault, a ninth of jobs that take counters to their end, a tenth in which portions and entries
- * run out, each alone and both, and an eleventh that moves the number of free portions in every way and puts wrong ones in. Together
- * they give each of the 24 answers.
+ * run out, each alone and both, an eleventh that moves the number of free portions in every way and puts wrong ones in, and a twelfth
+ * of questions whether it fits, with every answer of theirs and what goes before what. Together they give each of the 24 answers.
  *
  * INPUT-FILE is a row of records, all numbers low byte first. A record starts with its letter:
  *
@@ -17,13 +17,15 @@
  *   O lengths                 station_open
  *   C lengths length(2) input station_command
  *   L lengths                 station_label
+ *   W lengths kind size(8) length(2) name
+ *                             station_fits; kind is one byte. Of the lengths it is lent those of session, links and directory
  *
  * lengths is nine numbers of 2 bytes, in elements, of session, counts, page, background, store, links, directory, values,
  * output. The font is always lent whole. A desk has room for more than a call is lent: session 69, counts 4, page and
  * background 3,192 each, store 4,608, links 18, directory 96, values 374, output 256 elements.
  *
- * LINES-FILE has one line for each O, C and L: the number of the call from 1, the answer, the first three counts as they stand on
- * the desk (read, written, place), and in eight hexadecimal digits the FNV-1a digest (32 bits: start 2166136261, for each byte exclusive or, then
+ * LINES-FILE has one line for each O, C, L and W: the number of the call from 1, the answer, the first three counts as they stand on
+ * the desk (read, written, place; for W, which has none, 0 0 0), and in eight hexadecimal digits the FNV-1a digest (32 bits: start 2166136261, for each byte exclusive or, then
  * times 16777619) of all bytes of session, page, background, store, links, directory, values, output in this order, the
  * room beyond what was lent included. */
 #include <inttypes.h>
@@ -58,20 +60,26 @@ static uint32_t digest_of(const struct desk *d)
 
 static void write_call(FILE *f, const struct event *e)
 {
-    putc("OCL"[e->call], f);
+    putc("OCLW"[e->call], f);
     for (unsigned i = 0; i < 9; i++)
         put_number(f, e->length[told[i]]);
-    if (e->call == COMMAND) {
+    if (e->call == FITS) {
+        putc(e->question.kind, f);
+        for (unsigned i = 0; i < 64; i += 16)
+            put_number(f, (size_t)(e->question.size >> i));
+    }
+    if (e->call == COMMAND || e->call == FITS) {
         put_number(f, e->count);
         fwrite(e->bytes, 1, e->count, f);
     }
 }
 
-static void write_line(FILE *f, const struct desk *d, unsigned calls, unsigned answer)
+static void write_line(FILE *f, const struct desk *d, enum call_kind call, unsigned calls, unsigned answer)
 {
-    uint64_t counts[3];
+    uint64_t counts[3] = {0};
 
-    memcpy(counts, d->bytes[COUNTS], sizeof counts);
+    if (call != FITS)
+        memcpy(counts, d->bytes[COUNTS], sizeof counts);
     fprintf(f, "%u %u %" PRIu64 " %" PRIu64 " %" PRIu64 " %08" PRIx32 "\n", calls, answer, counts[0], counts[1], counts[2],
             digest_of(d));
 }
@@ -115,9 +123,10 @@ static unsigned make_call(struct record *r, const struct event *e)
     unsigned answer;
 
     put_on_desk(&r->desk, INPUT, e->bytes, e->count);
+    r->desk.question = e->question;
     write_call(r->input, e);
     answer = call_station(&peer_station, &r->desk, e->call, e->length);
-    write_line(r->lines, &r->desk, ++r->calls, answer);
+    write_line(r->lines, &r->desk, e->call, ++r->calls, answer);
     r->reached[answer]++;
     if (e->call == COMMAND && e->length[COUNTS] == 3)
         r->pointed[answer][r->desk.bytes[COUNTS][16]] = true;
@@ -332,19 +341,13 @@ static void damaged_job(struct record *r, struct event *e)
 /* A form whose picture is erased before its P: 11 goes before 22. */
 static const char *const drawn_form[] = {"FS\"ONE\"", "GG0,0,\"P\"", "C0,1,+5,\"\"", "FE", "FR\"ONE\"", "?C0,9", "P2", "GK\"P\"", "P2"};
 
-/* A picture of just so many bytes, 130 or more, 8 dots wide; its bytes stand for themselves, but for a run of one if their number is odd. */
 static void send_picture(struct record *r, struct event *e, const char *name, unsigned size)
 {
-    uint8_t line[1024] = {0}, *picture = line + sprintf((char *)line, "GM\"%s\",%u\n", name, size);
+    uint8_t line[1024];
 
-    memcpy(picture, (const uint8_t[]){10, 5, 1, 1, 0, 0, 0, 0, 7, 0, (uint8_t)((size - PICTURE_HEAD) / 2 - 1), (uint8_t)(((size - PICTURE_HEAD) / 2 - 1) >> 8)}, 12);
-    picture[65] = 1;
-    picture[66] = 2;
-    if (size % 2)
-        picture[PICTURE_HEAD] = 193;
     e->call = COMMAND;
     e->bytes = line;
-    e->count = e->length[INPUT] = (size_t)(picture - line) + size;
+    e->count = e->length[INPUT] = write_picture(line, name, strlen(name), size);
     make_call(r, e);
 }
 
@@ -581,6 +584,177 @@ static void number_session(struct record *r, struct event e)
     image_lengths(r, &e);
 }
 
+/* ---- will it fit? ---- */
+
+struct asked {
+    uint8_t kind;
+    const char *name;
+    uint64_t size;
+};
+
+/* A byte to be changed. */
+struct other_byte {
+    enum slice slice;
+    uint8_t at, byte;
+};
+
+static void ask_bytes(struct record *r, struct event *e, struct question q, const void *name, size_t length)
+{
+    e->call = FITS;
+    e->question = q;
+    e->bytes = name;
+    e->count = e->length[INPUT] = length;
+    make_call(r, e);
+}
+
+static void ask_all(struct record *r, struct event *e, const struct asked *asked, unsigned count)
+{
+    for (unsigned i = 0; i < count; i++)
+        ask_bytes(r, e, (struct question){asked[i].kind, asked[i].size}, asked[i].name, strlen(asked[i].name));
+}
+
+#define ASK_ALL(r, e, asked) ask_all(r, e, asked, sizeof asked / sizeof asked[0])
+
+/* A form, the picture P of 512 bytes, and the same of names that are not used yet. */
+static const struct asked four[] = {{FORM, "a", 0}, {PICTURE, "P", 512}, {FORM, "B", 0}, {PICTURE, "Q", 512}};
+
+/* Before opening, on memory that is all 255 and then all 0. The lengths that are lent to a question, one by one; the others have no say. */
+static void asked_lengths(struct record *r, struct event *e)
+{
+    static const struct {
+        enum slice slice;
+        size_t length;
+    } other[] = {{SESSION, 0}, {SESSION, 65}, {SESSION, 66}, {SESSION, 68}, {LINKS, 0}, {LINKS, 1}, {LINKS, 18}, {DIRECTORY, 0}, {DIRECTORY, 15}, {DIRECTORY, 16},
+                 {DIRECTORY, 17}, {DIRECTORY, 32}, {DIRECTORY, 95}, {DIRECTORY, 96}, {STORE, 0}, {COUNTS, 0}, {VALUE, 0}, {BACKGROUND, 0}};
+
+    e->fill = 255;
+    set_up(r, e);
+    usual_lengths(e->length, 40, 10, 4, 256);
+    ask_all(r, e, four, 2);
+    e->fill = 0;
+    set_up(r, e);
+    ask_all(r, e, four, 2);
+    for (unsigned i = 0; i < sizeof other / sizeof other[0]; i++) {
+        size_t usual = e->length[other[i].slice];
+        e->length[other[i].slice] = other[i].length;
+        ask_all(r, e, four + i % 2, 1);
+        if (i % 4 == 0)
+            ask_bytes(r, e, (struct question){0, 0}, "*", 1);
+        e->length[other[i].slice] = usual;
+    }
+}
+
+/* Ten portions and four entries, all free: kinds, sizes and names at their limits. */
+static void asked_limits(struct record *r, struct event *e)
+{
+    static const struct asked limits[] = {
+        {0, "A", 1}, {FORM, "A", 0}, {PICTURE, "A", 1}, {RECORDING, "A", 1}, {129, "A", 1}, {255, "A", 1}, {FORM, "A", 2560}, {FORM, "A", 2561}, {FORM, "A", 32769},
+        {FORM, "A", UINT64_MAX}, {PICTURE, "A", 0}, {PICTURE, "A", 128}, {PICTURE, "A", 129}, {PICTURE, "A", 130}, {PICTURE, "A", 256}, {PICTURE, "A", 257},
+        {PICTURE, "A", 2304}, {PICTURE, "A", 2305}, {PICTURE, "A", 2559}, {PICTURE, "A", 2560}, {PICTURE, "A", 2561}, {PICTURE, "A", 32768}, {PICTURE, "A", 32769},
+        {PICTURE, "A", 65536}, {PICTURE, "A", 65537}, {PICTURE, "A", 0x100000000}, {PICTURE, "A", 0x100000100}, {PICTURE, "A", 0x8000000000000001},
+        {PICTURE, "A", UINT64_MAX - 255}, {PICTURE, "A", UINT64_MAX}, {FORM, "", 1}, {PICTURE, "12345678", 1}, {FORM, "123456789", 1}, {PICTURE, "1234567890123456", 1},
+        {FORM, " ", 1}, {FORM, "~", 1}, {PICTURE, "a z{`@[", 1}, {FORM, "*", 1}, {PICTURE, "*", 1}, {FORM, "A*", 1}, {PICTURE, "\"", 1}, {FORM, "1234567*", 1},
+        {FORM, "A\x1f", 1}, {PICTURE, "A\x7f", 1}, {FORM, "\x80", 1}, {PICTURE, "\xff", 1}, {FORM, "A\n", 1}, {0, "", 0}, {PICTURE, "*", 0}};
+
+    open_with(r, e, 10, 4);
+    ASK_ALL(r, e, limits);
+    ask_bytes(r, e, (struct question){FORM, 0}, "A\0", 2);
+    ask_bytes(r, e, (struct question){PICTURE, 130}, "\0", 1);
+}
+
+/* Asked, and then sent: five portions with two entries and then with three, which fill up; each of 0, 10, 19 and 23, 9 while a form is recorded, 8 while a
+ * label is owed. */
+static void asked_and_sent(struct record *r, struct event *e)
+{
+    static const struct asked more[] = {{PICTURE, "Q", 769}, {PICTURE, "A", 513}, {FORM, "p", 0}, {FORM, "*", 0}, {PICTURE, "P", 0}, {3, "P", 1}};
+    static const char *const start[] = {"FS\"A\""}, *const end[] = {"FE", "FS\"a\"", "FS\"B\""}, *const erase[] = {"FK\"A\"", "FS\"B\"", "FE"};
+    static const char *const owe[] = {"FS\"P\"", "P1", "FS\"A\""};
+
+    open_with(r, e, 5, 2);
+    ASK_ALL(r, e, four);
+    SEND_LINES(r, e, start);
+    ASK_ALL(r, e, four);
+    ASK_ALL(r, e, more);
+    SEND_LINES(r, e, end);
+    send_picture(r, e, "P", 130);  /* B is recorded: 9 */
+    send_lines(r, e, end, 1);
+    ASK_ALL(r, e, four);
+    ASK_ALL(r, e, more);
+    SEND_LINES(r, e, erase);
+    ASK_ALL(r, e, four);
+    open_with(r, e, 5, 3);
+    send_picture(r, e, "P", 257);
+    ASK_ALL(r, e, four);
+    ASK_ALL(r, e, more);
+    send_picture(r, e, "A", 513);
+    ASK_ALL(r, e, four);
+    ASK_ALL(r, e, more);
+    SEND_LINES(r, e, owe);
+    ASK_ALL(r, e, four);
+    ASK_ALL(r, e, more);
+    draw_label(r, e);
+}
+
+/* Six portions, three entries: the form A, the picture P of two portions, an empty one, and three portions free. Each byte as changed makes memory that is
+ * not sound, and the question goes by it: kinds, the length byte, names, fill, an empty entry that is not all zero, owed by either byte,
+ * links; the number of free portions and the width are not looked at. */
+static void asked_of_damage(struct record *r, struct event *e)
+{
+    static const struct other_byte damage[] = {
+        {DIRECTORY, 0, 0}, {DIRECTORY, 0, 2}, {DIRECTORY, 0, 3}, {DIRECTORY, 0, 5}, {DIRECTORY, 0, 255}, {DIRECTORY, 1, 0}, {DIRECTORY, 1, 2}, {DIRECTORY, 1, 9},
+        {DIRECTORY, 2, 'a'}, {DIRECTORY, 2, 'B'}, {DIRECTORY, 3, 'X'}, {DIRECTORY, 10, 9}, {DIRECTORY, 16, 1}, {DIRECTORY, 16, 3}, {DIRECTORY, 25, 1}, {DIRECTORY, 32, 1}, {DIRECTORY, 32, 2},
+        {DIRECTORY, 32, 3}, {DIRECTORY, 32, 4}, {DIRECTORY, 33, 1}, {DIRECTORY, 47, 1}, {SESSION, 11, 1}, {SESSION, 12, 1}, {SESSION, 13, 1}, {SESSION, 0, 0}, {SESSION, 65, 0},
+        {SESSION, 66, 1}, {LINKS, 0, 255}, {LINKS, 6, 254}, {LINKS, 7, 254}, {LINKS, 10, 0}};
+    static const char *const form[] = {"FS\"A\"", "FE"};
+    static const struct asked exact[] = {{PICTURE, "Q", 768}, {PICTURE, "Q", 769}};
+
+    open_with(r, e, 6, 3);
+    SEND_LINES(r, e, form);
+    send_picture(r, e, "P", 300);
+    for (unsigned i = 0; i < sizeof damage / sizeof damage[0]; i++) {
+        uint8_t before = r->desk.bytes[damage[i].slice][damage[i].at];
+        poke_byte(r, e, damage[i].slice, damage[i].at, damage[i].byte);
+        ask_all(r, e, four, damage[i].slice == DIRECTORY ? 2 : 1);
+        ask_all(r, e, exact + (damage[i].slice == LINKS && damage[i].byte == 255), 1);
+        poke_byte(r, e, damage[i].slice, damage[i].at, before);
+    }
+}
+
+/* A name of eight bytes, and its length byte changed: "a length byte above 8 is nobody's name". Then what goes before what, with all that 8 to 23 are
+ * given for at once, taken away one by one. */
+static void asked_at_once(struct record *r, struct event *e)
+{
+    static const uint8_t lengths[] = {7, 9, 8 + 128, 255, 8};
+    static const struct asked eight[] = {{PICTURE, "az{`@[eH", 300}, {PICTURE, "AZ{`@[E", 300}, {PICTURE, "AZ{`@[EHI", 300}};
+    static const struct other_byte away[] = {{SESSION, 11, 0}, {DIRECTORY, 16, 2}, {DIRECTORY, 9, 'X'}, {LINKS, 4, 255}, {LINKS, 2, 255}, {DIRECTORY, 16, 0}};
+
+    open_with(r, e, 3, 2);
+    send_picture(r, e, "AZ{`@[EH", 300);
+    for (unsigned i = 0; i < sizeof lengths; i++) {
+        poke_byte(r, e, DIRECTORY, 1, lengths[i]);
+        ASK_ALL(r, e, eight);
+    }
+    poke_byte(r, e, LINKS, 4, 254);
+    poke_byte(r, e, DIRECTORY, 16, RECORDING);
+    poke_byte(r, e, SESSION, 11, 2);
+    ASK_ALL(r, e, eight);
+    for (unsigned i = 0; i < sizeof away / sizeof away[0]; i++) {
+        poke_byte(r, e, away[i].slice, away[i].at, away[i].byte);
+        ask_all(r, e, eight, 2);
+        ask_all(r, e, four + 2, 1);
+    }
+}
+
+static void fits_session(struct record *r, struct event e)
+{
+    asked_lengths(r, &e);
+    lend_digits(r, &e, 1, 1);
+    asked_limits(r, &e);
+    asked_and_sent(r, &e);
+    asked_of_damage(r, &e);
+    asked_at_once(r, &e);
+}
+
 static void tell_places(const struct record *r)
 {
     for (unsigned a = 0; a < ANSWERS; a++) {
@@ -622,6 +796,7 @@ int main(int argc, char **argv)
     running_session(&r, room);
     full_session(&r, room);
     number_session(&r, room);
+    fits_session(&r, room);
     for (unsigned a = 0; a < ANSWERS; a++)
         missing += r.reached[a] == 0;
     fprintf(stderr, "%u calls, %ld bytes, %u of the %u answers not reached\n", r.calls, ftell(r.input), missing, ANSWERS);

@@ -7,13 +7,12 @@ use mathlib.Core.Bool.{Bool, not, _&&_, _||_}
 use mathlib.Core.List.{List}
 use lib.Dec.{eqb, leb}
 use Rattle.store.specs.Entry.{entry, kind}
-use Rattle.finding.specs.Find.{recorded}
+use Rattle.finding.specs.Find.{isAt, recorded}
 use Rattle.declarations.specs.declared.Declared.{Declared}
 use Rattle.counters.specs.declared.Counters.{Counters}
 use Rattle.counter_steps.specs.Steps.{lasts}
 use Rattle.values.specs.Sound.{valuesSound, allSet}
 use Rattle.forms.specs.Form.{declaredOf, picturesStored}
-use Rattle.recording.specs.Judged.{isAt}
 use Rattle.session.specs.declared.Session.{Session}
 use Rattle.session.specs.Session.{noForm, mostLabels}
 

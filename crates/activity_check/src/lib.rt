@@ -4,8 +4,7 @@
 ghost use mathlib.Core.Path.{_≡_};
 ghost use Prim.Native.Nat.{_+_};
 ghost use lib.Dec.{leb};
-ghost use Rattle.finding.specs.Find.{recorded};
-ghost use Rattle.recording.specs.Judged.{isAt};
+ghost use Rattle.finding.specs.Find.{isAt, recorded};
 ghost use Rattle.active_form.specs.Active.{activeBytes};
 ghost use Rattle.session.specs.Session.{mostLabels};
 ghost use Rattle.activity_check.specs.Activity.{activeOk, owedWith, activitySound};
@@ -14,7 +13,7 @@ use active_form::active_declared;
 use active_form::active_pictures;
 use counters::Counters;
 use declarations::Declared;
-use finding::Found;
+use finding::is_at;
 use ground::both;
 use session::MOST_LABELS;
 use session::Session;
@@ -40,11 +39,7 @@ fn active_ok(directory: &[u8], active: u16) -> bool
 fn recording(directory: &[u8]) -> bool
     ensures { λ r. ⌜ r ≡ isAt (recorded (now (directory .entry))) ⌝ }
 {
-    let f = finding::recording(directory);
-    match f {
-        Found::At(_) => true,
-        Found::Nothing => false,
-    }
+    is_at(finding::recording(directory))
 }
 
 // "labels owed only when nothing is recorded, all declared values are set and the pictures exist", and no counter runs out within them; d is what the active form

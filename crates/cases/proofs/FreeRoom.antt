@@ -52,7 +52,7 @@ store-recording : storeSound (portion ++ replicate 768 0) links directory ≡ tr
 unfolding computed
 store-recording = store-from (portion ++ replicate 768 0) links directory refl refl refl refl refl refl refl (frees portion 768 links refl refl) refl
 
-sound-recording : sound recording memory ≡ true
+pub sound-recording : sound recording memory ≡ true
 unfolding computed memory
 sound-recording = sound-from recording memory refl (background 608 1 76) store-recording refl refl refl
 

@@ -89,7 +89,7 @@ clauses = true
 
 -- the calls
 unfoldable pub calls : Bool
-unfolding Answers.numberOf Answers.isTaken Answers.answerOf Lent.pageWrong Lent.storeWrong Lent.directoryWrong Lent.lengthsWrong Rows.commandTable Station.cleared Station.opened Fronts.readBy Station.labelPage Station.labelSession Calls.lent Calls.start
+unfolding Answers.numberOf Answers.isTaken Answers.answerOf Lent.pageWrong Lent.linksWrong Lent.storeWrong Lent.directoryWrong Lent.lengthsWrong Rows.commandTable Station.cleared Station.opened Fronts.readBy Station.labelPage Station.labelSession Calls.lent Calls.start
 calls = true
 
 -- bars

@@ -6,8 +6,9 @@ use mathlib.Core.List.{List, [], _∷_}
 use lib.ListN.{length}
 use lib.Dec.{eqb}
 use Rattle.answers.specs.declared.Answer.the-variants.{Lengths}
-use Rattle.answers.specs.Answers.{numberOf, placeOf}
+use Rattle.answers.specs.Answers.{answerOf, numberOf, placeOf}
 use Rattle.lent.specs.Lent.{World}
+use Rattle.fits.specs.Fits.{fitRows}
 use Rattle.calls.specs.Outcomes.{After, Drawn, Opened}
 use Rattle.calls.specs.Station.{opened, commanded, labelledBy}
 use Rattle.image.specs.Image.{imageSize, sessionOf, imageOf}
@@ -88,3 +89,10 @@ labellingOf o = labelling (numberOf (o .outcome .answer)) (imageOf (o .outcome .
 unfoldable pub labelledFace : List ℕ → List ℕ → World → List ℕ → LabelledFace
 labelledFace image font w page =
     cond (imageWrong image) (labelling (numberOf Lengths) image page) (labellingOf (labelledBy (sessionOf image) font w page))
+
+-- ---- will it fit?
+
+-- paper 02, §7: the answer's number. "It changes nothing": what the call is lent it has at exit as at entry
+unfoldable pub fittedFace : List ℕ → List ℕ → List ℕ → ℕ → List ℕ → ℕ → ℕ
+fittedFace image links directory kind name size =
+    numberOf (cond (imageWrong image) Lengths (answerOf (fitRows (sessionOf image .owed) links directory kind name size)))

@@ -8,9 +8,11 @@ use lib.Dec.{eqb}
 use lib.Seq.{sets}
 use borrow.Author.Tests.{eq-eqb, ne-eqb, eqb-true, not-false}
 use Rattle.session.specs.declared.Session.{Session}
+use Rattle.answers.specs.declared.Answer.{Answer}
 use Rattle.answers.specs.declared.Answer.the-variants.{Lengths}
-use Rattle.answers.specs.Answers.{numberOf, placeOf}
+use Rattle.answers.specs.Answers.{answerOf, numberOf, placeOf}
 use Rattle.lent.specs.Lent.{World}
+use Rattle.fits.specs.Fits.{fitRows}
 use Rattle.calls.specs.declared.Outcome.{Outcome}
 use Rattle.session.specs.declared.Labelled.{Labelled}
 use Rattle.calls.specs.Outcomes.{after, drawnBy, openedBy}
@@ -18,7 +20,7 @@ use Rattle.calls.specs.Station.{opened, commanded, labelledBy}
 use Rattle.image.specs.Image.{imageSize, sessionOf, imageOf}
 use Rattle.image.proofs.Inverse.{whole}
 use Rattle.exported.proofs.Kept.{neither}
-use Rattle.exported.specs.Face.{countsStored, imageWrong, countsWrong, opening, commanding, labelling, openedFace, commandedFace, labelledFace}
+use Rattle.exported.specs.Face.{countsStored, imageWrong, countsWrong, opening, commanding, labelling, openedFace, commandedFace, labelledFace, fittedFace}
 
 module _ (i p : List ℕ) (w : World) where
   pub open-wrong : (r : ℕ) → (length i ≡ imageSize → ⊥) → r ≡ numberOf Lengths → opening r i p w ≡ openedFace i p w
@@ -53,3 +55,13 @@ module _ (i cs f : List ℕ) (w : World) (out input : List ℕ) (wrong : Bool) (
   command-done s o i' cs' w' out' r p h d e q k m n =
       let t : length i ≡ imageSize = eqb-true (length i) imageSize (not-false (eqb (length i) imageSize) (neither (imageWrong i) (countsWrong cs) (sym is ∙ h))) in
       rw (← is, h, ← d, ← e, n, q, k, m, whole i (o .session) t)
+
+module _ (i l d : List ℕ) (kind : ℕ) (name : List ℕ) (size r : ℕ) where
+  pub fits-wrong : (length i ≡ imageSize → ⊥) → r ≡ numberOf Lengths → r ≡ fittedFace i l d kind name size
+  unfolding fittedFace
+  fits-wrong h e = rw (ne-eqb (length i) imageSize h, e)
+
+  pub fits-done : (s : Session) (a : Answer) → length i ≡ imageSize → s ≡ sessionOf i → a ≡ answerOf (fitRows (s .owed) l d kind name size) → r ≡ numberOf a
+      → r ≡ fittedFace i l d kind name size
+  unfolding fittedFace
+  fits-done s a h e q n = rw (eq-eqb (length i) imageSize h, ← e, n, q)

@@ -1,17 +1,18 @@
 // The exported calls: the station for a caller in C.
 //
-// Paper 01: "Opening, command and label calls exported on numbers and byte slices". The session is lent as an image of 67 bytes (crate `image`), so that a
-// caller keeps plain bytes, and any bytes are some session. Each call is the station's call on that session, for any slices whatever; an image of another
-// length is [1], and nothing is touched. Each promises one equation with a definition of crate `exported`, over the answer's number and every lent slice
-// at exit. `peer/station.h` declares the three for C.
+// Paper 01: "Opening, command and label calls exported on numbers and byte slices"; paper 02, §7, adds the question whether something fits. The session is lent as an
+// image of 67 bytes (crate `image`), so that a caller keeps plain bytes, and any bytes are some session. Each call is the station's call on that session, for any
+// slices whatever; an image of another length is [1], and nothing is touched. Each promises one equation with a definition of crate `exported`, over the answer's
+// number and every lent slice at exit. `peer/station.h` declares the four for C.
 ghost use mathlib.Core.Path.{_≡_};
 ghost use Rattle.lent.specs.Lent.{world};
-ghost use Rattle.exported.specs.Face.{opening, commanding, labelling, openedFace, commandedFace, labelledFace};
+ghost use Rattle.exported.specs.Face.{opening, commanding, labelling, openedFace, commandedFace, labelledFace, fittedFace};
 use answers::Answer;
 use answers::number;
 use answers::place;
 pub use exported::COUNTS;
 use exported::store_counts;
+use fits::fit_answer;
 use ground::either;
 pub use image::IMAGE;
 use image::decode;
@@ -108,4 +109,24 @@ pub extern "C" fn station_label(
     encode(after, session);
     let answer = o.answer;
     number(answer)
+}
+
+// It is lent nothing that it could change, and neither store nor values.
+#[no_mangle]
+pub extern "C" fn station_fits(
+    session: &[u8],
+    links: &[u16],
+    directory: &[u8],
+    kind: u8,
+    name: &[u8],
+    size: u64,
+) -> u8
+    ensures { λ r. ⌜ r ≡ fittedFace (now (session .entry)) (now (links .entry)) (now (directory .entry)) kind (now (name .entry)) size ⌝ }
+{
+    if session.len() != IMAGE {
+        return number(Answer::Lengths);
+    }
+    let held = decode(session);
+    let owed = held.owed;
+    number(fit_answer(owed, links, directory, kind, name, size))
 }

@@ -1,6 +1,6 @@
 -- What is found in links and directory: "New entries and portions are the lowest free"; an entry by kind and name; the form being recorded.
 use mathlib.Core.List.{List}
-use mathlib.Core.Bool.{Bool, cond, _&&_}
+use mathlib.Core.Bool.{Bool, true, false, cond, _&&_}
 use Prim.Native.Nat.{ℕ, _+_}
 use lib.ListN.{length, getD}
 use lib.Dec.{eqb, ltb}
@@ -14,6 +14,11 @@ use Rattle.store.specs.Entry.{entries, entry, kind, ofKind}
 -- the lowest number below n that passes a test, if there is one
 unfoldable pub found : (ℕ → Bool) → ℕ → Found
 found test n = cond (ltb (lowest test n) n) (At (lowest test n)) Nothing
+
+-- whether something was found
+abbrev pub isAt : Found → Bool
+isAt (At i) = true
+isAt Nothing = false
 
 abbrev pub lowestFree : List ℕ → Found
 lowestFree links = found (isFree links) (length links)

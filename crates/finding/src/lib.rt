@@ -4,7 +4,7 @@ ghost use mathlib.Core.Path.{_≡_};
 ghost use Prim.Native.Nat.{ℕ, _+_, _≤_, _<_};
 ghost use lib.ListN.{length, getD};
 ghost use Rattle.store.specs.Entry.{entries};
-ghost use Rattle.finding.specs.Find.{lowestFree, lowestEmpty, recorded, titledAt};
+ghost use Rattle.finding.specs.Find.{isAt, lowestFree, lowestEmpty, recorded, titledAt};
 ghost use Rattle.finding.specs.Bytes.{two, four, eight, titledBy};
 use store::BYTES_AN_ENTRY;
 use store::FREE_LINK;
@@ -12,6 +12,15 @@ use store::FREE_LINK;
 pub enum Found {
     At(usize),
     Nothing,
+}
+
+pub fn is_at(found: Found) -> bool
+    ensures { λ r. ⌜ r ≡ isAt found ⌝ }
+{
+    match found {
+        Found::At(_) => true,
+        Found::Nothing => false,
+    }
 }
 
 pub fn lowest_free(links: &[u16]) -> Found

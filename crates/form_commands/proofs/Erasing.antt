@@ -10,7 +10,7 @@ use Rattle.stored_values.specs.Stored.{unset}
 use Rattle.finding.specs.declared.Found.{Found}
 use Rattle.grammar.specs.declared.Named.{Named}
 use Rattle.grammar.specs.declared.FormCommand.the-variants.{Erase}
-use Rattle.recording.specs.Judged.{isAt}
+use Rattle.finding.specs.Find.{isAt}
 use Rattle.session.specs.declared.Session.{Session}
 use Rattle.session.specs.Session.{activated}
 use Rattle.answers.specs.declared.Answer.the-variants.{Taken}

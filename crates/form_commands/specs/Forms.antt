@@ -10,7 +10,7 @@ use Rattle.free_number.specs.After.{afterStored}
 use Rattle.grammar.specs.declared.FormCommand.{FormCommand}
 use Rattle.grammar.specs.declared.FormCommand.the-variants.{Start, Retrieve, Erase}
 use Rattle.parts.specs.Names.{packedOf}
-use Rattle.recording.specs.Judged.{isAt}
+use Rattle.finding.specs.Find.{isAt}
 use Rattle.session.specs.declared.Session.{Session}
 use Rattle.answers.specs.declared.Answer.the-variants.{InUse, Missing}
 use Rattle.answers.specs.Answers.{Row, row, answerOf}

@@ -13,7 +13,7 @@ use Rattle.store_sound.specs.Sound.{lentOk}
 use Rattle.sound.specs.Sound.{numbersOk}
 use Rattle.results.proofs.Answers.{or-none}
 use Rattle.session.specs.declared.Session.{Session}
-use Rattle.lent.specs.Lent.{World, wrongLent, lengthsWrong, pageWrong, storeWrong, directoryWrong, valuesWrong}
+use Rattle.lent.specs.Lent.{World, wrongLent, lengthsWrong, pageWrong, linksWrong, storeWrong, directoryWrong, valuesWrong}
 use Rattle.keeps_sound.proofs.Layers.{both, first-of, second-of}
 
 -- ---- lengths
@@ -34,20 +34,20 @@ page-facts n e =
     (eqb-true _ _ (not-false _ (a .0)), (ltb-false _ _ (b .0), ltb-false _ _ (b .1)))
 
 memory-facts : (store links directory : List ℕ) → storeWrong (length store) (length links) ≡ false → directoryWrong (length directory) ≡ false → lentOk store links directory ≡ true
-unfolding storeWrong directoryWrong lentOk
+unfolding linksWrong storeWrong directoryWrong lentOk
 memory-facts store links directory e f =
-    let a = or-none (ltb 2024 (length links)) (eqb (length links) 0 || not (eqb (length store) (length links * 256))) e in
-    let b = or-none (eqb (length links) 0) (not (eqb (length store) (length links * 256))) (a .1) in
+    let a = or-none (ltb 2024 (length links) || eqb (length links) 0) (not (eqb (length store) (length links * 256))) e in
+    let b = or-none (ltb 2024 (length links)) (eqb (length links) 0) (a .0) in
     let c = or-none (not (eqb (length directory % 16) 0)) (ltb (length directory) 16 || ltb 8192 (length directory)) f in
     let d = or-none (ltb (length directory) 16) (ltb 8192 (length directory)) (c .1) in
-    let some : length links ≡ 0 → ⊥ = eqb-false _ _ (b .0) in
-    let many : length links ≤ 2024 = ltb-false _ _ (a .0) in
+    let some : length links ≡ 0 → ⊥ = eqb-false _ _ (b .1) in
+    let many : length links ≤ 2024 = ltb-false _ _ (b .0) in
     let whole : length directory % 16 ≡ 0 = eqb-true _ _ (not-false _ (c .0)) in
     let least : 16 ≤ length directory = ltb-false _ _ (d .0) in
     let most : length directory ≤ 8192 = ltb-false _ _ (d .1) in
     both _ _ (le-leb _ _ many)
     (both _ _ (le-leb _ _ (positive (length links) some))
-    (both _ _ (not-false (eqb (length store) (length links * 256)) (b .1))
+    (both _ _ (not-false (eqb (length store) (length links * 256)) (a .1))
     (both _ _ (eq-eqb _ _ (let h : length directory ≡ length directory / 16 * 16 = omega arith in h))
     (both _ _ (le-leb _ _ (let h : 1 ≤ length directory / 16 = omega arith in h)) (le-leb _ _ (let h : length directory / 16 ≤ 512 = omega arith in h))))))
   where

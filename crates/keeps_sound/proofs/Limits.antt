@@ -1,10 +1,10 @@
--- The numbers of a command that was read lie within the limits of paper 01: those that a session keeps.
+-- The numbers of a command that was read lie within the limits of paper 01: those that a session keeps, and how many bytes follow a GM.
 -- Assumes nothing.
-use mathlib.Core.Path.{_≡_, refl, ap, _∙_, subst}
+use mathlib.Core.Path.{_≡_, refl, ap, subst}
 use mathlib.Core.Bool.{Bool, true, false, cond, _&&_, false≢true}
-use mathlib.Core.List.{List, [], _∷_}
+use mathlib.Core.List.{List, [], _∷_, _++_}
 use Prim.Native.Nat.{ℕ, suc, _≤_}
-use lib.ListN.{getD, drop}
+use lib.ListN.{length, getD, drop}
 use Rattle.kinds.specs.Bytes.{between}
 use Rattle.data_field.specs.declared.Limits.{Limits}
 use Rattle.data_field.specs.declared.Limits.the-variants.{Within, Outside}
@@ -13,10 +13,11 @@ use Rattle.grammar.specs.declared.Item.the-variants.{Origin, Variable, Counter,
 use Rattle.grammar.specs.declared.Command.{Command}
 use Rattle.grammar.specs.declared.Command.the-variants.{Item as item, End, Page, Forms, Pictures, Values, Listing}
 use Rattle.grammar.specs.declared.PageCommand.the-variants.{Length, Width, Turn, White}
+use Rattle.grammar.specs.declared.PictureCommand.the-variants.{Store, Erase as ErasePicture}
 use Rattle.grammar.specs.declared.ValueCommand.the-variants.{Variable as EnterVariable, Counter as EnterCounter, Clear, Print}
 use Rattle.read.specs.declared.Read.the-variants.{Taken}
-use Rattle.grammar.specs.Named.{LENGTH, WIDTH, ORIGIN, PRINT}
-use Rattle.grammar.specs.Forms.{forms, rowOf, boundsOf, isNumber, spread, free, inOrder}
+use Rattle.grammar.specs.Named.{LENGTH, WIDTH, ORIGIN, GM, PRINT}
+use Rattle.grammar.specs.Forms.{forms, boundsOf, isNumber, spread, free, inOrder}
 use Rattle.grammar.proofs.Rows.{_&_, Each}
 use Rattle.row_limits.specs.Limits.{limitsFrom, fieldLimits, meets}
 use Rattle.read.specs.Commands.{readOf}
@@ -46,7 +47,8 @@ ranged rows (Page (Width m)) = Ranged (80, 608) (m .m)
 ranged rows (Page (Turn t)) = Unit {0}
 ranged rows (Page White) = Unit {0}
 ranged rows (Forms c) = Unit {0}
-ranged rows (Pictures c) = Unit {0}
+ranged rows (Pictures (Store p)) = Ranged (1, 32768) (p .n)
+ranged rows (Pictures (ErasePicture n)) = Unit {0}
 ranged rows (Values (EnterVariable v)) = Unit {0}
 ranged rows (Values (EnterCounter c)) = Unit {0}
 ranged rows (Values Clear) = Unit {0}
@@ -77,39 +79,29 @@ number-within fs ls s u vs ps e =
     (first-within (fieldLimits 110 (getD ls 0 free) s u (getD vs 0 0) (getD ps 0 0))
     (limitsFrom fs (drop 1 ls) s (cond (isNumber 110) (getD vs 0 0) u) (drop 1 vs) (drop 1 ps)) e .0)
 
-getD-next : (vs : List ℕ) (i : ℕ) → getD (drop 1 vs) i 0 ≡ getD vs (suc i) 0
-getD-next [] i = refl
-getD-next (v ∷ vs) i = refl
+getD-next : {A : Type 0} (l : List A) (i : ℕ) (d : A) → getD (drop 1 l) i d ≡ getD l (suc i) d
+getD-next [] i d = refl
+getD-next (x ∷ xs) i d = refl
 
--- the number behind a command of one letter, and the one behind that and a comma
-one-number :
-    (f : ℕ) (fs : List ℕ) (ls : List (ℕ × ℕ)) (s vs ps : List ℕ) → limitsFrom (f ∷ 110 ∷ fs) ls s 0 vs ps ≡ Within →
-    Ranged (getD (drop 1 ls) 0 free) (getD vs 1 0)
-one-number f fs ls s vs ps e =
-    subst (λ (k : ℕ). Ranged (getD (drop 1 ls) 0 free) k) (getD-next vs 0)
-    (number-within fs (drop 1 ls) s (cond (isNumber f) (getD vs 0 0) 0) (drop 1 vs) (drop 1 ps) (limits-rest f (110 ∷ fs) ls s 0 vs ps e))
+-- a number behind other fields
+number-behind :
+    (before fs : List ℕ) (ls : List (ℕ × ℕ)) (s : List ℕ) (u : ℕ) (vs ps : List ℕ) → limitsFrom (before ++ (110 ∷ fs)) ls s u vs ps ≡ Within →
+    Ranged (getD ls (length before) free) (getD vs (length before) 0)
+number-behind [] fs ls s u vs ps e = number-within fs ls s u vs ps e
+number-behind (f ∷ before) fs ls s u vs ps e =
+    let r = limits-rest f (before ++ (110 ∷ fs)) ls s u vs ps e in
+    let h = number-behind before fs (drop 1 ls) s (cond (isNumber f) (getD vs 0 0) u) (drop 1 vs) (drop 1 ps) r in
+    subst (λ (l : ℕ × ℕ). Ranged l (getD vs (suc (length before)) 0)) (getD-next ls (length before) free)
+    (subst (Ranged (getD (drop 1 ls) (length before) free)) (getD-next vs (length before) 0) h)
 
-two-numbers :
-    (f g : ℕ) (fs : List ℕ) (ls : List (ℕ × ℕ)) (s vs ps : List ℕ) → limitsFrom (f ∷ 110 ∷ g ∷ 110 ∷ fs) ls s 0 vs ps ≡ Within →
-    Ranged (getD (drop 1 (drop 1 (drop 1 ls))) 0 free) (getD vs 3 0)
-two-numbers f g fs ls s vs ps e =
-    let a = limits-rest f (110 ∷ g ∷ 110 ∷ fs) ls s 0 vs ps e in
-    let b = limits-rest 110 (g ∷ 110 ∷ fs) (drop 1 ls) s (cond (isNumber f) (getD vs 0 0) 0) (drop 1 vs) (drop 1 ps) a in
-    let u = cond (isNumber 110) (getD (drop 1 vs) 0 0) (cond (isNumber f) (getD vs 0 0) 0) in
-    let c = limits-rest g (110 ∷ fs) (drop 1 (drop 1 ls)) s u (drop 1 (drop 1 vs)) (drop 1 (drop 1 ps)) b in
-    subst (λ (k : ℕ). Ranged (getD (drop 1 (drop 1 (drop 1 ls))) 0 free) k)
-    (getD-next (drop 1 (drop 1 vs)) 0 ∙ getD-next (drop 1 vs) 1 ∙ getD-next vs 2)
-    (number-within fs (drop 1 (drop 1 (drop 1 ls))) s (cond (isNumber g) (getD (drop 1 (drop 1 vs)) 0 0) u) (drop 1 (drop 1 (drop 1 vs)))
-    (drop 1 (drop 1 (drop 1 ps))) c)
-
--- ---- every row: a session keeps the numbers of Q, q, R and P
+-- ---- every row: a session keeps the numbers of Q, q, R and P, and a call reads as many bytes as GM says
 
 ranges : Each (Told (λ rows s. ranged rows)) forms
 unfolding spread inOrder
 ranges =
-    (λ rows s vs ps h. one-number 81 (44 ∷ 110 ∷ []) (boundsOf LENGTH rows) s vs ps h)
-    & (λ rows s vs ps h. one-number 113 [] (boundsOf WIDTH rows) s vs ps h)
-    & (λ rows s vs ps h. (one-number 82 (44 ∷ 110 ∷ []) (boundsOf ORIGIN rows) s vs ps h, two-numbers 82 44 [] (boundsOf ORIGIN rows) s vs ps h))
+    (λ rows s vs ps h. number-behind (81 ∷ []) (44 ∷ 110 ∷ []) (boundsOf LENGTH rows) s 0 vs ps h)
+    & (λ rows s vs ps h. number-behind (113 ∷ []) [] (boundsOf WIDTH rows) s 0 vs ps h)
+    & (λ rows s vs ps h. (number-behind (82 ∷ []) (44 ∷ 110 ∷ []) (boundsOf ORIGIN rows) s 0 vs ps h, number-behind (82 ∷ 110 ∷ 44 ∷ []) [] (boundsOf ORIGIN rows) s 0 vs ps h))
     & (λ rows s vs ps h. tt)
     & (λ rows s vs ps h. tt)
     & (λ rows s vs ps h. tt)
@@ -127,13 +119,13 @@ ranges =
     & (λ rows s vs ps h. tt)
     & (λ rows s vs ps h. tt)
     & (λ rows s vs ps h. tt)
+    & (λ rows s vs ps h. number-behind (71 ∷ 77 ∷ 97 ∷ 44 ∷ []) [] (boundsOf GM rows) s 0 vs ps h)
     & (λ rows s vs ps h. tt)
     & (λ rows s vs ps h. tt)
     & (λ rows s vs ps h. tt)
     & (λ rows s vs ps h. tt)
     & (λ rows s vs ps h. tt)
-    & (λ rows s vs ps h. tt)
-    & (λ rows s vs ps h. one-number 80 [] (boundsOf PRINT rows) s vs ps h)
+    & (λ rows s vs ps h. number-behind (80 ∷ []) [] (boundsOf PRINT rows) s 0 vs ps h)
     & (λ rows s vs ps h. tt)
     & (λ k rows s vs ps h. tt)
 

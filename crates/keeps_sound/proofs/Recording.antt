@@ -14,7 +14,7 @@ use Rattle.finding.specs.declared.Found.{Found}
 use Rattle.finding.specs.declared.Found.the-variants.{At}
 use Rattle.store.specs.Chain.{needed, freeCount}
 use Rattle.store.specs.Entry.{entries, entry, kind, name, size}
-use Rattle.finding.specs.Find.{isRecording, recorded}
+use Rattle.finding.specs.Find.{isAt, isRecording, recorded}
 use Rattle.finding.proofs.Finding.{at-says}
 use Rattle.memory.specs.Memory.{memory}
 use Rattle.room.specs.Room.{canGrow}
@@ -40,7 +40,7 @@ use Rattle.normal.proofs.Short.{normal-short}
 use Rattle.recording.specs.declared.Verdict.{Verdict}
 use Rattle.recording.specs.declared.Verdict.the-variants.{Taken as Fine, Again as Before, Undeclared as Unknown, Past as Reaches, Unfit as Wrong}
 use Rattle.kept_line.specs.declared.Stored.the-variants.{Holds, Nothing as NoItem}
-use Rattle.recording.specs.Judged.{isAt, judged, isTaken as isFine}
+use Rattle.recording.specs.Judged.{judged, isTaken as isFine}
 use Rattle.forms.specs.Form.{formOk, declaredOf, takesStored, takes}
 use Rattle.kept_line.specs.Held.{itemIn, heldRead}
 use Rattle.forms.proofs.Growing.{formOk-grows}

@@ -12,7 +12,7 @@ use Rattle.finding.specs.declared.Found.{Found}
 use Rattle.finding.specs.declared.Found.the-variants.{At, Nothing}
 use Rattle.store.specs.Chain.{freeCount}
 use Rattle.store.specs.Entry.{entries, entry, kind}
-use Rattle.finding.specs.Find.{isEmpty, recorded}
+use Rattle.finding.specs.Find.{isAt, isEmpty, recorded}
 use Rattle.room.specs.Room.{lowestEntry, hasRoom}
 use Rattle.starting.specs.Start.{begun}
 use Rattle.growing.specs.Keep.{kept}
@@ -29,7 +29,6 @@ use Rattle.grammar.specs.declared.PictureCommand.the-variants.{Store}
 use Rattle.read.specs.declared.Read.the-variants.{Taken as Reads}
 use Rattle.read.specs.Commands.{readOf}
 use Rattle.parts.specs.Names.{packedOf}
-use Rattle.recording.specs.Judged.{isAt}
 use Rattle.forms.proofs.Growing.{formOk-empty}
 use Rattle.session.specs.declared.Session.{Session}
 use Rattle.free_number.specs.After.{afterStored}

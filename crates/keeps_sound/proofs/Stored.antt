@@ -13,7 +13,7 @@ use Rattle.cells.specs.Cell.{cell}
 use Rattle.cells.proofs.Counts.{all-at, all-of}
 use Rattle.store.specs.Chain.{freeCount}
 use Rattle.store.specs.Entry.{entries, entry, kind, ofKind}
-use Rattle.finding.specs.Find.{recorded}
+use Rattle.finding.specs.Find.{isAt, recorded}
 use Rattle.contents.specs.Content.{contentOf}
 use Rattle.memory.specs.Memory.{Memory}
 use Rattle.store_sound.specs.Sound.{lentOk, storeSound}
@@ -29,13 +29,12 @@ use Rattle.counter_steps.specs.Steps.{lasts}
 use Rattle.values.specs.Sound.{allSet}
 use Rattle.values.proofs.Sound.{sound-none}
 use Rattle.forms.specs.Form.{formOk, declaredOf, picturesStored}
-use Rattle.recording.specs.Judged.{isAt}
 use Rattle.sound.specs.Sound.{numbersOk, activeBytes}
 use Rattle.content_check.specs.Contents.{contentOk, contentsOk}
 use Rattle.activity_check.specs.Activity.{activeOk, valuesOk, countsOk, owedOk, activitySound}
 use Rattle.session.specs.declared.Session.{Session}
 use Rattle.session.specs.Session.{roomed, activated}
-use Rattle.lent.specs.Lent.{World, pageWrong, storeWrong, lengthsWrong}
+use Rattle.lent.specs.Lent.{World, pageWrong, linksWrong, storeWrong, lengthsWrong}
 use Rattle.results.specs.World.{memoryOf, withMemory, unsetIn}
 use Rattle.results.proofs.Answers.{or-none}
 use Rattle.ground.proofs.Tests.{same?, or-second, and-left, and-right, and-both, either}
@@ -211,11 +210,11 @@ or-neither : (a b : Bool) → a ≡ false → b ≡ false → (a || b) ≡ false
 or-neither a b e f = rw (e, f)
 
 store-right : (store links directory : List ℕ) → lentOk store links directory ≡ true → storeWrong (length store) (length links) ≡ false
-unfolding storeWrong lentOk
+unfolding linksWrong storeWrong lentOk
 store-right store links directory h =
     let some : 1 ≤ length links = leb-true _ _ (and-left (leb 1 (length links)) _ (and-right (leb (length links) 2024) _ h)) in
-    or-neither _ _ (le-ltb 2024 (length links) (lent-few store links directory h))
-    (or-neither _ _ (ne-eqb (length links) 0 (λ z. omega arith)) (ap not (eq-eqb (length store) (length links * 256) (lent-store store links directory h))))
+    or-neither _ _ (or-neither _ _ (le-ltb 2024 (length links) (lent-few store links directory h)) (ne-eqb (length links) 0 (λ z. omega arith)))
+    (ap not (eq-eqb (length store) (length links * 256) (lent-store store links directory h)))
 
 -- lengths stay right: those of the page and the values are the same, those of the store are right in any sound store
 pub lengths-stay : (b v : ℕ) (store links directory store′ links′ directory′ : List ℕ)

@@ -1,7 +1,7 @@
 -- The name under which FS and GM store: a line that is read gives one that an entry may bear.
 -- Assumes nothing.
 use mathlib.Core.Path.{_≡_, refl, sym, ap, _∙_, subst}
-use mathlib.Core.Bool.{Bool, true, false, not, cond, _&&_, _||_, true≢false, false≢true, and-false}
+use mathlib.Core.Bool.{Bool, true, false, not, cond, _&&_, _||_, false≢true, and-false}
 use mathlib.Core.List.{List, [], _∷_}
 use mathlib.Core.Logic.{⊎-elim}
 use Prim.Native.Nat.{ℕ, zero, suc, _+_, _≤_, _<_}
@@ -66,7 +66,7 @@ unfolding legal-case
 capital-legal b h = rw h at (all-at legal-case 127 all-legal b (name-small b h))
 
 -- a legal byte is no zero
-legal-some : (c : ℕ) → legalByte c ≡ true → c ≡ 0 → ⊥
+pub legal-some : (c : ℕ) → legalByte c ≡ true → c ≡ 0 → ⊥
 unfolding legalByte
 legal-some c h e = false≢true (rw e at h)
 
@@ -82,30 +82,31 @@ run-at k (b ∷ bs) i h = go (inClass k b) refl i h (run-at k bs)
     go true e (suc i) h r = r i (omega arith)
     go false e i h r = absurd (omega arith)
 
+-- eight bytes that a function gives
+pub eight-at : (f : ℕ → ℕ) (k : ℕ) → k < 8 → getD (f 0 ∷ f 1 ∷ f 2 ∷ f 3 ∷ f 4 ∷ f 5 ∷ f 6 ∷ f 7 ∷ []) k 0 ≡ f k
+eight-at f zero h = refl
+eight-at f (suc zero) h = refl
+eight-at f (suc (suc zero)) h = refl
+eight-at f (suc (suc (suc zero))) h = refl
+eight-at f (suc (suc (suc (suc zero)))) h = refl
+eight-at f (suc (suc (suc (suc (suc zero))))) h = refl
+eight-at f (suc (suc (suc (suc (suc (suc zero)))))) h = refl
+eight-at f (suc (suc (suc (suc (suc (suc (suc zero))))))) h = refl
+eight-at f (suc (suc (suc (suc (suc (suc (suc (suc k)))))))) h = absurd (omega arith)
+
 module _ (s : List ℕ) (p n : ℕ) (some : 1 ≤ n) (few : n ≤ 8) (name : runAt NameByte s (p + 1) ≡ n) where
   abbrev title : List ℕ
   title = packedOf s p n
-
-  title-at : (k : ℕ) → k < 8 → getD title k 0 ≡ nameByte s p n k
-  title-at zero h = refl
-  title-at (suc zero) h = refl
-  title-at (suc (suc zero)) h = refl
-  title-at (suc (suc (suc zero))) h = refl
-  title-at (suc (suc (suc (suc zero)))) h = refl
-  title-at (suc (suc (suc (suc (suc zero))))) h = refl
-  title-at (suc (suc (suc (suc (suc (suc zero)))))) h = refl
-  title-at (suc (suc (suc (suc (suc (suc (suc zero))))))) h = refl
-  title-at (suc (suc (suc (suc (suc (suc (suc (suc k)))))))) h = absurd (omega arith)
 
   title-in : (k : ℕ) → k < n → legalByte (getD title k 0) ≡ true
   unfolding nameByte
   title-in k h =
       let c : inClass NameByte (getD s (p + 1 + k) 0) ≡ true = rw (getD-drop (p + 1) s k 0) at (run-at NameByte (drop (p + 1) s) k (omega arith)) in
-      ap legalByte (title-at k (omega arith) ∙ rw (lt-ltb k n h)) ∙ capital-legal (getD s (p + 1 + k) 0) c
+      ap legalByte (eight-at (nameByte s p n) k (omega arith) ∙ rw (lt-ltb k n h)) ∙ capital-legal (getD s (p + 1 + k) 0) c
 
   title-out : (k : ℕ) → n ≤ k → k < 8 → getD title k 0 ≡ 0
   unfolding nameByte
-  title-out k h l = title-at k l ∙ rw (le-ltb k n h)
+  title-out k h l = eight-at (nameByte s p n) k l ∙ rw (le-ltb k n h)
 
   abbrev isZero : ℕ → Bool
   isZero k = eqb (getD title k 0) 0
@@ -125,7 +126,8 @@ module _ (s : List ℕ) (p n : ℕ) (some : 1 ≤ n) (few : n ≤ 8) (name : run
       absurd (legal-some (getD title (lowest isZero 8) 0) (title-in (lowest isZero 8) l) (eqb-true _ 0 (lowest-passes isZero 8 (omega arith)))))
       (same? (lowest isZero 8) n)
 
-  title-byte : (k : ℕ) → k < 8 → nameByteOk n title k ≡ true
+  -- legal bytes, and zeros behind them
+  pub title-byte : (k : ℕ) → k < 8 → nameByteOk n title k ≡ true
   unfolding nameByteOk
   title-byte k l = ⊎-elim
       (λ (y : ltb k n ≡ true). rw y (title-in k (ltb-true k n y)))
@@ -140,6 +142,7 @@ module _ (s : List ℕ) (p n : ℕ) (some : 1 ≤ n) (few : n ≤ 8) (name : run
 
 pub record Parted (rows : ℕ) (s : List ℕ) (c : Command) : Type 0 where
   pub row : ℕ
+  pub head : headOf s ≡ Row row
   pub vs : List ℕ
   pub ps : List ℕ
   pub read : fieldsFrom (rowOf row .fields) s 0 ≡ good vs ps
@@ -148,20 +151,20 @@ pub record Parted (rows : ℕ) (s : List ℕ) (c : Command) : Type 0 where
 
 pub line-parted : (rows : ℕ) (s : List ℕ) (c : Command) → readOf rows s ≡ Reads c → Parted rows s c
 unfolding readOf headed judged
-line-parted rows s c h = go (headOf s) h
+line-parted rows s c h = go (headOf s) refl h
   where
-    within : (row : ℕ) (vs ps : List ℕ) (l : Limits) → fieldsFrom (rowOf row .fields) s 0 ≡ good vs ps
+    within : (row : ℕ) (vs ps : List ℕ) (l : Limits) → headOf s ≡ Row row → fieldsFrom (rowOf row .fields) s 0 ≡ good vs ps
         → limitsFrom (rowOf row .fields) (boundsOf row rows) s 0 vs ps ≡ l → decided l (commandOf row s vs ps) ≡ Reads c → Parted rows s c
-    within row vs ps Within b e d = record { row = row; vs = vs; ps = ps; read = b; within = e; command = cc }
-    within row vs ps (Outside p) b e d = absurd (let z : _≡_ {A = ℕ} 0 1 = cc in omega arith)
+    within row vs ps Within a b e d = record { row = row; head = a; vs = vs; ps = ps; read = b; within = e; command = cc }
+    within row vs ps (Outside p) a b e d = absurd (let z : _≡_ {A = ℕ} 0 1 = cc in omega arith)
 
-    fields : (row : ℕ) (g : Got) → fieldsFrom (rowOf row .fields) s 0 ≡ g → judged row rows s g ≡ Reads c → Parted rows s c
-    fields row (good vs ps) b d = within row vs ps (limitsFrom (rowOf row .fields) (boundsOf row rows) s 0 vs ps) b refl d
-    fields row (bad vs ps p) b d = absurd (let z : _≡_ {A = ℕ} 0 1 = cc in omega arith)
+    fields : (row : ℕ) (g : Got) → headOf s ≡ Row row → fieldsFrom (rowOf row .fields) s 0 ≡ g → judged row rows s g ≡ Reads c → Parted rows s c
+    fields row (good vs ps) a b d = within row vs ps (limitsFrom (rowOf row .fields) (boundsOf row rows) s 0 vs ps) a b refl d
+    fields row (bad vs ps p) a b d = absurd (let z : _≡_ {A = ℕ} 0 1 = cc in omega arith)
 
-    go : (x : Head) → headed x rows s ≡ Reads c → Parted rows s c
-    go (Row row) d = fields row (fieldsFrom (rowOf row .fields) s 0) refl d
-    go Unknown d = absurd (let z : _≡_ {A = ℕ} 0 1 = cc in omega arith)
+    go : (x : Head) → headOf s ≡ x → headed x rows s ≡ Reads c → Parted rows s c
+    go (Row row) a d = fields row (fieldsFrom (rowOf row .fields) s 0) a refl d
+    go Unknown a d = absurd (let z : _≡_ {A = ℕ} 0 1 = cc in omega arith)
 
 -- what the limits of a row tell of the command that its fields make, for each row
 abbrev pub Told : (ℕ → List ℕ → Command → Type 0) → ℕ → Form → Type 0
@@ -271,11 +274,17 @@ titles =
     & (λ rows s vs ps h. tt)
     & (λ k rows s vs ps h. tt)
 
+pub start-named : (rows : ℕ) (s : List ℕ) (n : Named) → readOf rows s ≡ Reads (Forms (Start n)) → Name s (n .at) (n .length)
+start-named rows s n h = limits-tell Titled titles rows s (Forms (Start n)) h
+
+pub store-named : (rows : ℕ) (s : List ℕ) (x : StorePicture) → readOf rows s ≡ Reads (Pictures (Store x)) → Name s (x .at) (x .length)
+store-named rows s x h = limits-tell Titled titles rows s (Pictures (Store x)) h
+
 name-title : (s : List ℕ) (p n : ℕ) → Name s p n → titleOk (packedOf s p n) ≡ true
 name-title s p n a = title-legal s p n (a .some) (a .few) (a .bytes)
 
 pub start-title : (rows : ℕ) (s : List ℕ) (n : Named) → readOf rows s ≡ Reads (Forms (Start n)) → titleOk (packedOf s (n .at) (n .length)) ≡ true
-start-title rows s n h = name-title s (n .at) (n .length) (limits-tell Titled titles rows s (Forms (Start n)) h)
+start-title rows s n h = name-title s (n .at) (n .length) (start-named rows s n h)
 
 pub store-title : (rows : ℕ) (s : List ℕ) (x : StorePicture) → readOf rows s ≡ Reads (Pictures (Store x)) → titleOk (packedOf s (x .at) (x .length)) ≡ true
-store-title rows s x h = name-title s (x .at) (x .length) (limits-tell Titled titles rows s (Pictures (Store x)) h)
+store-title rows s x h = name-title s (x .at) (x .length) (store-named rows s x h)

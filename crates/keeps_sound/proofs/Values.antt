@@ -16,7 +16,7 @@ use Rattle.cells.proofs.Scan.{lowest-passes, lowest-before}
 use Rattle.finding.specs.declared.Found.{Found}
 use Rattle.finding.specs.declared.Found.the-variants.{At, Nothing}
 use Rattle.store.specs.Entry.{entries, entry, kind, ofKind}
-use Rattle.finding.specs.Find.{isRecording, recorded, sameName, titled, titledAt}
+use Rattle.finding.specs.Find.{isAt, isRecording, recorded, sameName, titled, titledAt}
 use Rattle.finding.proofs.Finding.{at-says, nothing-says}
 use Rattle.declarations.specs.declared.Declared.{Declared}
 use Rattle.declarations.specs.declared.Entered.the-variants.{Taken as Enters, Undeclared as NotDeclared, Unfit as DoesNotFit}
@@ -40,7 +40,6 @@ use Rattle.read.specs.declared.Read.the-variants.{Taken as Reads}
 use Rattle.read.specs.Commands.{readOf}
 use Rattle.parts.specs.Names.{packedOf}
 use Rattle.forms.specs.Form.{picturesStored}
-use Rattle.recording.specs.Judged.{isAt}
 use Rattle.sound.specs.Sound.{numbersOk}
 use Rattle.activity_check.specs.Activity.{activeOk, owedOk}
 use Rattle.session.specs.declared.Session.{Session}

@@ -33,9 +33,13 @@ rowsOf w = length (w .background) / bytesARow
 unfoldable pub pageWrong : ℕ → Bool
 pageWrong n = not (eqb (n % bytesARow) 0) || (ltb n bytesARow || ltb (mostRows * bytesARow) n)
 
--- "1 to 2,024 portions of 256 bytes", links "one for each portion"
+-- "1 to 2,024 portions", links "one for each portion"
+unfoldable pub linksWrong : ℕ → Bool
+linksWrong links = ltb mostPortions links || eqb links 0
+
+-- "portions of 256 bytes"
 unfoldable pub storeWrong : ℕ → ℕ → Bool
-storeWrong store links = ltb mostPortions links || (eqb links 0 || not (eqb store (links * bytesAPortion)))
+storeWrong store links = linksWrong links || not (eqb store (links * bytesAPortion))
 
 -- "1 to 512 entries of 16 bytes"
 unfoldable pub directoryWrong : ℕ → Bool

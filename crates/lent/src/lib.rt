@@ -5,7 +5,7 @@
 // definition (specs/Lent.antt) says. Font, input and output may be of any length.
 ghost use mathlib.Core.Path.{_≡_};
 ghost use mathlib.Core.Bool.{_||_};
-ghost use Rattle.lent.specs.Lent.{pageWrong, storeWrong, directoryWrong, lengthsWrong};
+ghost use Rattle.lent.specs.Lent.{pageWrong, linksWrong, storeWrong, directoryWrong, lengthsWrong};
 use dots::BYTES_A_ROW;
 use ground::either;
 use store::BYTES_A_PORTION;
@@ -31,18 +31,25 @@ fn page_wrong(n: usize) -> bool
     either(n % BYTES_A_ROW != 0, either(n < BYTES_A_ROW, MOST_PAGE < n))
 }
 
+// Whether there may not be n links.
+pub fn links_wrong(n: usize) -> bool
+    ensures { λ r. ⌜ r ≡ linksWrong n ⌝ }
+{
+    either(MOST_PORTIONS < n, n == 0)
+}
+
 // Whether a store may not have so many bytes beside so many links.
 fn store_wrong(store: usize, links: usize) -> bool
     ensures { λ r. ⌜ r ≡ storeWrong store links ⌝ }
 {
-    if MOST_PORTIONS < links {
+    if links_wrong(links) {
         return true;
     }
-    either(links == 0, store != links * BYTES_A_PORTION)
+    store != links * BYTES_A_PORTION
 }
 
 // Whether a directory may not have n bytes.
-fn directory_wrong(n: usize) -> bool
+pub fn directory_wrong(n: usize) -> bool
     ensures { λ r. ⌜ r ≡ directoryWrong n ⌝ }
 {
     either(

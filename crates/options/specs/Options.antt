@@ -1,4 +1,4 @@
--- The words of the command line: -rows N, -font F, -out PREFIX, -store FILE, -quiet; any other word that starts with `-` is no option.
+-- The words of the command line: -rows N, -font F, -out PREFIX, -store FILE, -quiet, -fits and what is asked; any other word that starts with `-` is no option.
 -- Assumes nothing.
 use Prim.Native.Nat.{ℕ}
 use Prim.Native.Char.{code}
@@ -12,7 +12,11 @@ use Rattle.fields.specs.declared.Field.{Field}
 use Rattle.fields.specs.declared.Field.the-variants.{Is, Not}
 use Rattle.writing.specs.Writing.{equal}
 use Rattle.options.specs.declared.Word.{Word}
-use Rattle.options.specs.declared.Word.the-variants.{Rows, Font, Out, Store, Quiet, Unknown, File}
+use Rattle.options.specs.declared.Word.the-variants.{Rows, Font, Out, Store, Quiet, Fits, Unknown, File}
+use Rattle.options.specs.declared.Number.{Number}
+use Rattle.options.specs.declared.Number.the-variants.{Of, Nothing}
+use Rattle.options.specs.declared.Kind.{Kind}
+use Rattle.options.specs.declared.Kind.the-variants.{Form, Picture, Neither}
 
 unfoldable pub wordOf : List ℕ → Word
 wordOf text =
@@ -21,12 +25,25 @@ wordOf text =
     (cond (equal text (bytes "-out")) Out
     (cond (equal text (bytes "-store")) Store
     (cond (equal text (bytes "-quiet")) Quiet
-    (cond (eqb (getD text 0 0) (code "-")) Unknown File)))))
+    (cond (equal text (bytes "-fits")) Fits
+    (cond (eqb (getD text 0 0) (code "-")) Unknown File))))))
 
--- a number that fills the text and is at most 4,000; 0 stands for none
-abbrev pub rowsFrom : List ℕ → Field → ℕ
-rowsFrom text (Is n end) = cond (ltb end (length text)) 0 (cond (ltb 4000 n) 0 n)
-rowsFrom text (Not at) = 0
+-- a number that fills the text
+abbrev pub wholeFrom : List ℕ → Field → Number
+wholeFrom text (Is n end) = cond (ltb end (length text)) Nothing (Of n)
+wholeFrom text (Not at) = Nothing
+
+unfoldable pub wholeNumber : List ℕ → Number
+wholeNumber text = wholeFrom text (numberAt text 0)
+
+-- one that is at most 4,000; 0 stands for none
+abbrev pub rowsFrom : Number → ℕ
+rowsFrom (Of n) = cond (ltb 4000 n) 0 n
+rowsFrom Nothing = 0
 
 unfoldable pub rowsOf : List ℕ → ℕ
-rowsOf text = rowsFrom text (numberAt text 0)
+rowsOf text = rowsFrom (wholeNumber text)
+
+-- what -fits asks for: `form NAME` or `picture NAME SIZE`
+unfoldable pub kindOf : List ℕ → Kind
+kindOf text = cond (equal text (bytes "form")) Form (cond (equal text (bytes "picture")) Picture Neither)

@@ -7,7 +7,7 @@ use Prim.Native.Nat.{ℕ}
 use Rattle.finding.specs.declared.Found.{Found}
 use Rattle.grammar.specs.declared.Named.{Named}
 use Rattle.grammar.specs.declared.PictureCommand.the-variants.{Erase}
-use Rattle.recording.specs.Judged.{isAt}
+use Rattle.finding.specs.Find.{isAt}
 use Rattle.session.specs.declared.Session.{Session}
 use Rattle.answers.specs.declared.Answer.the-variants.{Taken}
 use Rattle.lent.specs.Lent.{World}

@@ -10,7 +10,7 @@ use Rattle.free_number.specs.After.{afterStored}
 use Rattle.grammar.specs.declared.PictureCommand.{PictureCommand}
 use Rattle.grammar.specs.declared.PictureCommand.the-variants.{Store, Erase}
 use Rattle.parts.specs.Names.{packedOf}
-use Rattle.recording.specs.Judged.{isAt}
+use Rattle.finding.specs.Find.{isAt}
 use Rattle.session.specs.declared.Session.{Session}
 use Rattle.answers.specs.declared.Answer.the-variants.{InUse, Missing, Illegal}
 use Rattle.answers.specs.Answers.{Row, row, answerOf}

@@ -1,14 +1,13 @@
 // The station as a tool: commands from standard input or from files, labels as picture files, and a store that lasts.
 //
 //     press [-rows N] [-font F] [-out PREFIX] [-store FILE] [-quiet] [FILE ..]
+//     press [-rows N] [-store FILE] [-quiet] -fits form NAME | picture NAME SIZE
 //
 // It is thin: what a command does is crate `station`, what is said and what the command line is crate `press_settings`, how the store lasts crate
-// `press_store`, how commands are read crate `press_input`, how labels become files crate `press_labels`. Here is the room that they are lent, and whose turn it is.
-use dots::BYTES_A_ROW;
+// `press_store`, how commands are read crate `press_input`, how labels become files crate `press_labels`, and the question of the second line crate `press_fits`.
+// Here is the room that they are lent, and whose turn it is.
 use ground::front;
-use ground::least;
 use lasting::DIRECTORY_BYTES;
-use lasting::MOST_ROWS;
 use lent::BYTES_OF_VALUES;
 use press_settings::Settings;
 use press_settings::saying;
@@ -135,22 +134,24 @@ fn work(s: Settings, n: usize, known: usize, font: &[u8], file: &mut [u8]) {
     finished(s, last);
 }
 
-// With the font at hand: the run of a store, or of none, with pages of the rows that it has.
+// With the font at hand: the run of a store, or of none.
 fn begin(s: Settings, font: &[u8]) {
-    let mut text = io::buffer();
-    let k = os::arg(s.store, &mut text);
-    let path = front(&text, k);
     let mut file = rooms::file();
-    let known = press_store::found(s, path, &mut file);
-    let rows = press_store::rows(s, path, known, front(&file, known));
-    if rows != 0 {
-        work(
-            s,
-            BYTES_A_ROW * least(rows, MOST_ROWS),
-            known,
-            font,
-            &mut file,
-        );
+    let sizes = press_store::find(s, &mut file);
+    if sizes.page != 0 {
+        work(s, sizes.page, sizes.known, font, &mut file);
+    }
+}
+
+// Commands read and labels drawn, once font and files are found good.
+fn run(s: Settings) {
+    let mut font = [0u8; 32768];
+    let n = press_settings::font(s, &mut font);
+    if n == 0 {
+        return;
+    }
+    if press_settings::readable(s) {
+        begin(s, front(&font, n));
     }
 }
 
@@ -159,12 +160,9 @@ fn main() {
     if !s.good {
         return;
     }
-    let mut font = [0u8; 32768];
-    let n = press_settings::font(s, &mut font);
-    if n == 0 {
-        return;
-    }
-    if press_settings::readable(s) {
-        begin(s, front(&font, n));
+    if s.asked.name == 0 {
+        run(s);
+    } else {
+        press_fits::ask(s);
     }
 }

@@ -1,14 +1,20 @@
 // The command line, the font, the files: each is found good before anything is done.
+use crate::Question;
 use crate::Settings;
 use crate::saying::complain;
 use crate::saying::failed;
 use crate::saying::wrong;
 use ground::capped_sum;
 use ground::front;
+use options::Kind;
+use options::Number;
 use options::Word;
 
 fn usage(s: Settings) -> Settings {
     complain(b"usage: press [-rows N] [-font F] [-out PREFIX] [-store FILE] [-quiet] [FILE ..]\n");
+    complain(
+        b"   or: press [-rows N] [-store FILE] [-quiet] -fits form NAME | picture NAME SIZE\n",
+    );
     let mut bad = s;
     bad.good = false;
     bad.over = true;
@@ -44,6 +50,84 @@ fn name(s: Settings, text: &[u8]) -> Settings {
     next
 }
 
+fn unasked(s: Settings) -> Settings {
+    refuse(
+        s,
+        b"-fits",
+        b" needs form NAME, or picture NAME SIZE with SIZE in 1 to 9 digits\n",
+    )
+}
+
+// What is asked for, where its name can be shown again; so many words tell it.
+fn asked(s: Settings, question: Question, words: usize) -> Settings {
+    let mut text = io::buffer();
+    os::arg(question.name, &mut text);
+    if os::errno() != 0 {
+        return refuse(s, b"a name", b" is too long\n");
+    }
+    let mut next = s;
+    next.asked = question;
+    next.at = capped_sum(s.at, words);
+    next
+}
+
+fn asked_form(s: Settings) -> Settings {
+    let name = capped_sum(s.at, 2);
+    if s.count <= name {
+        return unasked(s);
+    }
+    let question = Question {
+        name: name,
+        picture: false,
+        size: 0,
+    };
+    asked(s, question, 3)
+}
+
+fn asked_picture(s: Settings) -> Settings {
+    let mut text = io::buffer();
+    let n = os::arg(capped_sum(s.at, 3), &mut text);
+    let Number::Of(size) = options::whole_number(front(&text, n)) else {
+        return unasked(s);
+    };
+    let question = Question {
+        name: capped_sum(s.at, 2),
+        picture: true,
+        size: size,
+    };
+    asked(s, question, 4)
+}
+
+// -fits and what is asked for. Of two questions one would go without its answer.
+fn question(s: Settings) -> Settings {
+    if s.asked.name != 0 {
+        return refuse(s, b"-fits", b" asks for one form or picture, not for two\n");
+    }
+    let mut text = io::buffer();
+    let n = os::arg(capped_sum(s.at, 1), &mut text);
+    match options::kind_of(front(&text, n)) {
+        Kind::Form => asked_form(s),
+        Kind::Picture => asked_picture(s),
+        Kind::Neither => unasked(s),
+    }
+}
+
+// The first file of commands, with which the options end. Who asks names none, so that nobody takes its commands for done.
+fn first_file(s: Settings, text: &[u8]) -> Settings {
+    if s.asked.name != 0 {
+        return refuse(
+            s,
+            text,
+            b" is one word too many: -fits reads no commands, and takes no file\n",
+        );
+    }
+    let mut next = s;
+    next.files = s.at;
+    next.several = capped_sum(s.at, 1) < s.count;
+    next.over = true;
+    next
+}
+
 fn option(s: Settings) -> Settings {
     let mut text = io::buffer();
     let n = os::arg(s.at, &mut text);
@@ -74,14 +158,9 @@ fn option(s: Settings) -> Settings {
             next.at = capped_sum(s.at, 1);
             next
         }
+        Word::Fits => question(s),
         Word::Unknown => refuse(s, word, b" is no option\n"),
-        Word::File => {
-            let mut next = s;
-            next.files = s.at;
-            next.several = capped_sum(s.at, 1) < s.count;
-            next.over = true;
-            next
-        }
+        Word::File => first_file(s, word),
     }
 }
 
@@ -93,6 +172,11 @@ pub fn command_line() -> Settings {
         store: 0,
         files: 0,
         count: os::arg_count(),
+        asked: Question {
+            name: 0,
+            picture: false,
+            size: 0,
+        },
         quiet: false,
         several: false,
         good: true,

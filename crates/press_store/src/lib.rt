@@ -1,14 +1,18 @@
 // A run and its store that lasts: found, judged and loaded at the start, saved after each change.
 //
-// What the store's file is, byte by byte, is said in crates `lasting` and `slots`. Here it is opened, read, written and named. A whole new file is on disk
-// before it takes the name of the old one; session and values alone go into the slot that does not hold the last ones.
+// What the store's file is, byte by byte, is said in crates `lasting` and `slots`. Here it is opened, read, written and named. Who only looks at a store finds and
+// loads it, and nothing is written; a run begins from there. A whole new file is on disk before it takes the name of the old one; session and values alone go
+// into the slot that does not hold the last ones.
 pub mod rooms; // room for what is lent
 
+use dots::BYTES_A_ROW;
 use ground::back;
 use ground::both;
 use ground::either;
 use ground::front;
+use ground::least;
 use ground::put;
+use lasting::MOST_ROWS;
 use lasting::Verdict;
 use press_settings::Settings;
 use press_settings::saying::failed;
@@ -39,6 +43,19 @@ pub struct Run {
     pub failed: bool,
 }
 
+// What is found of a store: the bytes of its file, 0 where there is none, and the bytes of a page, 0 where it cannot be used.
+pub struct Sizes {
+    pub known: usize,
+    pub page: usize,
+}
+
+// A store as it is loaded: its session, and the slot that this comes from; good where it may be used.
+pub struct Start {
+    pub session: Session,
+    pub slot: usize,
+    pub good: bool,
+}
+
 // The greatest number of a picture or of a change.
 pub const LAST: u32 = 4294967295;
 
@@ -48,7 +65,7 @@ pub fn next_number(n: u32) -> u32 {
 }
 
 // The bytes of the store file, at the front of a buffer; how many they are. 0 where there is no store or no such file.
-pub fn found(s: Settings, path: &[u8], file: &mut [u8]) -> usize {
+fn found(s: Settings, path: &[u8], file: &mut [u8]) -> usize {
     if s.store == 0 {
         return 0;
     }
@@ -77,7 +94,7 @@ fn refuse(path: &[u8], why: &[u8]) -> usize {
 }
 
 // How many rows the run has; 0 where it cannot be: the file is not a store, and is left as it is.
-pub fn rows(s: Settings, path: &[u8], known: usize, file: &[u8]) -> usize {
+fn rows(s: Settings, path: &[u8], known: usize, file: &[u8]) -> usize {
     let asked = if s.rows == 0 { 800 } else { s.rows };
     if s.store == 0 {
         return asked;
@@ -126,6 +143,19 @@ pub fn rows(s: Settings, path: &[u8], known: usize, file: &[u8]) -> usize {
                 b" is a store of another number of rows than -rows says; it is left as it is\n",
             )
         }
+    }
+}
+
+// The store that the command line names, or a new one: its file in a buffer, and the sizes that follow from it.
+pub fn find(s: Settings, file: &mut [u8]) -> Sizes {
+    let mut text = io::buffer();
+    let k = os::arg(s.store, &mut text);
+    let path = front(&text, k);
+    let known = found(s, path, file);
+    let n = rows(s, path, known, front(file, known));
+    Sizes {
+        known: known,
+        page: BYTES_A_ROW * least(n, MOST_ROWS),
     }
 }
 
@@ -280,17 +310,62 @@ pub fn save(
     save_all(run, n, values, file, &mut next)
 }
 
-// A store that is loaded from slot k: sound, and open for change.
-fn admitted(first: Run, k: usize, session: Session, sound: bool, file: &[u8]) -> Run {
+// A store that is loaded from slot k; one that is not sound is refused.
+fn loaded(s: Settings, k: usize, session: Session, sound: bool) -> Start {
+    if !sound {
+        let mut text = io::buffer();
+        let n = os::arg(s.store, &mut text);
+        wrong(front(&text, n), b" is not sound; it is left as it is\n");
+    }
+    Start {
+        session: session,
+        slot: k,
+        good: sound,
+    }
+}
+
+// The store as it stands, in what is lent: a new one where its file has no bytes, else loaded from the slot that holds. Nothing is written.
+pub fn load(
+    s: Settings,
+    background: &mut [u8],
+    store: &mut [u8],
+    links: &mut [u16],
+    directory: &mut [u8],
+    values: &mut [u8],
+    file: &[u8],
+) -> Start {
+    let mut page = rooms::rows();
+    let n = background.len();
+    let o = opening::open(
+        rooms::cut(&mut page, n),
+        background,
+        store,
+        links,
+        directory,
+        values,
+    );
+    let first = o.session;
+    let Verdict::Good(k) = lasting::judge(file) else {
+        return Start {
+            session: first,
+            slot: 0,
+            good: file.len() == 0,
+        };
+    };
+    lasting::load_body(file, background, store, links, directory);
+    slots::load_values(file, k, values);
+    let held = slots::session_of(file, k);
+    let session = held.roomed(sixteen_bits(store::free_count(links)));
+    let sound = sound::is_sound(session, background, store, links, directory, values);
+    loaded(s, k, session, sound)
+}
+
+// A run from slot k of a store, which is kept open for change.
+fn admitted(first: Run, k: usize, file: &[u8]) -> Run {
     let mut text = io::buffer();
     let n = os::arg(first.store, &mut text);
     let path = front(&text, n);
-    if !sound {
-        wrong(path, b" is not sound; it is left as it is\n");
-        return stopped(first);
-    }
     let mut r = first;
-    r.session = session;
     r.pictures = slots::pictures_of(file, k);
     r.order = slots::order_of(file, k);
     r.kept = os::open_update(path);
@@ -307,30 +382,7 @@ fn admitted(first: Run, k: usize, session: Session, sound: bool, file: &[u8]) ->
     r
 }
 
-// A run of a station that is just opened.
-fn opened(
-    s: Settings,
-    background: &mut [u8],
-    store: &mut [u8],
-    links: &mut [u16],
-    directory: &mut [u8],
-    values: &mut [u8],
-) -> Run {
-    let mut page = rooms::rows();
-    let n = background.len();
-    let o = opening::open(
-        rooms::cut(&mut page, n),
-        background,
-        store,
-        links,
-        directory,
-        values,
-    );
-    let session = o.session;
-    idle(s, session)
-}
-
-// The run as it begins: with no store, with a new one, or with one that is loaded from the slot that holds.
+// The run as it begins: with no store, with a new one, which is made, or with one that is loaded.
 pub fn begin(
     s: Settings,
     known: usize,
@@ -341,7 +393,20 @@ pub fn begin(
     values: &mut [u8],
     file: &mut [u8],
 ) -> Run {
-    let first = opened(s, background, store, links, directory, values);
+    let start = load(
+        s,
+        background,
+        store,
+        links,
+        directory,
+        values,
+        front(file, known),
+    );
+    let session = start.session;
+    let first = idle(s, session);
+    if !start.good {
+        return stopped(first);
+    }
     if known == 0 {
         return save(
             first,
@@ -354,13 +419,5 @@ pub fn begin(
             file,
         );
     }
-    let Verdict::Good(k) = lasting::judge(front(file, known)) else {
-        return stopped(first);
-    };
-    lasting::load_body(file, background, store, links, directory);
-    slots::load_values(file, k, values);
-    let held = slots::session_of(file, k);
-    let session = held.roomed(sixteen_bits(store::free_count(links)));
-    let sound = sound::is_sound(session, background, store, links, directory, values);
-    admitted(first, k, session, sound, file)
+    admitted(first, start.slot, file)
 }

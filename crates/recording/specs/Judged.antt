@@ -13,9 +13,7 @@ use Rattle.declarations.specs.Declarations.{variableDeclared, counterDeclared, 
 use Rattle.elements.specs.Elements.{elements}
 use Rattle.reach.specs.Answers.{dataAnswer}
 use Rattle.summary.specs.Summary.{judged as fitAlways}
-use Rattle.finding.specs.declared.Found.{Found}
-use Rattle.finding.specs.declared.Found.the-variants.{At, Nothing as Absent}
-use Rattle.finding.specs.Find.{titledAt}
+use Rattle.finding.specs.Find.{isAt, titledAt}
 use Rattle.parts.specs.Names.{packedOf}
 use Rattle.grammar.specs.Named.{DECLARED-AT}
 use Rattle.grammar.specs.declared.Item.{Item}
@@ -76,11 +74,6 @@ isTaken (Past p) = false
 isTaken (Unfit p) = false
 
 -- ---- its picture
-
--- an entry was found
-abbrev pub isAt : Found → Bool
-isAt (At i) = true
-isAt Absent = false
 
 -- [11] "name not found", of GG: the picture that an item draws is stored; what draws none asks for none
 unfoldable pub hasPicture : List ℕ → List ℕ → Item → Bool

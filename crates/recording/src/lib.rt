@@ -5,12 +5,12 @@
 // after any declarations. What fit data is stands in crate `fitness`, what a whole form says in crate `forms`.
 ghost use mathlib.Core.Path.{_≡_};
 ghost use mathlib.Core.Bool.{true, cond};
-ghost use Rattle.finding.specs.Find.{titledAt};
+ghost use Rattle.finding.specs.Find.{isAt, titledAt};
 ghost use Rattle.parts.specs.Names.{packedOf};
 ghost use Rattle.grammar.specs.Named.{DECLARED-AT};
-ghost use Rattle.recording.specs.Judged.{judgedData, judged, declares, declaration, isTaken, isAt, hasPicture};
+ghost use Rattle.recording.specs.Judged.{judgedData, judged, declares, declaration, isTaken, hasPicture};
 use declarations::Declared;
-use finding::Found;
+use finding::is_at;
 use fitness::Judgement;
 use grammar::Item;
 use grammar::row::DECLARED_AT;
@@ -85,11 +85,7 @@ pub fn is_declaration(item: Item) -> bool
 fn has_named(directory: &[u8], line: &[u8], at: usize, length: usize) -> bool
     ensures { λ r. ⌜ r ≡ isAt (titledAt (now (directory .entry)) true (packedOf (now (line .entry)) at length)) ⌝ }
 {
-    let found = finding::find(directory, true, parts::packed(line, at, length));
-    match found {
-        Found::At(_) => true,
-        Found::Nothing => false,
-    }
+    is_at(finding::find(directory, true, parts::packed(line, at, length)))
 }
 
 // The picture that an item draws is stored; what draws none asks for none.

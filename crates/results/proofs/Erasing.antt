@@ -8,7 +8,7 @@ use Rattle.finding.specs.declared.Found.{Found}
 use Rattle.finding.specs.declared.Found.the-variants.{At, Nothing}
 use Rattle.memory.specs.Memory.{Memory}
 use Rattle.grammar.specs.declared.Named.{Named}
-use Rattle.recording.specs.Judged.{isAt}
+use Rattle.finding.specs.Find.{isAt}
 use Rattle.session.specs.declared.Session.{Session}
 use Rattle.answers.specs.declared.Answer.the-variants.{Missing}
 use Rattle.answers.specs.Answers.{row, answerOf, isTaken, numberOf}

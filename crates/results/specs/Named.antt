@@ -6,11 +6,10 @@ use mathlib.Core.List.{List}
 use Rattle.store.specs.Entry.{entry}
 use Rattle.finding.specs.declared.Found.{Found}
 use Rattle.finding.specs.declared.Found.the-variants.{At, Nothing}
-use Rattle.finding.specs.Find.{titledAt}
+use Rattle.finding.specs.Find.{isAt, titledAt}
 use Rattle.erasing.specs.Erase.{erasedAt, erasedAll}
 use Rattle.grammar.specs.declared.Named.{Named}
 use Rattle.parts.specs.Names.{packedOf}
-use Rattle.recording.specs.Judged.{isAt}
 use Rattle.session.specs.declared.Session.{Session}
 use Rattle.session.specs.Session.{noForm, sixteenBits}
 use Rattle.free_number.specs.After.{afterErased, afterErasedAll}

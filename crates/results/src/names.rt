@@ -2,13 +2,13 @@
 ghost use mathlib.Core.Path.{_≡_};
 ghost use mathlib.Core.Bool.{not, _&&_};
 ghost use mathlib.Core.List.{[]};
-ghost use Rattle.finding.specs.Find.{titledAt};
+ghost use Rattle.finding.specs.Find.{isAt, titledAt};
 ghost use Rattle.parts.specs.Names.{packedOf};
-ghost use Rattle.recording.specs.Judged.{isAt};
 ghost use Rattle.lent.specs.Lent.{world};
 ghost use Rattle.results.specs.World.{state};
 ghost use Rattle.results.specs.Named.{placeOf, erasedNamed, erasedEvery};
 use finding::Found;
+use finding::is_at;
 use free_number::after_erased;
 use free_number::after_erased_all;
 use grammar::Named;
@@ -16,15 +16,6 @@ use parts::packed;
 use session::NO_FORM;
 use session::Session;
 use session::sixteen_bits;
-
-pub fn is_at(found: Found) -> bool
-    ensures { λ r. ⌜ r ≡ isAt found ⌝ }
-{
-    match found {
-        Found::At(_) => true,
-        Found::Nothing => false,
-    }
-}
 
 // The entry of a form, or of a picture, by the name that a command gives.
 pub fn entry_of(directory: &[u8], picture: bool, line: &[u8], n: Named) -> Found

@@ -2,10 +2,10 @@
 //
 // `calls.bin` is a row of records, all numbers low byte first. A record starts with its letter. `S fill` is a new desk: every byte of every slice is
 // fill, each link fill * 257, the counts 0. `F length bytes` is the font from now on. `K slice at byte` changes one byte between calls (slice 0
-// session, 4 background, 5 store, 6 links as bytes, 7 directory, 8 values). `O`, `C` and `L` are the three calls, with the lengths of session, counts,
-// page, background, store, links, directory, values and output; after them `C` has the length of its input and the input. A desk has room for more
-// than a call is lent. `stdout` has a line for each call: its number, the answer, the three counts, and a digest of all slices, the room beyond what was
-// lent included. Both files are those of peer/vectors.
+// session, 4 background, 5 store, 6 links as bytes, 7 directory, 8 values). `O`, `C`, `L` and `W` (will it fit?) are the four calls, with the lengths of
+// session, counts, page, background, store, links, directory, values and output; after them `C` has the length of its input and the input, and `W` the kind, the
+// size in 8 bytes, the length of the name and the name. A desk has room for more than a call is lent. `stdout` has a line for each call: its number, the answer,
+// the three counts, and a digest of all slices, the room beyond what was lent included. Both files are those of peer/vectors.
 mod one_call; // one call
 
 use file_parts::part;
@@ -17,6 +17,7 @@ use try_desk::Desk;
 use try_desk::changed;
 use try_desk::line;
 use try_desk::new_desk;
+use try_desk::without_counts;
 
 // The desk, where the next record stands, how many calls were made, and where the font stands.
 struct Progress {
@@ -44,18 +45,27 @@ fn font(r: Progress, record: &[u8]) -> Progress {
 
 // How many bytes the record of a call takes.
 fn size(record: &[u8]) -> usize {
-    if byte(record, 0) == b'C' {
-        return 21 + two_at(record, 19) as usize;
+    match byte(record, 0) {
+        b'C' => 21 + two_at(record, 19) as usize,
+        b'W' => 30 + two_at(record, 28) as usize,
+        _ => 19,
     }
-    19
 }
 
-// O, C and L
+// What a line shows of a desk: a question is lent no counts, and has none to show.
+fn shown(record: &[u8], after: Desk) -> Desk {
+    if byte(record, 0) == b'W' {
+        return without_counts(after);
+    }
+    after
+}
+
+// O, C, L and W
 fn called(file: &[u8], r: Progress, record: &[u8]) -> Progress {
     let desk = r.desk;
     let after = call(record, part(file, r.font, r.length), desk);
     let calls = ground::capped_sum(r.calls, 1);
-    line(calls, after);
+    line(calls, shown(record, after));
     let mut next = moved(r, size(record));
     next.desk = after;
     next.calls = calls;

@@ -1,6 +1,8 @@
 // One call, with the lengths and the input that its record gives.
+use file_parts::four_at;
 use file_parts::part;
 use file_parts::two_at;
+use ground::back;
 use ground::byte;
 use ground::front;
 use ground::least;
@@ -120,10 +122,35 @@ fn label(record: &[u8], font: &[u8], d: Desk) -> Desk {
     after
 }
 
+// A size of 8 bytes, low byte first.
+fn eight_at(record: &[u8], at: usize) -> u64 {
+    let low = four_at(record, at) as u64;
+    let high = four_at(back(record, at), 4) as u64;
+    low + 4294967296 * high
+}
+
+fn fits(record: &[u8], d: Desk) -> Desk {
+    let session = d.session;
+    let links = d.links;
+    let directory = d.directory;
+    let answer = face::station_fits(
+        shown(record, 1, &session),
+        shown_links(record, &links),
+        shown(record, 13, &directory),
+        byte(record, 19),
+        part(record, 30, two_at(record, 28) as usize),
+        eight_at(record, 20),
+    );
+    let mut after = d;
+    after.answer = answer;
+    after
+}
+
 pub(crate) fn call(record: &[u8], font: &[u8], d: Desk) -> Desk {
     match byte(record, 0) {
         b'O' => open(record, d),
         b'C' => command(record, font, d),
+        b'W' => fits(record, d),
         _ => label(record, font, d),
     }
 }

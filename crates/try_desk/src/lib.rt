@@ -61,6 +61,12 @@ pub fn new_desk(fill: u8) -> Desk {
     }
 }
 
+pub fn without_counts(d: Desk) -> Desk {
+    let mut after = d;
+    after.counts = [0u64; COUNTS];
+    after
+}
+
 // A link with its low or its high byte changed.
 fn changed_link(link: u16, high: bool, b: u8) -> u16 {
     if high {

@@ -36,7 +36,7 @@ use Rattle.answers.specs.declared.Answer.the-variants.{
   Overlong,
   NoneOwed,
 }
-use Rattle.words.specs.Words.{wordsOf, leadOf, reasonOf, saidOf, blanks, markOf}
+use Rattle.words.specs.Words.{wordsOf, leadOf, numberWord, reasonOf, saidOf, blanks, markOf}
 
 length-blanks : (n : ℕ) → length (blanks n) ≡ n
 length-blanks n = length-replicate n (code " ")
@@ -55,7 +55,7 @@ mark-under k a line h =
 
 -- number and words of an answer take at most 64 bytes
 pub reason-short : (a : Answer) → length (reasonOf a) ≤ 64
-unfolding reasonOf wordsOf numberOf digits
+unfolding numberWord reasonOf wordsOf numberOf digits
 reason-short Taken = omega arith
 reason-short Lengths = omega arith
 reason-short Font = omega arith

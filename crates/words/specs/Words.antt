@@ -1,6 +1,8 @@
--- The answers in words, the line of a call, the mark under a line that is refused, and what is left where there is no room. Assumes nothing.
+-- The answers in words, the line of a call, the mark under a line that is refused, what is left where there is no room, and whether something fits.
+-- Assumes nothing.
 use Prim.Native.Nat.{ℕ, _+_, min}
 use Prim.Native.Char.{code}
+use mathlib.Core.Bool.{Bool, cond}
 use mathlib.Core.List.{List, [], _++_}
 use lib.ListN.{length, replicate}
 use Rattle.kinds.specs.Text.{bytes}
@@ -9,7 +11,7 @@ use Rattle.store.specs.Entry.{entries}
 use Rattle.room.specs.Room.{emptyCount}
 use Rattle.writing.specs.Writing.{decimal}
 use Rattle.sentences.specs.Texts.{numbered}
-use Rattle.answers.specs.Answers.{numberOf, placeOf}
+use Rattle.answers.specs.Answers.{numberOf, placeOf, isTaken}
 use Rattle.answers.specs.declared.Answer.{Answer}
 use Rattle.answers.specs.declared.Answer.the-variants.{
   Taken,
@@ -69,9 +71,13 @@ wordsOf NoneOwed = bytes "no label is owed"
 unfoldable pub leadOf : ℕ → List ℕ
 leadOf k = numbered (bytes "line ") k ++ bytes ": "
 
+-- `A, `
+unfoldable pub numberWord : Answer → List ℕ
+numberWord a = decimal (numberOf a) ++ bytes ", "
+
 -- `A, WORDS: `
 unfoldable pub reasonOf : Answer → List ℕ
-reasonOf a = decimal (numberOf a) ++ (bytes ", " ++ (wordsOf a ++ bytes ": "))
+reasonOf a = numberWord a ++ (wordsOf a ++ bytes ": ")
 
 -- `line K: A, WORDS: LINE`
 unfoldable pub saidOf : ℕ → Answer → List ℕ → List ℕ
@@ -90,8 +96,30 @@ markOf k a = leadOf k ++ (blanks (length (reasonOf a) + min 255 (placeOf a)) ++ 
 unfoldable pub shareOf : ℕ → ℕ → List ℕ → List ℕ
 shareOf n m text = numbered [] n ++ (numbered (bytes " of ") m ++ text)
 
--- paper 02, §5: "Which kind of full?": the same lead again, and how much is left of both: `F of P portions are free, E of D entries are empty`
+-- how much is left of both: `F of P portions are free, E of D entries are empty`
+unfoldable pub sharesOf : List ℕ → List ℕ → List ℕ
+sharesOf links directory =
+    shareOf (freeCount links) (length links) (bytes " portions are free, ") ++ shareOf (emptyCount directory) (entries directory) (bytes " entries are empty\n")
+
+-- paper 02, §5: "Which kind of full?": the same lead again, and how much is left
 unfoldable pub leftOf : ℕ → List ℕ → List ℕ → List ℕ
-leftOf k links directory =
-    leadOf k
-    ++ (shareOf (freeCount links) (length links) (bytes " portions are free, ") ++ shareOf (emptyCount directory) (entries directory) (bytes " entries are empty\n"))
+leftOf k links directory = leadOf k ++ sharesOf links directory
+
+-- paper 02, §7: "Will it fit?": what is asked for leads, `form NAME: ` or `picture NAME, SIZE bytes: `, the name as it was given
+unfoldable pub askedOf : Bool → List ℕ → ℕ → List ℕ
+askedOf picture name size =
+    cond picture
+    (bytes "picture " ++ (name ++ (numbered (bytes ", ") size ++ bytes " bytes: ")))
+    (bytes "form " ++ (name ++ bytes ": "))
+
+-- the words of its answer: those of the table, but nothing was taken
+unfoldable pub fitWords : Answer → List ℕ
+fitWords a = cond (isTaken a) (bytes "it fits") (wordsOf a)
+
+-- `form NAME: A, WORDS`
+unfoldable pub fitsOf : Bool → List ℕ → ℕ → Answer → List ℕ
+fitsOf picture name size a = askedOf picture name size ++ (numberWord a ++ (fitWords a ++ bytes "\n"))
+
+-- the same lead again, and how much is left
+unfoldable pub fitsLeftOf : Bool → List ℕ → ℕ → List ℕ → List ℕ → List ℕ
+fitsLeftOf picture name size links directory = askedOf picture name size ++ sharesOf links directory

@@ -2,15 +2,32 @@
 //
 // Paper 01's table gives each answer a number; specs/Words.antt gives it its words, and the line `line K: A, WORDS: LINE`. Under a line that is refused with
 // a place a second one has a mark; it stands under its byte (proofs/Marks.antt, `mark-under`). Under a line that is refused because portions or entries ran out a
-// second one says how much is left of both. Each function writes the text of its definition into a buffer, as far as there is room, and answers the place after it.
+// second one says how much is left of both. Who asks whether something fits is answered in the same words behind another lead, `form NAME: ` or
+// `picture NAME, SIZE bytes: `. Each function writes the text of its definition into a buffer, as far as there is room, and answers the place after it.
 ghost use mathlib.Core.Path.{_≡_};
 ghost use Prim.Native.Nat.{_+_, min};
 ghost use lib.ListN.{length, drop};
 ghost use Rattle.writing.specs.Writing.{Wrote};
 ghost use Rattle.answers.specs.Answers.{placeOf};
-ghost use Rattle.words.specs.Words.{wordsOf, leadOf, reasonOf, saidOf, blanks, markOf, shareOf, leftOf};
+ghost use Rattle.words.specs.Words.{
+  wordsOf,
+  leadOf,
+  numberWord,
+  reasonOf,
+  saidOf,
+  blanks,
+  markOf,
+  shareOf,
+  sharesOf,
+  leftOf,
+  askedOf,
+  fitWords,
+  fitsOf,
+  fitsLeftOf,
+};
 ghost use Rattle.words.specs.Lines.{linesLeft, fromLine, lineOf};
 use answers::Answer;
+use answers::is_taken;
 use answers::number;
 use answers::place;
 use classes::Class;
@@ -100,12 +117,19 @@ fn put_lead(k: usize, out: &mut [u8]) -> usize
     put(out, colon, b": ")
 }
 
+// `A, `
+fn put_number(a: Answer, out: &mut [u8], at: usize) -> usize
+    ensures { λ r. ⌜ Wrote (now (out .entry)) at (numberWord a) r (now (out .exit)) ⌝ }
+{
+    let comma = put_decimal(number(a) as usize, out, at);
+    put(out, comma, b", ")
+}
+
 // `A, WORDS: `
 fn put_reason(a: Answer, out: &mut [u8], at: usize) -> usize
     ensures { λ r. ⌜ Wrote (now (out .entry)) at (reasonOf a) r (now (out .exit)) ⌝ }
 {
-    let comma = put_decimal(number(a) as usize, out, at);
-    let word = put(out, comma, b", ");
+    let word = put_number(a, out, at);
     let colon = put_words(a, out, word);
     put(out, colon, b": ")
 }
@@ -154,14 +178,71 @@ fn put_share(n: usize, m: usize, text: &[u8], out: &mut [u8], at: usize) -> usiz
     put(out, end, text)
 }
 
-// The lead of a refused line again, and how much is left of both, portions and entries.
+// How much is left of both, portions and entries.
+fn put_shares(links: &[u16], directory: &[u8], out: &mut [u8], at: usize) -> usize
+    ensures { λ r. ⌜ Wrote (now (out .entry)) at (sharesOf (now (links .entry)) (now (directory .entry))) r (now (out .exit)) ⌝ }
+{
+    let free = store::free_count(links);
+    let entries = put_share(free, links.len(), b" portions are free, ", out, at);
+    let empty = room::empty_count(directory);
+    let all = directory.len() / BYTES_AN_ENTRY;
+    put_share(empty, all, b" entries are empty\n", out, entries)
+}
+
+// The lead of a refused line again, and how much is left.
 pub fn left(k: usize, links: &[u16], directory: &[u8], out: &mut [u8]) -> usize
     ensures { λ r. ⌜ Wrote (now (out .entry)) 0 (leftOf k (now (links .entry)) (now (directory .entry))) r (now (out .exit)) ⌝ }
 {
     let portions = put_lead(k, out);
-    let free = store::free_count(links);
-    let entries = put_share(free, links.len(), b" portions are free, ", out, portions);
-    let empty = room::empty_count(directory);
-    let all = directory.len() / BYTES_AN_ENTRY;
-    put_share(empty, all, b" entries are empty\n", out, entries)
+    put_shares(links, directory, out, portions)
+}
+
+// `form NAME: `, or `picture NAME, SIZE bytes: `
+fn put_asked(picture: bool, name: &[u8], size: usize, out: &mut [u8]) -> usize
+    ensures { λ r. ⌜ Wrote (now (out .entry)) 0 (askedOf picture (now (name .entry)) size) r (now (out .exit)) ⌝ }
+{
+    if picture {
+        let title = put(out, 0, b"picture ");
+        let comma = put(out, title, name);
+        let bytes = put_numbered(out, comma, b", ", size);
+        return put(out, bytes, b" bytes: ");
+    }
+    let title = put(out, 0, b"form ");
+    let colon = put(out, title, name);
+    put(out, colon, b": ")
+}
+
+// The words of an answer to whoever asks whether something fits.
+fn put_fit_words(a: Answer, out: &mut [u8], at: usize) -> usize
+    ensures { λ r. ⌜ Wrote (now (out .entry)) at (fitWords a) r (now (out .exit)) ⌝ }
+{
+    if is_taken(a) {
+        return put(out, at, b"it fits");
+    }
+    put_words(a, out, at)
+}
+
+// What was asked for, and whether it fits.
+pub fn fits(picture: bool, name: &[u8], size: usize, a: Answer, out: &mut [u8]) -> usize
+    ensures { λ r. ⌜ Wrote (now (out .entry)) 0 (fitsOf picture (now (name .entry)) size a) r (now (out .exit)) ⌝ }
+{
+    let reason = put_asked(picture, name, size, out);
+    let word = put_number(a, out, reason);
+    let end = put_fit_words(a, out, word);
+    put(out, end, b"\n")
+}
+
+// What was asked for again, and how much is left.
+pub fn fits_left(
+    picture: bool,
+    name: &[u8],
+    size: usize,
+    links: &[u16],
+    directory: &[u8],
+    out: &mut [u8],
+) -> usize
+    ensures { λ r. ⌜ Wrote (now (out .entry)) 0 (fitsLeftOf picture (now (name .entry)) size (now (links .entry)) (now (directory .entry))) r (now (out .exit)) ⌝ }
+{
+    let portions = put_asked(picture, name, size, out);
+    put_shares(links, directory, out, portions)
 }

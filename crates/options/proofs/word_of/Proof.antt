@@ -80,30 +80,49 @@ returns-5 c = let s = c .before .before .before .before .before .before .before 
     let e5 : equal s (bytes "-quiet") ≡ true = sym (c .before .same5 .ensures) ∙ c .if5 .taken in
     rw (e1, e2, e3, e4, e5)
 
-byte-requires : tie.Need-byte-requires
-byte-requires c κs = search needs
+slice-aggregate-same-6 : tie.Need-slice-aggregate-same-6
+slice-aggregate-same-6 c = search needs
+
+same-requires-6 : tie.Need-same-requires-6
+same-requires-6 c κs = search needs
 
 returns-6 : tie.Need-returns-6
 unfolding wordOf
-returns-6 c = let s = c .before .before .before .before .before .before .before .before .before .before .before .before .before .before .before .before .before .before .args .text .now in
-    let e1 : equal s (bytes "-rows") ≡ false = sym (c .before .before .before .before .before .before .before .before .before .before .before .before .before .before .before .same .ensures) ∙ c .before .before .before .before .before .before .before .before .before .before .before .before .before .before .if1 .left in
-    let e2 : equal s (bytes "-font") ≡ false = sym (c .before .before .before .before .before .before .before .before .before .before .before .before .same2 .ensures) ∙ c .before .before .before .before .before .before .before .before .before .before .before .if2 .left in
-    let e3 : equal s (bytes "-out") ≡ false = sym (c .before .before .before .before .before .before .before .before .before .same3 .ensures) ∙ c .before .before .before .before .before .before .before .before .if3 .left in
-    let e4 : equal s (bytes "-store") ≡ false = sym (c .before .before .before .before .before .before .same4 .ensures) ∙ c .before .before .before .before .before .if4 .left in
-    let e5 : equal s (bytes "-quiet") ≡ false = sym (c .before .before .before .same5 .ensures) ∙ c .before .before .if5 .left in
-    let d : eqb (getD s 0 0) 45 ≡ true = rw (← c .before .byte .ensures) (eq-eqb _ 45 (c .if6 .taken)) in
-    rw (e1, e2, e3, e4, e5, d)
+returns-6 c = let s = c .before .before .before .before .before .before .before .before .before .before .before .before .before .before .before .before .before .before .before .args .text .now in
+    let e1 : equal s (bytes "-rows") ≡ false = sym (c .before .before .before .before .before .before .before .before .before .before .before .before .before .before .before .before .same .ensures) ∙ c .before .before .before .before .before .before .before .before .before .before .before .before .before .before .before .if1 .left in
+    let e2 : equal s (bytes "-font") ≡ false = sym (c .before .before .before .before .before .before .before .before .before .before .before .before .before .same2 .ensures) ∙ c .before .before .before .before .before .before .before .before .before .before .before .before .if2 .left in
+    let e3 : equal s (bytes "-out") ≡ false = sym (c .before .before .before .before .before .before .before .before .before .before .same3 .ensures) ∙ c .before .before .before .before .before .before .before .before .before .if3 .left in
+    let e4 : equal s (bytes "-store") ≡ false = sym (c .before .before .before .before .before .before .before .same4 .ensures) ∙ c .before .before .before .before .before .before .if4 .left in
+    let e5 : equal s (bytes "-quiet") ≡ false = sym (c .before .before .before .before .same5 .ensures) ∙ c .before .before .before .if5 .left in
+    let e6 : equal s (bytes "-fits") ≡ true = sym (c .before .same6 .ensures) ∙ c .if6 .taken in
+    rw (e1, e2, e3, e4, e5, e6)
+
+byte-requires : tie.Need-byte-requires
+byte-requires c κs = search needs
 
 returns-7 : tie.Need-returns-7
 unfolding wordOf
-returns-7 c = let s = c .before .before .before .before .before .before .before .before .before .before .before .before .before .before .before .before .before .before .args .text .now in
-    let e1 : equal s (bytes "-rows") ≡ false = sym (c .before .before .before .before .before .before .before .before .before .before .before .before .before .before .before .same .ensures) ∙ c .before .before .before .before .before .before .before .before .before .before .before .before .before .before .if1 .left in
-    let e2 : equal s (bytes "-font") ≡ false = sym (c .before .before .before .before .before .before .before .before .before .before .before .before .same2 .ensures) ∙ c .before .before .before .before .before .before .before .before .before .before .before .if2 .left in
-    let e3 : equal s (bytes "-out") ≡ false = sym (c .before .before .before .before .before .before .before .before .before .same3 .ensures) ∙ c .before .before .before .before .before .before .before .before .if3 .left in
-    let e4 : equal s (bytes "-store") ≡ false = sym (c .before .before .before .before .before .before .same4 .ensures) ∙ c .before .before .before .before .before .if4 .left in
-    let e5 : equal s (bytes "-quiet") ≡ false = sym (c .before .before .before .same5 .ensures) ∙ c .before .before .if5 .left in
-    let d : eqb (getD s 0 0) 45 ≡ false = rw (← c .before .byte .ensures) (ne-eqb _ 45 (c .if6 .left)) in
-    rw (e1, e2, e3, e4, e5, d)
+returns-7 c = let s = c .before .before .before .before .before .before .before .before .before .before .before .before .before .before .before .before .before .before .before .before .before .args .text .now in
+    let e1 : equal s (bytes "-rows") ≡ false = sym (c .before .before .before .before .before .before .before .before .before .before .before .before .before .before .before .before .before .before .same .ensures) ∙ c .before .before .before .before .before .before .before .before .before .before .before .before .before .before .before .before .before .if1 .left in
+    let e2 : equal s (bytes "-font") ≡ false = sym (c .before .before .before .before .before .before .before .before .before .before .before .before .before .before .before .same2 .ensures) ∙ c .before .before .before .before .before .before .before .before .before .before .before .before .before .before .if2 .left in
+    let e3 : equal s (bytes "-out") ≡ false = sym (c .before .before .before .before .before .before .before .before .before .before .before .before .same3 .ensures) ∙ c .before .before .before .before .before .before .before .before .before .before .before .if3 .left in
+    let e4 : equal s (bytes "-store") ≡ false = sym (c .before .before .before .before .before .before .before .before .before .same4 .ensures) ∙ c .before .before .before .before .before .before .before .before .if4 .left in
+    let e5 : equal s (bytes "-quiet") ≡ false = sym (c .before .before .before .before .before .before .same5 .ensures) ∙ c .before .before .before .before .before .if5 .left in
+    let e6 : equal s (bytes "-fits") ≡ false = sym (c .before .before .before .same6 .ensures) ∙ c .before .before .if6 .left in
+    let d : eqb (getD s 0 0) 45 ≡ true = rw (← c .before .byte .ensures) (eq-eqb _ 45 (c .if7 .taken)) in
+    rw (e1, e2, e3, e4, e5, e6, d)
+
+returns-8 : tie.Need-returns-8
+unfolding wordOf
+returns-8 c = let s = c .before .before .before .before .before .before .before .before .before .before .before .before .before .before .before .before .before .before .before .before .before .args .text .now in
+    let e1 : equal s (bytes "-rows") ≡ false = sym (c .before .before .before .before .before .before .before .before .before .before .before .before .before .before .before .before .before .before .same .ensures) ∙ c .before .before .before .before .before .before .before .before .before .before .before .before .before .before .before .before .before .if1 .left in
+    let e2 : equal s (bytes "-font") ≡ false = sym (c .before .before .before .before .before .before .before .before .before .before .before .before .before .before .before .same2 .ensures) ∙ c .before .before .before .before .before .before .before .before .before .before .before .before .before .before .if2 .left in
+    let e3 : equal s (bytes "-out") ≡ false = sym (c .before .before .before .before .before .before .before .before .before .before .before .before .same3 .ensures) ∙ c .before .before .before .before .before .before .before .before .before .before .before .if3 .left in
+    let e4 : equal s (bytes "-store") ≡ false = sym (c .before .before .before .before .before .before .before .before .before .same4 .ensures) ∙ c .before .before .before .before .before .before .before .before .if4 .left in
+    let e5 : equal s (bytes "-quiet") ≡ false = sym (c .before .before .before .before .before .before .same5 .ensures) ∙ c .before .before .before .before .before .if5 .left in
+    let e6 : equal s (bytes "-fits") ≡ false = sym (c .before .before .before .same6 .ensures) ∙ c .before .before .if6 .left in
+    let d : eqb (getD s 0 0) 45 ≡ false = rw (← c .before .byte .ensures) (ne-eqb _ 45 (c .if7 .left)) in
+    rw (e1, e2, e3, e4, e5, e6, d)
 
 pub word-of-spec : {M : Type 1} → statement M
 word-of-spec =
@@ -124,6 +143,9 @@ word-of-spec =
     slice-aggregate-same-5
     same-requires-5
     returns-5
-    byte-requires
+    slice-aggregate-same-6
+    same-requires-6
     returns-6
-    returns-7)
+    byte-requires
+    returns-7
+    returns-8)

@@ -3,17 +3,23 @@ use borrow.Author.Needs.{needs}
 use Rattle.press_store.proofs.begin.Statement.{statement}
 use Rattle.press_store.proofs.begin.Tie as tie
 
-opened-requires : tie.Need-opened-requires
-opened-requires c κs = search needs
+front-requires : tie.Need-front-requires
+front-requires c κs = search needs
 
-save-requires : tie.Need-save-requires
-save-requires c κs = search needs
+load-requires : tie.Need-load-requires
+load-requires c κs = search needs
+
+idle-requires : tie.Need-idle-requires
+idle-requires c κs = search needs
+
+stopped-requires : tie.Need-stopped-requires
+stopped-requires c κs = search needs
 
 same-length : tie.Need-same-length
-same-length c = omega (arith, c .before .before .before .before .before .before .before .before .before .before .before .before .before .before .before .before .before .before .before .background .given)
+same-length c = omega (arith, c .before .before .before .before .before .before .before .before .before .before .before .before .before .before .background .given)
 
 same-length-2 : tie.Need-same-length-2
-same-length-2 c = search needs
+same-length-2 c = omega (arith, c .before .before .before .before .before .before .before .before .before .before .before .before .store .given)
 
 same-length-3 : tie.Need-same-length-3
 same-length-3 c = search needs
@@ -30,29 +36,20 @@ same-length-6 c = search needs
 returns : tie.Need-returns
 returns c = search needs
 
-front-requires : tie.Need-front-requires
-front-requires c κs = search needs
-
-judge-requires : tie.Need-judge-requires
-judge-requires c κs = search needs
-
-enum-known-k : tie.Need-enum-known-k
-enum-known-k c = search needs
-
-stopped-requires : tie.Need-stopped-requires
-stopped-requires c κs = search needs
+save-requires : tie.Need-save-requires
+save-requires c κs = search needs
 
 same-length-7 : tie.Need-same-length-7
-same-length-7 c = search needs
+same-length-7 c = omega (arith, c .before .before .before .before .before .before .before .before .before .before .before .before .before .before .before .before .before .before .before .before .before .before .before .background .given)
 
 same-length-8 : tie.Need-same-length-8
-same-length-8 c = search needs
+same-length-8 c = omega (arith, c .before .before .before .before .before .before .before .before .before .before .before .before .before .before .before .before .before .before .before .before .before .store .given)
 
 same-length-9 : tie.Need-same-length-9
-same-length-9 c = search needs
+same-length-9 c = omega (arith, c .before .before .before .before .before .before .before .before .before .before .before .before .before .before .before .before .before .before .before .links .given)
 
 same-length-10 : tie.Need-same-length-10
-same-length-10 c = search needs
+same-length-10 c = omega (arith, c .before .before .before .before .before .before .before .before .before .before .before .before .before .before .before .before .before .directory .given)
 
 same-length-11 : tie.Need-same-length-11
 same-length-11 c = search needs
@@ -63,44 +60,23 @@ same-length-12 c = search needs
 returns-2 : tie.Need-returns-2
 returns-2 c = search needs
 
-load-body-requires : tie.Need-load-body-requires
-load-body-requires c κs = search needs
-
-load-values-requires : tie.Need-load-values-requires
-load-values-requires c κs = search needs
-
-session-of-requires : tie.Need-session-of-requires
-session-of-requires c κs = search needs
-
-free-count-requires : tie.Need-free-count-requires
-free-count-requires c κs = search needs
-
-sixteen-bits-requires : tie.Need-sixteen-bits-requires
-sixteen-bits-requires c κs = search needs
-
-roomed-requires : tie.Need-roomed-requires
-roomed-requires c κs = search needs
-
-is-sound-requires : tie.Need-is-sound-requires
-is-sound-requires c κs = search needs
-
 admitted-requires : tie.Need-admitted-requires
 admitted-requires c κs = search needs
 
 same-length-13 : tie.Need-same-length-13
-same-length-13 c = omega (arith, c .before .before .before .before .before .before .before .before .before .before .before .before .before .before .before .before .before .before .before .before .before .before .before .before .before .before .background2 .given, c .before .before .before .before .before .before .before .before .before .before .before .before .before .before .before .before .before .before .before .before .before .before .before .before .before .before .before .before .before .before .before .before .before .before .before .before .before .before .before .before .before .before .before .before .before .before .before .before .before .background .given)
+same-length-13 c = omega (arith, c .before .before .before .before .before .before .before .before .before .before .before .before .before .before .before .before .background .given)
 
 same-length-14 : tie.Need-same-length-14
-same-length-14 c = omega (arith, c .before .before .before .before .before .before .before .before .before .before .before .before .before .before .before .before .before .before .before .before .before .before .before .before .store2 .given, c .before .before .before .before .before .before .before .before .before .before .before .before .before .before .before .before .before .before .before .before .before .before .before .before .before .before .before .before .before .before .before .before .before .before .before .before .before .before .before .before .before .before .before .before .before .before .before .store .given)
+same-length-14 c = omega (arith, c .before .before .before .before .before .before .before .before .before .before .before .before .before .before .store .given)
 
 same-length-15 : tie.Need-same-length-15
-same-length-15 c = omega (arith, c .before .before .before .before .before .before .before .before .before .before .before .before .before .before .before .before .before .before .before .before .before .before .links2 .given, c .before .before .before .before .before .before .before .before .before .before .before .before .before .before .before .before .before .before .before .before .before .before .before .before .before .before .before .before .before .before .before .before .before .before .before .before .before .before .before .before .before .before .before .before .before .links .given)
+same-length-15 c = search needs
 
 same-length-16 : tie.Need-same-length-16
-same-length-16 c = omega (arith, c .before .before .before .before .before .before .before .before .before .before .before .before .before .before .before .before .before .before .before .before .directory2 .given, c .before .before .before .before .before .before .before .before .before .before .before .before .before .before .before .before .before .before .before .before .before .before .before .before .before .before .before .before .before .before .before .before .before .before .before .before .before .before .before .before .before .before .before .directory .given)
+same-length-16 c = search needs
 
 same-length-17 : tie.Need-same-length-17
-same-length-17 c = omega (arith, c .before .before .before .before .before .before .before .before .before .before .before .before .before .before .before .values2 .given, c .before .before .before .before .before .before .before .before .before .before .before .before .before .before .before .before .before .before .before .before .before .before .before .before .before .before .before .before .before .before .before .before .before .before .before .before .before .before .before .before .before .values .given)
+same-length-17 c = search needs
 
 same-length-18 : tie.Need-same-length-18
 same-length-18 c = search needs
@@ -112,8 +88,10 @@ pub begin-spec : {M : Type 1} → statement M
 begin-spec =
     tie.close
     (tie.spec
-    opened-requires
-    save-requires
+    front-requires
+    load-requires
+    idle-requires
+    stopped-requires
     same-length
     same-length-2
     same-length-3
@@ -121,10 +99,7 @@ begin-spec =
     same-length-5
     same-length-6
     returns
-    front-requires
-    judge-requires
-    enum-known-k
-    stopped-requires
+    save-requires
     same-length-7
     same-length-8
     same-length-9
@@ -132,13 +107,6 @@ begin-spec =
     same-length-11
     same-length-12
     returns-2
-    load-body-requires
-    load-values-requires
-    session-of-requires
-    free-count-requires
-    sixteen-bits-requires
-    roomed-requires
-    is-sound-requires
     admitted-requires
     same-length-13
     same-length-14

@@ -1,6 +1,6 @@
 use borrow.Author.Needs.{needs}
-use Rattle.results.proofs.names.is_at.Statement.{statement}
-use Rattle.results.proofs.names.is_at.Tie as tie
+use Rattle.finding.proofs.is_at.Statement.{statement}
+use Rattle.finding.proofs.is_at.Tie as tie
 
 enum-told : tie.Need-enum-told
 enum-told c = search needs

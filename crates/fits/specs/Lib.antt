@@ -1,0 +1,4 @@
+-- Will it fit?
+pub mod Names
+pub mod Fits
+pub mod Cases
