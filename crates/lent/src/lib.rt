@@ -2,9 +2,8 @@
 //
 // Paper 01, "What is lent", gives each list its length: a background of whole rows of 76 bytes, a store of whole portions with one link for each, a directory of whole
 // entries, ten fields of values. `lengths_wrong` answers whether row 1 of the table, "a lent length is wrong", applies to any five lengths, as the
-// definition (specs/Lent.antt) says. Font, input and output may be of any length.
+// definition (specs/Lent.antt) says; `links_wrong` and `directory_wrong` say it of a call that is lent these alone. Font, input and output may be of any length.
 ghost use mathlib.Core.Path.{_≡_};
-ghost use mathlib.Core.Bool.{_||_};
 ghost use Rattle.lent.specs.Lent.{pageWrong, linksWrong, storeWrong, directoryWrong, lengthsWrong};
 use dots::BYTES_A_ROW;
 use ground::either;
