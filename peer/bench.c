@@ -188,6 +188,12 @@ static double time_labels(const struct station *s, const struct work *from, unsi
     return time_calls(s, from, LABEL, count);
 }
 
+/* The command that stands on the desk. */
+static double time_same(const struct station *s, const struct work *from, unsigned count)
+{
+    return time_calls(s, from, COMMAND, count);
+}
+
 static double time_questions(const struct station *s, const struct work *from, unsigned count)
 {
     return time_calls(s, from, FITS, count);
@@ -300,6 +306,28 @@ static void questions(void)
     clear_away(&w.desk);
 }
 
+/* Commands on an empty store, which draw on the background: beside the drawing there is only the memory to judge, and what that takes is told by the rows in which
+ * nothing is drawn. LSE touches each dot of the line whatever stands there. */
+static void slanted_lines(void)
+{
+    static const struct {
+        const char *what, *line;
+        unsigned rows;
+    } lines[] = {{"nothing drawn on 4,000 rows", "ZT\n", 4000}, {"corner to corner of 4,000 rows, thickness 1", "LSE0,0,1,607,3999\n", 4000},
+                 {"corner to corner of 4,000 rows, thickness 80", "LSE0,0,80,607,3999\n", 4000}, {"upright on 4,000 rows, thickness 1", "LSE300,0,1,300,3999\n", 4000},
+                 {"upright on 4,000 rows, thickness 80", "LSE300,0,80,300,3999\n", 4000}, {"nothing drawn on 140 rows", "ZT\n", 140},
+                 {"slanting 40 dots, thickness 80", "LSE300,50,80,324,82\n", 140}, {"level across 608 dots, thickness 80", "LSE0,70,80,607,70\n", 140},
+                 {"corner to corner of 140 rows, thickness 1", "LSE0,0,1,607,139\n", 140}, {"a disc of thickness 80", "LSE300,70,80,300,70\n", 140}};
+
+    for (unsigned i = 0; i < sizeof lines / sizeof lines[0]; i++) {
+        struct work w;
+        open_work(&w, lines[i].rows, 1, 1);
+        fill(&w, lines[i].line);
+        measure(lines[i].what, &w, lines[i].rows > 1000 ? 200 : 2000, time_same);
+        clear_away(&w.desk);
+    }
+}
+
 static void long_label(void)
 {
     struct work w;
@@ -365,5 +393,6 @@ int main(void)
     small_labels();
     recorded_lines();
     questions();
+    slanted_lines();
     return 0;
 }

@@ -9,9 +9,11 @@
  * free and empty before the call, to no line but those that may ask for it, that after every taken call the number of free portions is
  * what a fresh count finds, and has moved only where it may, that an image of another length is 1 and one refused by opening all zero, and
  * that the question whether it fits changes nothing and has the answer of the FS or GM that is sent right behind it on a copy of the memory, if that
- * is sound. The first difference is told with
+ * is sound. And that a slanted line drawn on the background inks, in some of the rows, just the dots that the paper's sentence names, that it gives the same page with its ends
+ * exchanged, and that LSE of it twice gives back the page. The first difference is told with
  * the seed of its session and ends the run. At the end: how often each call gave each answer, and of the answers that point how
- * many places they were seen to point to, how many of these more than nine times, and how often to the LF. With -DSELF the station
+ * many places they were seen to point to, how many of these more than nine times, and how often to the LF; and how many slanted lines were drawn, by their
+ * ends and by whether the page has them whole. With -DSELF the station
  * is the peer again, which tries the generator and this program alone. */
 #include <inttypes.h>
 #include <stdio.h>
@@ -40,6 +42,7 @@ enum { PLACES = MOST_LINE + 1, MOST_SHOWN = 256 };
 
 static uint64_t reached[CALLS][ANSWERS], other;
 static uint64_t sent_forms, sent_pictures;
+static uint64_t rows_asked, dots_in_line;
 static uint64_t pointed[ANSWERS][PLACES], to_lf[ANSWERS];
 
 /* The values that the counters had on the labels of the job under way, as far as its labels were drawn one after another. No
@@ -408,6 +411,173 @@ static void check_question(struct pair *p, const struct generator *g, const stru
     }
 }
 
+/* ---- slanted lines ---- */
+
+enum { BY_COMMAND, BY_LABEL, DRAWN_BY };
+enum { LEVEL, UPRIGHT, DIAGONAL, DISC, SLANTING, SHAPES };
+enum { WHOLE, CUT, OUTSIDE, REACHES };
+
+static uint64_t drawn_shapes[DRAWN_BY][SHAPES][REACHES], drawn_inks[DRAWN_BY][3];
+
+/* A slanted line with the origin added. ink: nothing, E or W, as it is written. */
+struct drawn_line {
+    const char *ink;
+    long a, b, c, d, e;
+};
+
+/* The line that begins with these bytes; false if it is no slanted one. It was taken, so it has its written form. */
+static bool slanted_at(const uint8_t *bytes, size_t count, unsigned origin_x, unsigned origin_y, struct drawn_line *l)
+{
+    const char *at = (const char *)bytes + 2;
+    char *end;
+
+    if (count < 3 || memcmp(bytes, "LS", 2) != 0)
+        return false;
+    l->ink = *at == 'E' ? "E" : *at == 'W' ? "W" : "";
+    l->a = strtol(at + strlen(l->ink), &end, 10) + origin_x;
+    l->b = strtol(end + 1, &end, 10) + origin_y;
+    l->c = strtol(end + 1, &end, 10);
+    l->d = strtol(end + 1, &end, 10) + origin_x;
+    l->e = strtol(end + 1, &end, 10) + origin_y;
+    return true;
+}
+
+static long lesser(long one, long other)
+{
+    return one < other ? one : other;
+}
+
+static void note_drawn(unsigned by, const struct drawn_line *l, const struct session *s)
+{
+    long across = labs(l->d - l->a), down = labs(l->e - l->b), half = l->c / 2, left = lesser(l->a, l->d), top = lesser(l->b, l->e);
+    unsigned shape = across == 0 && down == 0 ? DISC : down == 0 ? LEVEL : across == 0 ? UPRIGHT : across == down ? DIAGONAL : SLANTING;
+    bool whole = left >= half && top >= half && left + across + half < s->width && top + down + half < s->length;
+    bool outside = left - half >= s->width || top - half >= s->length;
+
+    drawn_shapes[by][shape][whole ? WHOLE : outside ? OUTSIDE : CUT]++;
+    drawn_inks[by][*l->ink == 'E' ? 1 : *l->ink == 'W' ? 2 : 0]++;
+}
+
+/* The lines of the form that a label has drawn, each with the origin that holds there. */
+static void note_label(const struct pair *p, const struct event *e)
+{
+    uint8_t *const *b = p->before.bytes;
+    struct memory m = {b[BACKGROUND], 0, b[STORE], (uint16_t *)(void *)b[LINKS], (unsigned)e->length[LINKS], b[DIRECTORY],
+                       (unsigned)(e->length[DIRECTORY] / ENTRY), b[VALUE]};
+    uint8_t room[MOST_LINE + 1];
+    struct drawn_line l;
+    struct session s;
+    unsigned length;
+
+    read_image(b[SESSION], &s);
+    if (s.active == NO_FORM)
+        return;
+    for (struct cursor at = start_of(&m, entry_at(&m, s.active)); at.left > 0;) {
+        const uint8_t *line = next_line(&at, room, &length);
+        if (slanted_at(line, length, s.origin_x, s.origin_y, &l))
+            note_drawn(BY_LABEL, &l, &s);
+        if (line[0] == 'R') {
+            char *comma;
+            s.origin_x = (uint16_t)strtoul((const char *)line + 1, &comma, 10);
+            s.origin_y = (uint16_t)strtoul(comma + 1, NULL, 10);
+        }
+    }
+}
+
+/* "four times the square of its distance to the segment is at most c squared" */
+static bool belongs(const struct drawn_line *l, long x, long y)
+{
+    int64_t across = l->d - l->a, down = l->e - l->b, u = x - l->a, v = y - l->b, foot = across * u + down * v, cross = across * v - down * u;
+    int64_t all = across * across + down * down;
+
+    if (foot <= 0)
+        return 4 * (u * u + v * v) <= l->c * l->c;
+    if (foot >= all)
+        return 4 * ((u - across) * (u - across) + (v - down) * (v - down)) <= l->c * l->c;
+    return 4 * cross * cross <= l->c * l->c * all;
+}
+
+/* The peer draws it on the memory as it was before the call; ends exchanged or not. */
+static void draw_again(struct pair *p, const struct event *e, const char *ink, const struct drawn_line *l, bool exchanged)
+{
+    static const uint8_t font[] = {1, 2, 0, 8, 8, 255, 0, 0};
+    size_t length[SLICES];
+    struct session s;
+    uint8_t line[64];
+
+    read_image(p->before.bytes[SESSION], &s);
+    memcpy(length, e->length, sizeof length);
+    length[FONT] = sizeof font;
+    length[INPUT] = (size_t)sprintf((char *)line, "LS%s%ld,%ld,%ld,%ld,%ld\n", ink, (exchanged ? l->d : l->a) - s.origin_x,
+                                    (exchanged ? l->e : l->b) - s.origin_y, l->c, (exchanged ? l->a : l->d) - s.origin_x,
+                                    (exchanged ? l->b : l->e) - s.origin_y);
+    put_on_desk(&p->before, FONT, font, sizeof font);
+    put_on_desk(&p->before, INPUT, line, length[INPUT]);
+    call_station(&peer_station, &p->before, COMMAND, length);
+}
+
+static bool backgrounds_same(const struct pair *p)
+{
+    return memcmp(p->before.bytes[BACKGROUND], p->peer.bytes[BACKGROUND], p->peer.room[BACKGROUND]) == 0;
+}
+
+/* In this row of the page a dot of the line has its ink, and any other is as before. */
+static bool row_inked_so(const struct pair *p, const struct drawn_line *l, const struct session *s, long y)
+{
+    size_t at = (size_t)y * ROW_BYTES;
+
+    if (y < 0 || y >= s->length)
+        return true;
+    rows_asked++;
+    for (long x = 0; x < ROW_BYTES * 8; x++) {
+        bool before = p->before.bytes[BACKGROUND][at + (size_t)x / 8] >> (7 - x % 8) & 1;
+        bool after = p->peer.bytes[BACKGROUND][at + (size_t)x / 8] >> (7 - x % 8) & 1;
+        bool in_line = x < s->width && belongs(l, x, y), inked = *l->ink == 'E' ? !before : *l->ink != 'W';
+        dots_in_line += in_line;
+        if (after != (in_line ? inked : before))
+            return false;
+    }
+    return true;
+}
+
+/* "Each dot is touched once." What was drawn is then drawn on the memory of before with its ends exchanged, and there inverted and inverted back. */
+static bool slanted_so(struct pair *p, const struct event *e, const struct drawn_line *l, const struct session *s, uint64_t calls)
+{
+    const long rows[] = {l->b, l->e, (l->b + l->e) / 2, lesser(l->b, l->e) - l->c / 2, l->b + l->e - lesser(l->b, l->e) + l->c / 2, (long)(calls % s->length)};
+
+    for (unsigned i = 0; i < sizeof rows / sizeof rows[0]; i++)
+        if (!row_inked_so(p, l, s, rows[i]))
+            return false;
+    draw_again(p, e, l->ink, l, true);
+    if (!backgrounds_same(p))
+        return false;
+    draw_again(p, e, "E", l, false);
+    draw_again(p, e, "E", l, true);
+    return backgrounds_same(p);
+}
+
+static void check_slanted(struct pair *p, const struct generator *g, const struct event *e, unsigned answer, uint64_t calls)
+{
+    struct drawn_line l;
+    struct session s;
+
+    if (answer != TAKEN || e->call == OPEN)
+        return;
+    if (e->call == LABEL) {
+        note_label(p, e);
+        return;
+    }
+    read_image(p->before.bytes[SESSION], &s);
+    if (kind_before(p, e, RECORDING) || !slanted_at(e->bytes, e->count, s.origin_x, s.origin_y, &l))
+        return;
+    note_drawn(BY_COMMAND, &l, &s);
+    if (!slanted_so(p, e, &l, &s, calls)) {
+        tell_difference(g, e, calls);
+        printf("the peer inked other dots than those of the line, or drew another page with the ends exchanged, or LSE twice did not give it back\n");
+        exit(1);
+    }
+}
+
 /* ---- all of it ---- */
 
 static void check_unchanged(const struct pair *p, const struct generator *g, const struct event *e, unsigned answer, uint64_t calls)
@@ -463,8 +633,10 @@ static void make_call(struct pair *p, struct generator *g, const struct event *e
     check_unchanged(p, g, e, theirs, calls);
     if (e->call == FITS)
         check_question(p, g, e, theirs, calls);
-    else
+    else {
         check_promises(p, g, e, theirs, calls);
+        check_slanted(p, g, e, theirs, calls);
+    }
     note_place(p, e, theirs);
     if (theirs < ANSWERS)
         reached[e->call][theirs]++;
@@ -511,6 +683,19 @@ static void tell_places(void)
     }
 }
 
+static void tell_slanted(void)
+{
+    static const char *const names[SHAPES] = {"level", "upright", "at 45 degrees", "a disc", "slanting"}, *const by[DRAWN_BY] = {"background", "label"};
+
+    printf("slanted lines                whole       cut   outside\n");
+    for (unsigned i = 0; i < DRAWN_BY; i++) {
+        for (unsigned k = 0; k < SHAPES; k++)
+            printf("%-10s %-14s %7" PRIu64 " %9" PRIu64 " %9" PRIu64 "\n", by[i], names[k], drawn_shapes[i][k][WHOLE], drawn_shapes[i][k][CUT], drawn_shapes[i][k][OUTSIDE]);
+        printf("%-10s LS %" PRIu64 ", LSE %" PRIu64 ", LSW %" PRIu64 "\n", by[i], drawn_inks[i][0], drawn_inks[i][1], drawn_inks[i][2]);
+    }
+    printf("asked dot by dot: %" PRIu64 " rows, %" PRIu64 " dots in the line\n", rows_asked, dots_in_line);
+}
+
 int main(int argc, char **argv)
 {
     uint64_t wanted = argc > 1 ? strtoull(argv[1], NULL, 10) : 10000, calls = 0;
@@ -537,6 +722,7 @@ int main(int argc, char **argv)
     tell_reached(calls);
     tell_places();
     printf("asked and then sent: %" PRIu64 " FS, %" PRIu64 " GM\n", sent_forms, sent_pictures);
+    tell_slanted();
     clear_away(&p.station);
     clear_away(&p.peer);
     clear_away(&p.before);

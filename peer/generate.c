@@ -594,6 +594,141 @@ static void put_frame(struct generator *g)
     put_y(g, 4095);
 }
 
+/* ---- slanted lines ---- */
+
+struct segment {
+    unsigned a, b, c, d, e;
+};
+
+/* This number, or one outside its limits. */
+static void put_chosen(struct generator *g, unsigned least, unsigned most, unsigned number)
+{
+    if (spoilt(g))
+        put_outside(g, least, most);
+    else
+        put_digits(g, number);
+}
+
+/* A column or row of a page of this size: anywhere on it, about its edges, or anywhere in the limits. The origin is added to it later, so it is
+ * mostly taken off before. */
+static unsigned some_coordinate(struct generator *g, unsigned size, unsigned origin, unsigned most)
+{
+    unsigned k = below(g, 100), at = below(g, size), about = size + below(g, 90);
+
+    if (k >= 60 && k < 78)
+        at = about > 45 ? about - 45 : 0;
+    else if (k >= 78 && k < 86)
+        at = below(g, 6);
+    else if (k >= 86)
+        at = k < 96 ? below(g, most + 1) : k < 98 ? 0 : most;
+    if (at >= origin && chance(g, 70))
+        at -= origin;
+    return at < most ? at : most;
+}
+
+/* So far to one side or the other, where the limits leave room for it. */
+static unsigned aside(struct generator *g, unsigned from, unsigned by, unsigned most)
+{
+    bool up = chance(g, 50);
+
+    if (up && from + by <= most)
+        return from + by;
+    return from >= by ? from - by : from + by <= most ? from + by : from;
+}
+
+/* Thin ones most of all, and an even c where dots may lie just c/2 away. */
+static unsigned some_thickness(struct generator *g)
+{
+    unsigned k = below(g, 100);
+
+    if (k < 35)
+        return between(g, 1, 4);
+    if (k < 65)
+        return between(g, 1, 20);
+    if (k < 80)
+        return 2 * between(g, 1, 20);
+    return k < 94 ? between(g, 1, 80) : k < 97 ? 80 : 79;
+}
+
+/* Two sides whose squares add up to a square: the length is a whole number, and with an even c some dots lie just c/2 away from the segment. */
+static void lay_exact(struct generator *g, struct segment *s)
+{
+    static const unsigned sides[][2] = {{3, 4}, {5, 12}, {8, 15}, {7, 24}, {20, 21}, {12, 35}, {9, 40}};
+    unsigned k = below(g, 7), times = between(g, 1, k < 3 ? 12 : 4), turned = below(g, 2);
+
+    s->d = aside(g, s->a, times * sides[k][turned], 2047);
+    s->e = aside(g, s->b, times * sides[k][1 - turned], 4095);
+    if (chance(g, 70))
+        s->c = 2 * between(g, 1, 20);
+}
+
+/* Segments with dots a little more than c/2 away from their ends, of which one belongs to the line because its foot just lies on the segment, and one beside it does
+ * not because its foot just lies outside. */
+static void lay_close(struct generator *g, struct segment *s)
+{
+    static const unsigned close[][3] = {{14, 5, 7}, {17, 6, 7}, {26, 9, 7}, {40, 14, 7}, {23, 6, 17}, {27, 7, 17}, {24, 11, 25}, {29, 6, 31}, {35, 6, 49}, {29, 9, 55}, {41, 6, 71}};
+    unsigned k = below(g, sizeof close / sizeof close[0]), turned = below(g, 2);
+
+    s->d = aside(g, s->a, close[k][turned], 2047);
+    s->e = aside(g, s->b, close[k][1 - turned], 4095);
+    s->c = close[k][2];
+}
+
+/* The other end: anywhere, near, level, upright, at 45 degrees or nearly so, at a whole length, at one of the close ones, or equal. */
+static void lay_other_end(struct generator *g, struct segment *s)
+{
+    unsigned k = below(g, 100), by = below(g, chance(g, 50) ? 12 : 120), more = chance(g, 70) ? 0 : 1;
+
+    if (k < 20) {
+        s->d = aside(g, s->a, below(g, 30), 2047);
+        s->e = aside(g, s->b, below(g, 30), 4095);
+    } else if (k < 29)
+        s->e = aside(g, s->b, more, 4095);
+    else if (k < 38)
+        s->d = aside(g, s->a, more, 2047);
+    else if (k < 48) {
+        s->d = aside(g, s->a, by, 2047);
+        s->e = aside(g, s->b, by + more, 4095);
+    } else if (k < 62)
+        lay_exact(g, s);
+    else if (k < 68)
+        lay_close(g, s);
+    else if (k < 75) {
+        s->d = s->a;
+        s->e = s->b;
+    }
+}
+
+static void put_slanted(struct generator *g)
+{
+    static const char *const words[] = {"LS", "LSE", "LSW"};
+    const uint8_t *image = g->desk->bytes[SESSION];
+    unsigned width = low_first(image) | 1, length = low_first(image + 2) | 1, x = low_first(image + 5), y = low_first(image + 7);
+    struct segment s = {some_coordinate(g, width, x, 2047), some_coordinate(g, length, y, 4095), some_thickness(g),
+                        some_coordinate(g, width, x, 2047), some_coordinate(g, length, y, 4095)};
+
+    lay_other_end(g, &s);
+    put_words(g, words[below(g, 3)]);
+    may_end(g, 5);
+    put_chosen(g, 0, 2047, s.a);
+    put_comma(g);
+    put_chosen(g, 0, 4095, s.b);
+    put_comma(g);
+    put_chosen(g, 1, 80, s.c);
+    put_comma(g);
+    put_chosen(g, 0, 2047, s.d);
+    put_comma(g);
+    put_chosen(g, 0, 4095, s.e);
+}
+
+/* In small sessions none: those that are stored make the calls that they made. */
+static bool slanted_due(struct generator *g, unsigned in_hundred)
+{
+    return !g->small && chance(g, in_hundred);
+}
+
+/* ---- more commands ---- */
+
 static void put_corner(struct generator *g, char word, unsigned usual)
 {
     put(g, (uint8_t)word);
@@ -1085,7 +1220,9 @@ static void put_drawing(struct generator *g, const struct declared *d)
 {
     unsigned k = below(g, 100);
 
-    if (k < 26)
+    if (slanted_due(g, 35))
+        put_slanted(g);
+    else if (k < 26)
         put_text_line(g, d);
     else if (k < 62)
         put_bars_line(g, d);
@@ -1119,7 +1256,14 @@ static void put_strange(struct generator *g)
                                         "RESET", "LS0,0,1,5,5", "?", "Q240,B40-8", "N1", "V", "C", "A", "B", "X", "L", "F", "G", "Z",
                                         "ZC", "ZTT", "FIX", "VC1", "VCC", "VX", "LX", "FX", "GX", "?X", "?VC", "GI ", "N ", "FS", "FEE", "NN", " FI", "fi", "zT", "P", "P+1", "P-1", "q", "?V0", "?C0,-1",
                                         "?V0,5", "?C0,\"5\"", "FK*", "FK\"", "GG1,1,A", "R1,2,3", "LO1,2,3", "LO1,2,3,4,5"};
+    static const char *const slanted[] = {"LS", "LSE", "LSW", "LSx", "LSEx", "LSO0,0,1,5,5", "LSS0,0,1,5,5", "LSEE0,0,1,5,5", "LSEW0,0,1,5,5", "LSe0,0,1,5,5", "LS,0,1,5,5",
+                                          "LSW,0,1,5,5", "LES0,0,1,5,5", "LS 0,0,1,5,5", "LS0,0,1,5", "LSE0,0,1,5", "LS0,0,1,5,", "LSW0,0,1,5,5,", "LS0,0,1,5,5,5",
+                                          "LSE0,0,1,5,5E", "LO0,0,1,5,5", "LS1,2,3,4"};
 
+    if (slanted_due(g, 15)) {
+        put_words(g, slanted[below(g, sizeof slanted / sizeof slanted[0])]);
+        return;
+    }
     if (chance(g, 95)) {
         put_words(g, words[below(g, sizeof words / sizeof words[0])]);
         return;
@@ -1314,10 +1458,10 @@ static size_t some_place(struct generator *g)
 
 static char strange_byte(struct generator *g)
 {
-    static const char likely[] = ",,\"\"0129LRMVCN +-.;EAB*3ZTx";
+    static const char likely[] = ",,\"\"0129LRMVCN +-.;EAB*3ZTxSW";  /* the last two of slanted lines */
 
     if (chance(g, 85))
-        return likely[below(g, sizeof likely - 1)];
+        return likely[below(g, sizeof likely - (g->small ? 3 : 1))];
     return (char)(chance(g, 40) ? below(g, 32) : chance(g, 50) ? between(g, 127, 255) : random_number(g));
 }
 
@@ -1382,6 +1526,10 @@ static void put_any_line(struct generator *g, const struct view *v)
     static const char *const named[] = {"FS", "FR", "FK", "FP", "GK"};
     const struct declared *d = v->recording != 65535 ? &v->of_recording : &v->of_active;
 
+    if (slanted_due(g, 15)) {
+        put_slanted(g);
+        return;
+    }
     switch (below(g, 16)) {
     case 0:
     case 1: put_setting(g); break;
@@ -1713,13 +1861,13 @@ static void damage_store(struct generator *g)
 /* A digit or letter in a form changed for one that may be in its place: often another legal form. */
 static void damage_form_slightly(struct generator *g)
 {
-    static const char bytes[] = "00123456789NRLCZVBEOGMX,,\".+-a *;\n";
+    static const char bytes[] = "00123456789NRLCZVBEOGMX,,\".+-a *;\nSW";  /* the last two of slanted lines */
     unsigned i = below(g, g->entries);
     const uint8_t *e = entry(g, i);
     unsigned portion = entry_first(e), size = entry_size(e);
 
     if ((e[0] == FORM || e[0] == RECORDING) && size > 0 && portion < g->portions)
-        add_poke(g, STORE, portion * 256 + below(g, size < 256 ? size : 256), (uint8_t)bytes[below(g, sizeof bytes - 1)]);
+        add_poke(g, STORE, portion * 256 + below(g, size < 256 ? size : 256), (uint8_t)bytes[below(g, sizeof bytes - (g->small ? 3 : 1))]);
     else
         damage_store(g);
 }

@@ -293,12 +293,23 @@ static void rectangle(struct reader *r, struct command *c, enum word word)
     numbers(r, c->n, 4, limits);
 }
 
-static void frame(struct reader *r, struct command *c)
+/* "a, d 0..2047; b, e 0..4095; thickness c 1..80", of X and of the slanted line. */
+static void two_points(struct reader *r, struct command *c, enum word word)
 {
     static const uint32_t limits[5][2] = {{0, 2047}, {0, 4095}, {1, 80}, {0, 2047}, {0, 4095}};
 
-    c->word = W_X;
+    c->word = word;
     numbers(r, c->n, 5, limits);
+}
+
+/* "`LS`, then nothing, `E` or `W`": an E or W behind LS is always the command's. */
+static void slanted_word(struct reader *r, struct command *c)
+{
+    switch (next(r)) {
+    case 'E': pass(r); two_points(r, c, W_LSE); break;
+    case 'W': pass(r); two_points(r, c, W_LSW); break;
+    default: two_points(r, c, W_LS); break;
+    }
 }
 
 static void text_line(struct reader *r, struct command *c)
@@ -432,12 +443,13 @@ static void picture_word(struct reader *r, struct command *c)
     }
 }
 
-static void rectangle_word(struct reader *r, struct command *c)
+static void line_word(struct reader *r, struct command *c)
 {
-    switch (letter(r, "OWE")) {
+    switch (letter(r, "OWES")) {
     case 'O': rectangle(r, c, W_LO); break;
     case 'W': rectangle(r, c, W_LW); break;
     case 'E': rectangle(r, c, W_LE); break;
+    case 'S': slanted_word(r, c); break;
     }
 }
 
@@ -473,7 +485,7 @@ static void one_number(struct reader *r, struct command *c, enum word word, uint
     c->n[0] = number(r, least, most);
 }
 
-/* The first letter decides, then the second. All letters of a command are one piece, which begins the line. "The command's
+/* The first letter decides, then the second, then of LS the third. All letters of a command are one piece, which begins the line. "The command's
  * letters are the longest that match": after V a C is VC, so what follows it is past the last field. */
 static void whole_line(struct reader *r, struct command *c, unsigned rows)
 {
@@ -483,8 +495,8 @@ static void whole_line(struct reader *r, struct command *c, unsigned rows)
     case 'N': c->word = W_N; break;
     case 'R': origin_line(r, c); break;
     case 'Z': c->word = W_Z; c->letter = letter(r, "TB"); break;
-    case 'L': rectangle_word(r, c); break;
-    case 'X': frame(r, c); break;
+    case 'L': line_word(r, c); break;
+    case 'X': two_points(r, c, W_X); break;
     case 'A': text_line(r, c); break;
     case 'B': bars_line(r, c); break;
     case 'F': form_word(r, c); break;

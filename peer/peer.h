@@ -8,6 +8,7 @@
  *   store.c    portions, links, chains, directory entries, names, listings
  *   picture.c  legal pictures and their drawing
  *   drawing.c  boxes, turns, frames, text and its font
+ *   slanted.c  slanted lines
  *   bars.c     the four bar types and the line under the bars
  *   sound.c    the session image and the rule of a sound memory
  *   station.c  opening, command and label
@@ -71,7 +72,7 @@ struct verdict {
 /* ---- lines.c ---- */
 
 enum word {
-    W_Q, W_q, W_N, W_R, W_Z, W_LO, W_LW, W_LE, W_X, W_A, W_B, W_GG, W_FS, W_FE, W_FR, W_FK, W_FI, W_FP, W_GM, W_GK, W_GI,
+    W_Q, W_q, W_N, W_R, W_Z, W_LO, W_LW, W_LE, W_LS, W_LSW, W_LSE, W_X, W_A, W_B, W_GG, W_FS, W_FE, W_FR, W_FK, W_FI, W_FP, W_GM, W_GK, W_GI,
     W_V, W_C, W_ASK_V, W_ASK_C, W_VC, W_P
 };
 
@@ -230,6 +231,11 @@ void turn_paper(struct paper *p);
 /* The glyph dots of text whose first cell has its corner at x,y inside the unturned box t. */
 void draw_glyphs(struct paper *p, const struct turned *t, int x, int y, const struct pen *pen, const uint8_t *text,
                  unsigned length);
+
+/* ---- slanted.c ---- */
+
+/* From a,b to d,e, no end below zero and none above 2^13; thick is 1 to 80. */
+void draw_slanted(struct paper *p, int a, int b, int thick, int d, int e, enum ink ink);
 
 /* ---- bars.c ---- */
 

@@ -20,7 +20,8 @@
 #include "peer.h"
 
 static const char *const samples[] = {
-    "Q240,24", "q80", "N", "R100,50", "ZT", "ZB", "LO10,10,100,200", "LE0,0,1,1", "LW5,6,7,8", "X10,10,3,360,250", "A0,0,0,1,1,N,V0L1V0M3.2V0R1",
+    "Q240,24", "q80", "N", "R100,50", "ZT", "ZB", "LO10,10,100,200", "LE0,0,1,1", "LW5,6,7,8", "LS3,5,2,9,5", "LSE10,10,8,100,200",
+    "LSW0,0,1,7,9", "X10,10,3,360,250", "A0,0,0,1,1,N,V0L1V0M3.2V0R1",
     "A0,0,0,1,1,R,\"a\"C0\"b\"", "B0,0,0,E30,2,3,50,N,\"123456789012\"", "B0,0,0,3,2,3,50,B,C0", "B0,0,0,3,2,3,50,B,C,C0",
     "B0,0,0,3,2,3,50,B,R,\"R,\"", "B0,0,0,1,2,3,50,B,V0M1.2", "B0,0,0,2,2,3,50,N,C0R1", "GG0,0,\"Name\"", "FS\"Test\"", "FE", "FR\"Test\"", "FK\"*\"",
     "FP\"Test\"", "FI", "GI", "GK\"Name\"", "GM\"Name\",300", "V0,5,L,\"Name\"", "C0,02,+1,\"NO\"", "C0,2,-99999,\"\"", "C1,123456789,1,\"\"",
@@ -37,7 +38,7 @@ enum { SAMPLES = sizeof samples / sizeof samples[0] };
 static bool well_formed(const uint8_t *line, unsigned length)
 {
     static const char form[] =
-        "^(Q" NUMBER "," NUMBER "|q" NUMBER "|N|R" NUMBER "," NUMBER "|Z[TB]|L[OEW]" NUMBER "(," NUMBER "){3}|X" NUMBER "(," NUMBER "){4}"
+        "^(Q" NUMBER "," NUMBER "|q" NUMBER "|N|R" NUMBER "," NUMBER "|Z[TB]|L[OEW]" NUMBER "(," NUMBER "){3}|(X|LS[EW]?)" NUMBER "(," NUMBER "){4}"
         "|A" NUMBER "(," NUMBER "){4},[NR]," DATA "|B" NUMBER "(," NUMBER "){2},(3|2|E30|1)(," NUMBER "){3},(N|B|B,C|B,R)," DATA
         "|GG" NUMBER "," NUMBER "," TEXT "|F[SRKP]" TEXT "|F[EI]|GM" TEXT "," NUMBER "|GK" TEXT "|GI|V" NUMBER "," NUMBER ",[LRCNZ]," TEXT
         "|C" NUMBER "," NUMBER ",[+-]?" NUMBER "," TEXT "|[?]V" NUMBER "," TEXT "|[?]C" NUMBER "," NUMBER "|VC|P" NUMBER ")$";
@@ -218,8 +219,8 @@ static bool pass_piece(struct rest *r, char piece)
 static unsigned first_at_fault(const uint8_t *line, unsigned length)
 {
     static const char *const commands[][2] = {
-        {"VC", ""}, {"?V", "n,q"}, {"?C", "n,n"}, {"LO", "n,n,n,n"}, {"LE", "n,n,n,n"}, {"LW", "n,n,n,n"}, {"GG", "n,n,q"}, {"GM", "q,n"},
-        {"GK", "q"}, {"GI", ""}, {"FS", "q"}, {"FE", ""}, {"FR", "q"}, {"FK", "q"}, {"FI", ""}, {"FP", "q"}, {"ZT", ""}, {"ZB", ""},
+        {"LSE", "n,n,n,n,n"}, {"LSW", "n,n,n,n,n"}, {"LS", "n,n,n,n,n"}, {"VC", ""}, {"?V", "n,q"}, {"?C", "n,n"}, {"LO", "n,n,n,n"}, {"LE", "n,n,n,n"},
+        {"LW", "n,n,n,n"}, {"GG", "n,n,q"}, {"GM", "q,n"}, {"GK", "q"}, {"GI", ""}, {"FS", "q"}, {"FE", ""}, {"FR", "q"}, {"FK", "q"}, {"FI", ""}, {"FP", "q"}, {"ZT", ""}, {"ZB", ""},
         {"Q", "n,n"}, {"q", "n"}, {"N", ""}, {"R", "n,n"}, {"X", "n,n,n,n,n"}, {"A", "n,n,n,n,n,m,d"}, {"B", "n,n,n,t,n,n,n,b,d"},
         {"V", "n,n,j,q"}, {"C", "n,n,s,q"}, {"P", "n"}};
 
@@ -257,7 +258,7 @@ static void tell(struct told *t, const uint8_t *line, unsigned length)
 
 static void change_sample(struct told *t, const char *sample, unsigned length, unsigned place)
 {
-    static const char put_in[] = ",\"0LRMVCN +-.EB3x";
+    static const char put_in[] = ",\"0LRMVCN +-.EB3xSW";
     uint8_t line[MOST_LINE];
 
     memcpy(line, sample, length);
@@ -299,7 +300,8 @@ struct told short_tails(void)
     static const struct {
         const char *stem, *bytes;
         unsigned most;
-    } tails[] = {{"", "QNLOVC?FGSIZT1,\"", 3}, {"B0,0,0,", "E320,1N\x01", 5}, {"B0,0,0,3,2,3,50,", "NBCR,0\"V", 5}, {"A0,0,0,1,1,N,", "VC1LRM.\",", 5},
+    } tails[] = {{"", "QNLOVC?FGSIZT1,\"", 3}, {"L", "SEWO1,x", 5}, {"LS1,2,3,4,", "E0,x9", 4},
+                 {"B0,0,0,", "E320,1N\x01", 5}, {"B0,0,0,3,2,3,50,", "NBCR,0\"V", 5}, {"A0,0,0,1,1,N,", "VC1LRM.\",", 5},
                  {"A0,0,0,1,1,", "NR,\"V0", 5}, {"C0,1,", "+-1,\"x", 5}, {"V0,1,", "LZ,\"1 ", 5}, {"GM", "\",1a", 6}, {"R12345678", "9,0x", 6},
                  {"FK", "\"*a\x7f", 5}, {"A0,0,0,1,1,N,V0M12345678", "9.12", 5}, {"C0,1,-12345678", "9,\"", 5}, {"?C0,12345678", "90,", 4}};
     struct told t = {0, 0, 0};

@@ -1,6 +1,6 @@
 /* selftest.c: paper 01's sample session, as paper 02 changed it, and its ten proof cases, as far as the calls show them,
- * paper 02's line under the bars, places of refusals, counters that run out, two kinds of full, the number of free portions and the
- * question whether it fits, and drawing dot by dot.
+ * paper 02's line under the bars, places of refusals, counters that run out, two kinds of full, the number of free portions, the
+ * question whether it fits and slanted lines, and drawing dot by dot.
  *
  *   selftest                   runs all of them
  *   selftest bars TYPE W DATA  writes the modules of one symbol, narrow 1 and wide W, as 1 (bar) and 0, for zint-check
@@ -578,7 +578,7 @@ static void ruled_cases(struct bench *b)
 static void letter_cases(struct bench *b)
 {
     static const struct pointed lines[] = {
-        {"x", 6, 0}, {" N", 6, 0}, {"F", 6, 1}, {"G", 6, 1}, {"Z", 6, 1}, {"?", 6, 1}, {"LX", 6, 0}, {"LS0,0,1,5,5", 6, 0}, {"FX\"A\"", 6, 0},
+        {"x", 6, 0}, {" N", 6, 0}, {"F", 6, 1}, {"G", 6, 1}, {"Z", 6, 1}, {"?", 6, 1}, {"LX", 6, 0}, {"LP0,0,1,5,5", 6, 0}, {"FX\"A\"", 6, 0},
         {"GX", 6, 0}, {"ZC", 6, 0}, {"?X0,1", 6, 0}, {"?", 6, 1}, {"?V", 6, 2}, {"V", 6, 1}, {"VC0", 6, 2}, {"VCC", 6, 2}, {"Vx", 6, 1}, {"V,", 6, 1},
         {"CV", 6, 1}, {"RESET", 6, 1}, {"PC", 6, 1}, {"q", 6, 1}, {"ZTT", 6, 2}, {"FIX", 6, 2}, {"FI\"A\"", 6, 2}, {"FE ", 6, 2}, {"NN", 6, 1}, {"N,", 6, 1}};
 
@@ -2339,6 +2339,538 @@ static void fits_cases(void)
     clear_away(&b.desk);
 }
 
+/* ---- slanted lines ---- */
+
+struct segment {
+    int a, b, c, d, e;
+};
+
+/* Two pages of equal bytes, one for the peer and one for the plain telling, and the width and length at which drawing is cut. */
+struct two_pages {
+    uint8_t peer[MOST_ROWS * ROW_BYTES], plain[MOST_ROWS * ROW_BYTES];
+    int width, length;
+};
+
+static int64_t square(int64_t number)
+{
+    return number * number;
+}
+
+/* "A dot belongs to the line exactly when four times the square of its distance to the segment is at most c squared. The square of the
+ * distance is a fraction of whole numbers: to the nearer end where the foot lies outside the segment, otherwise the cross product squared over
+ * the length squared. Equal ends make a disc." */
+static bool belongs(const struct segment *s, int x, int y)
+{
+    int64_t across = s->d - s->a, down = s->e - s->b, length_squared = square(across) + square(down);
+    int64_t foot = across * (x - s->a) + down * (y - s->b), cross = across * (y - s->b) - down * (x - s->a);
+    int64_t to_first = square(x - s->a) + square(y - s->b), to_other = square(x - s->d) + square(y - s->e);
+
+    if (foot < 0 || foot > length_squared || length_squared == 0)
+        return 4 * (to_first < to_other ? to_first : to_other) <= square(s->c);
+    return 4 * square(cross) <= square(s->c) * length_squared;
+}
+
+/* Every dot of the page asked by itself. */
+static void draw_plainly(struct two_pages *p, const struct segment *s, enum ink ink)
+{
+    for (int y = 0; y < p->length; y++)
+        for (int x = 0; x < p->width; x++) {
+            uint8_t *byte = p->plain + y * ROW_BYTES + x / 8, bit = (uint8_t)(128 >> x % 8);
+            if (belongs(s, x, y))
+                *byte = (uint8_t)(ink == BLACK ? *byte | bit : ink == WHITE ? *byte & ~bit : *byte ^ bit);
+        }
+}
+
+/* Both pages of so many dots, with the same dots black by chance, and some white rows below them. */
+static size_t begin_pages(struct two_pages *p, int width, int length)
+{
+    size_t bytes = (size_t)(length < MOST_ROWS - 2 ? length + 2 : MOST_ROWS) * ROW_BYTES;
+
+    p->width = width;
+    p->length = length;
+    for (size_t i = 0; i < bytes; i++)
+        p->peer[i] = p->plain[i] = (uint8_t)(chance_number() >> 5);
+    return bytes;
+}
+
+/* True if the peer's page and the plain one are the same behind this line, rows and columns past the cut too. */
+static bool drawn_so(struct two_pages *p, struct segment s, enum ink ink, int width, int length)
+{
+    struct paper paper = {p->peer, width, length};
+    size_t bytes = begin_pages(p, width, length);
+
+    draw_slanted(&paper, s.a, s.b, s.c, s.d, s.e, ink);
+    draw_plainly(p, &s, ink);
+    if (memcmp(p->peer, p->plain, bytes) == 0)
+        return true;
+    printf("LS%d,%d,%d,%d,%d in ink %u on %d by %d\n", s.a, s.b, s.c, s.d, s.e, ink, width, length);
+    return false;
+}
+
+static struct two_pages pages;
+
+/* Each segment that reaches up to nine dots across and down, with each thickness to 24 and some more. */
+static void small_segments(void)
+{
+    unsigned lines = 0, wrong = 0;
+    char text[80];
+
+    for (int across = -9; across <= 9; across++)
+        for (int down = -9; down <= 9; down++)
+            for (int c = 1; c <= 80; c += c < 24 ? 1 : 7) {
+                int at = 10 + c / 2;
+                struct segment s = {at, at, c, at + across, at + down};
+                wrong += !drawn_so(&pages, s, (enum ink)(lines++ % 3), 20 + c + 3 > 80 ? 20 + c + 3 : 80, 20 + c + 3);
+            }
+    snprintf(text, sizeof text, "told again: %u small slanted lines", lines);
+    check(text, wrong == 0);
+}
+
+/* Segments with dots of which just the foot decides, each in eight directions: across and down exchanged, and to each side. */
+static void close_segments(void)
+{
+    static const int close[][3] = {{14, 5, 7}, {17, 6, 7}, {20, 7, 7}, {23, 8, 7}, {26, 9, 7}, {28, 10, 7}, {29, 10, 7}, {40, 14, 7}, {23, 6, 17}, {27, 7, 17}, {31, 8, 17}, {24, 11, 25},
+                                   {35, 16, 25}, {29, 6, 31}, {34, 7, 31}, {35, 6, 49}, {41, 7, 49}, {29, 9, 55}, {34, 13, 55}, {41, 6, 71}, {48, 7, 71}};
+    unsigned wrong = 0;
+
+    for (unsigned i = 0; i < sizeof close / sizeof close[0]; i++)
+        for (int way = 0; way < 8; way++) {
+            int across = close[i][way % 2] * (way & 2 ? -1 : 1), down = close[i][1 - way % 2] * (way & 4 ? -1 : 1);
+            wrong += !drawn_so(&pages, (struct segment){100, 100, close[i][2], 100 + across, 100 + down}, INVERT, 200, 200);
+        }
+    check("told again: where the foot alone decides, eight ways", wrong == 0);
+}
+
+static int number_to(int most)
+{
+    return (int)(chance_number() % (unsigned)(most + 1));
+}
+
+/* A coordinate on the page or near it, or anywhere in its limits. */
+static int near_or_far(int size, int most)
+{
+    return number_to(number_to(3) && size + 60 < most ? size + 60 : most);
+}
+
+/* At an origin or at none; some level, upright, at 45 degrees or with equal ends. */
+static struct segment segment_by_chance(int width, int length)
+{
+    int x = number_to(3) ? 0 : number_to(2048), y = number_to(3) ? 0 : number_to(4096), c = 1 + number_to(number_to(2) ? 79 : 5);
+    struct segment s = {x + near_or_far(width, 2047), y + near_or_far(length, 4095), c, x + near_or_far(width, 2047), y + near_or_far(length, 4095)};
+    int aside = s.d - s.a;
+
+    switch (number_to(9)) {
+    case 0: s.d = s.a; break;
+    case 1: s.e = s.b; break;
+    case 2: s.d = s.a; s.e = s.b; break;
+    case 3: s.e = s.b + aside >= y && s.b + aside <= y + 4095 ? s.b + aside : s.b; break;
+    }
+    return s;
+}
+
+static void segments_by_chance(unsigned wanted, int most_width, int most_length, const char *what)
+{
+    unsigned wrong = 0;
+    char text[80];
+
+    for (unsigned i = 0; i < wanted; i++) {
+        int width = 80 + number_to(most_width - 80), length = 1 + number_to(most_length - 1);
+        wrong += !drawn_so(&pages, segment_by_chance(width, length), (enum ink)(i % 3), width, length);
+    }
+    snprintf(text, sizeof text, "told again: %u slanted lines %s", wanted, what);
+    check(text, wrong == 0);
+}
+
+/* The farthest ends that R2048,4096 and the limits allow, and from corner to corner of the greatest page. */
+static void farthest_segments(void)
+{
+    static const struct segment far[] = {
+        {4095, 8191, 80, 2048, 4096}, {2048, 8191, 80, 4095, 4096}, {2047, 4095, 80, 0, 0}, {0, 4095, 80, 2047, 0}, {0, 0, 1, 607, 3999},
+        {607, 0, 1, 0, 3999}, {0, 0, 80, 607, 3999}, {0, 3999, 79, 607, 0}, {0, 0, 1, 2047, 4095}, {2047, 0, 2, 0, 4095}, {0, 0, 80, 2047, 1},
+        {0, 1, 80, 2047, 0}, {0, 0, 80, 1, 4095}, {1, 0, 80, 0, 4095}, {607, 0, 80, 607, 4095}, {0, 3999, 80, 2047, 3999}, {647, 0, 80, 647, 4095},
+        {646, 0, 80, 647, 4095}, {0, 4039, 80, 607, 4039}, {0, 4038, 80, 607, 4039}, {0, 4040, 80, 607, 4039}, {2047, 8191, 80, 600, 4096}};
+    unsigned wrong = 0;
+
+    for (unsigned i = 0; i < sizeof far / sizeof far[0]; i++)
+        for (int c = 0; c < 2; c++)
+            wrong += !drawn_so(&pages, far[i], (enum ink)((i + (unsigned)c) % 3), 608 - 5 * c, 4000 - 13 * c);
+    check("told again: the longest lines and the farthest ends", wrong == 0);
+}
+
+/* ---- slanted lines by hand ---- */
+
+/* The background is these rows, # for black, and white everywhere else. */
+static int looks(const struct bench *b, const char *const *rows, unsigned number)
+{
+    unsigned black = 0, wrong = 0;
+
+    for (unsigned y = 0; y < number; y++)
+        for (unsigned x = 0; rows[y][x]; x++) {
+            black += rows[y][x] == '#';
+            wrong += dot(b, BACKGROUND, (int)x, (int)y) != (rows[y][x] == '#');
+        }
+    return wrong == 0 && black == black_dots(b, BACKGROUND);
+}
+
+/* Of a line sent on a white page. */
+static int drawn_as(struct bench *b, const char *line, const char *const *rows, unsigned number)
+{
+    return send(b, "N") == 0 && send(b, line) == 0 && looks(b, rows, number);
+}
+
+#define DRAWN_AS(b, line, rows) drawn_as(b, line, rows, sizeof rows / sizeof rows[0])
+
+/* "even c: `LS3,5,2,9,5` has three rows. Ends are round." */
+static void level_by_hand(struct bench *b)
+{
+    static const char *const two[] = {"", "", "", "", "...#######", "..#########", "...#######"};
+    static const char *const upright[] = {"", "", "", ".....#", "....###", "....###", "....###", ".....#"};
+    static const char *const five[] = {"", "", "", "..#######", ".#########", ".#########", ".#########", "..#######"};
+
+    check("LS3,5,2,9,5 has three rows and round ends", DRAWN_AS(b, "LS3,5,2,9,5", two));
+    check("so has an upright one columns", DRAWN_AS(b, "LS5,4,2,5,6", upright));
+    check("LS3,5,5,7,5 has five rows, the outer ones shorter", DRAWN_AS(b, "LS3,5,5,7,5", five));
+}
+
+/* "Equal ends make a disc." */
+static void discs_by_hand(struct bench *b)
+{
+    static const char *const discs[8][9] = {
+        {"", "", "", "", "....#", "", "", "", ""},
+        {"", "", "", "....#", "...###", "....#", "", "", ""},
+        {"", "", "", "...###", "...###", "...###", "", "", ""},
+        {"", "", "....#", "...###", "..#####", "...###", "....#", "", ""},
+        {"", "", "...###", "..#####", "..#####", "..#####", "...###", "", ""},
+        {"", "....#", "..#####", "..#####", ".#######", "..#####", "..#####", "....#", ""},
+        {"", "...###", "..#####", ".#######", ".#######", ".#######", "..#####", "...###", ""},
+        {"....#", "..#####", ".#######", ".#######", "#########", ".#######", ".#######", "..#####", "....#"}};
+    unsigned wrong = 0;
+
+    for (unsigned c = 1; c <= 8; c++) {
+        char line[32];
+        sprintf(line, "LS4,4,%u,4,4", c);
+        wrong += !drawn_as(b, line, discs[c - 1], 9);
+    }
+    check("discs of thickness 1 to 8", wrong == 0);
+}
+
+static void diagonals_by_hand(struct bench *b)
+{
+    static const char *const one[] = {"", "", "..#", "...#", "....#", ".....#", "......#"};
+    static const char *const two[] = {"", "..#", ".###", "..###", "...###", "....###", ".....###", "......#"};
+    static const char *const three[] = {"", "", "..###", "..####", "..#####", "...#####", "....####", ".....###"};
+    static const char *const falling[] = {"", "", ".....###", "....####", "...#####", "..#####", "..####", "..###"};
+
+    check("at 45 degrees thickness 1 is one dot a row", DRAWN_AS(b, "LS2,2,1,6,6", one));
+    check("thickness 2 has three, thickness 3 five",
+          DRAWN_AS(b, "LS2,2,2,6,6", two) && DRAWN_AS(b, "LS3,3,3,6,6", three) && DRAWN_AS(b, "LS6,3,3,3,6", falling));
+}
+
+/* Three across and four down are five long, so the dots four across and three up from a dot of the segment are just five away. */
+static void boundaries_by_hand(struct bench *b)
+{
+    static const int dots[][2] = {{24, 17}, {16, 23}, {27, 21}, {19, 27}, {30, 25}, {22, 31}, {33, 29}, {25, 35}, {17, 16}, {32, 36}};
+    unsigned on = 0, off = 0;
+
+    send(b, "N");
+    send(b, "LS20,20,10,29,32");
+    for (unsigned i = 0; i < 10; i++)
+        on += (unsigned)dot(b, BACKGROUND, dots[i][0], dots[i][1]);
+    send(b, "N");
+    send(b, "LS20,20,9,29,32");
+    for (unsigned i = 0; i < 10; i++)
+        off += (unsigned)dot(b, BACKGROUND, dots[i][0], dots[i][1]);
+    check("dots just c/2 away belong to the line, and not to c - 1", on == 10 && off == 0);
+}
+
+/* Two across and three up from the first end the square of the distance to it is 13, and a quarter of 49 is less. The foot lies on the segment there, and the cross
+ * product is 52: four times its square is 10,816, and 49 times the length squared, 221, is 10,829. On the other side the foot lies outside. */
+static void feet_by_hand(struct bench *b)
+{
+    static const int on[][2] = {{22, 17}, {32, 28}}, off[][2] = {{18, 23}, {36, 22}};
+    unsigned right = 0;
+
+    send(b, "N");
+    send(b, "LS20,20,7,34,25");
+    for (unsigned i = 0; i < 2; i++)
+        right += dot(b, BACKGROUND, on[i][0], on[i][1]) && !dot(b, BACKGROUND, off[i][0], off[i][1]);
+    check("a foot just on the segment and one just outside it", right == 2);
+}
+
+/* Level and upright, with each thickness: c/2 rounded down on both sides of the segment, and as much past its ends. */
+static void rows_by_hand(struct bench *b)
+{
+    unsigned wrong = 0;
+
+    for (int c = 1; c <= 80; c++)
+        for (int turned = 0; turned < 2; turned++) {
+            int rows = 0, columns = 0;
+            char line[40];
+            sprintf(line, turned ? "LS100,60,%d,100,140" : "LS60,100,%d,140,100", c);
+            send(b, "N");
+            wrong += send(b, line) != 0;
+            for (int i = 0; i < 200; i++) {
+                rows += dot(b, BACKGROUND, turned ? i : 100, turned ? 100 : i);
+                columns += dot(b, BACKGROUND, turned ? 100 : i, turned ? i : 100);
+            }
+            wrong += rows != 2 * (c / 2) + 1 || columns != 81 + 2 * (c / 2);
+        }
+    check("level and upright, c 1 to 80: rows and columns counted", wrong == 0);
+}
+
+/* ---- what follows from the definition ---- */
+
+static void send_segment(struct bench *b, const char *word, struct segment s)
+{
+    char line[64];
+
+    sprintf(line, "%s%d,%d,%d,%d,%d", word, s.a, s.b, s.c, s.d, s.e);
+    if (send(b, line) != 0) {
+        printf("not taken: %s\n", line);
+        exit(1);
+    }
+}
+
+static int same_background(const struct bench *one, const struct bench *other)
+{
+    return memcmp(one->desk.bytes[BACKGROUND], other->desk.bytes[BACKGROUND], one->length[BACKGROUND]) == 0;
+}
+
+/* Both desks have the same background, whatever stands there, before each line and behind it. */
+static void laws_of_ink(struct bench *b, struct bench *other)
+{
+    unsigned exchanged = 0, twice = 0, white = 0, once = 0;
+
+    for (unsigned i = 0; i < 400; i++) {
+        struct segment s = {number_to(360), number_to(300), 1 + number_to(79), number_to(360), number_to(300)};
+        if (i % 8 == 0)
+            s = (struct segment){s.a, s.b, s.c, s.a, s.b};
+        send_segment(b, "LSE", s);
+        send_segment(other, "LSE", (struct segment){s.d, s.e, s.c, s.a, s.b});
+        exchanged += !same_background(b, other);
+        send_segment(b, "LSE", s);
+        send_segment(b, "LSE", s);
+        twice += !same_background(b, other);
+        send_segment(b, "LSW", s);
+        send_segment(other, "LS", s);
+        send_segment(other, "LSE", s);
+        white += !same_background(b, other);
+        send_segment(b, "LSE", s);
+        send_segment(other, "LS", s);
+        once += !same_background(b, other);
+    }
+    check("ends exchanged give the same page", exchanged == 0);
+    check("LSE twice gives back the page", twice == 0);
+    check("LS and then LSE is LSW, whatever stood there", white == 0);
+    check("where all is white LSE is LS: each dot is touched once", once == 0);
+}
+
+/* "R is added to both ends": the same dots as with greater numbers, and the page cut at its own width and length. */
+static void laws_of_place(struct bench *b, struct bench *wide)
+{
+    unsigned wrong = 0;
+
+    for (unsigned i = 0; i < 300; i++) {
+        struct segment s = {number_to(300), number_to(250), 1 + number_to(79), number_to(300), number_to(250)};
+        int x = number_to(100), y = number_to(100);
+        char origin[40];
+        sprintf(origin, "R%d,%d", x, y);
+        send(b, "N");
+        send(b, origin);
+        send_segment(b, "LS", s);
+        send(wide, "N");
+        send_segment(wide, "LS", (struct segment){s.a + x, s.b + y, s.c, s.d + x, s.e + y});
+        for (int v = 0; v < 300; v++)
+            for (int u = 0; u < 608; u++)
+                wrong += dot(b, BACKGROUND, u, v) != (u < 333 && v < 277 && dot(wide, BACKGROUND, u, v));
+    }
+    send(b, "R0,0");
+    check("R is added to both ends, and the page cuts the line", wrong == 0);
+}
+
+/* With the greatest R no line reaches the page any more, in no direction. */
+static void farthest_origins(struct bench *b)
+{
+    static const char *const origins[] = {"R2048,0", "R0,4096", "R2048,4096"};
+    unsigned black = 0;
+
+    for (unsigned i = 0; i < 3; i++) {
+        send(b, "N");
+        send(b, origins[i]);
+        send_segment(b, "LS", (struct segment){0, 0, 80, 2047, 4095});
+        send_segment(b, "LSE", (struct segment){0, 4095, 80, 2047, 0});
+        send_segment(b, "LS", (struct segment){0, 0, 80, 0, 0});
+        black += black_dots(b, BACKGROUND);
+    }
+    send(b, "R0,0");
+    check("at R2048 across or R4096 down no line reaches the page", black == 0);
+}
+
+/* Each black dot of the page looks into a mirror, aside and downwards. */
+static void laws_of_mirrors(struct bench *b, struct bench *other)
+{
+    unsigned wrong = 0;
+
+    for (unsigned i = 0; i < 300; i++) {
+        struct segment s = {number_to(332), number_to(276), 1 + number_to(79), number_to(332), number_to(276)};
+        bool aside = i % 2;
+        send(b, "N");
+        send(other, "N");
+        send_segment(b, "LS", s);
+        send_segment(other, "LS", aside ? (struct segment){332 - s.a, s.b, s.c, 332 - s.d, s.e} : (struct segment){s.a, 276 - s.b, s.c, s.d, 276 - s.e});
+        for (int y = 0; y < 277; y++)
+            for (int x = 0; x < 333; x++)
+                wrong += dot(b, BACKGROUND, x, y) != dot(other, BACKGROUND, aside ? 332 - x : x, aside ? y : 276 - y);
+    }
+    check("the mirrored line is the line in the mirror", wrong == 0);
+}
+
+/* ---- how slanted lines are written, recorded and drawn by labels ---- */
+
+static void slanted_places(struct bench *b)
+{
+    static const struct pointed form[] = {
+        {"LS", 6, 2}, {"LSE", 6, 3}, {"LSW", 6, 3}, {"LSx", 6, 2}, {"LSEx", 6, 3}, {"LSO0,0,1,5,5", 6, 2}, {"LSEW0,0,1,5,5", 6, 3}, {"LSWW0,0,1,5,5", 6, 3},
+        {"LSS0,0,1,5,5", 6, 2}, {"LSe0,0,1,5,5", 6, 2}, {"Ls0,0,1,5,5", 6, 0}, {"LES0,0,1,5,5", 6, 2}, {"LS,0,1,5,5", 6, 2}, {"LSE,0,1,5,5", 6, 3},
+        {"LS E0,0,1,5,5", 6, 2}, {"LS0", 6, 3}, {"LS0,", 6, 4}, {"LS0,0,1,5", 6, 9}, {"LS0,0,1,5,", 6, 10}, {"LSE0,0,1,5,", 6, 11}, {"LS0,0,1,5,x", 6, 10},
+        {"LS0,0,1,5,5,", 6, 11}, {"LS0,0,1,5,5,5", 6, 11}, {"LSW0,0,1,5,5E", 6, 12}, {"LS0,0,1,5,5 ", 6, 11}, {"LS0x0,1,5,5", 6, 3}, {"LS0,+0,1,5,5", 6, 4},
+        {"LSE1234567890,0,1,5,5", 6, 3}, {"LS0,0,1,5,0000000005", 6, 10}, {"LS9999,", 6, 7}, {"LSW9999,0,0,5,5x", 6, 15}, {"E0,0,1,5,5", 6, 0}};
+    static const struct pointed limit[] = {
+        {"LS2047,4095,80,2047,4095", 0, 0}, {"LSE0,0,1,0,0", 0, 0}, {"LSW000000000,000000000,000000001,000000000,0", 0, 0}, {"LS2048,0,1,0,0", 7, 2},
+        {"LS0,4096,1,0,0", 7, 4}, {"LS0,0,0,0,0", 7, 6}, {"LS0,0,81,0,0", 7, 6}, {"LS0,0,1,2048,0", 7, 8}, {"LS0,0,1,0,4096", 7, 10}, {"LSE2048,0,1,0,0", 7, 3},
+        {"LSE0,4096,1,0,0", 7, 5}, {"LSE0,0,0,0,0", 7, 7}, {"LSE0,0,81,0,0", 7, 7}, {"LSE0,0,1,2048,0", 7, 9}, {"LSE0,0,1,0,4096", 7, 11}, {"LSW2048,4096,0,0,0", 7, 3},
+        {"LSW0,4096,81,2048,0", 7, 5}, {"LSW0,0,81,2048,4096", 7, 7}, {"LSW0,0,1,2048,4096", 7, 9}, {"LSW0,0,1,999999999,0", 7, 9}, {"LS2047,4095,0,2047,4095", 7, 12}};
+
+    check("slanted lines: 6 points, and what is cut to its LF", POINT_SO(b, form));
+    check("slanted lines: 7 points to each field at its limits", POINT_SO(b, limit));
+}
+
+/* "LS may be recorded", with leading zeros dropped; FP lists what is kept. */
+static void slanted_recorded(struct bench *b)
+{
+    static const struct pointed lines[] = {
+        {"FS\"S\"", 0, 0}, {"LS003,05,2,9,005", 0, 0}, {"LSE010,0,08,00,200", 0, 0}, {"LS0,0,81,5,5", 7, 6}, {"LSx", 6, 2}, {"LSW0,0,1,7,9", 0, 0}, {"FE", 0, 0}, {"FR\"S\"", 0, 0},
+        {"FP\"S\"", 0, 0}};
+    static const char kept[] = "LS3,5,2,9,5\nLSE10,0,8,0,200\nLSW0,0,1,7,9\n";
+    static const struct pointed owing[] = {{"P2", 0, 0}, {"LS3,5,2,9,5", 8, 0}, {"LSE3,5,81,9,5", 7, 7}, {"LSW3,5,2,9", 6, 10}};
+
+    check("LS, LSE and LSW are recorded where R and LO are", POINT_SO(b, lines));
+    check("without leading zeros, as FP lists them", count(b, 1) == sizeof kept - 1 && memcmp(b->desk.bytes[OUTPUT], kept, sizeof kept - 1) == 0);
+    check("while labels are owed LS is 8, and 6 and 7 before it", POINT_SO(b, owing));
+    check("nothing of it was drawn by recording it", black_dots(b, BACKGROUND) == 0);
+}
+
+/* A form whose only line is this one, put in by hand. */
+static unsigned sound_with(struct bench *b, const char *line)
+{
+    size_t length = strlen(line);
+
+    begin(b, 4, 2, 0);
+    if (form(b, "S") != 0)
+        abort();
+    memcpy(b->desk.bytes[STORE], line, length);
+    b->desk.bytes[DIRECTORY][12] = (uint8_t)length;
+    return send(b, "");
+}
+
+static void slanted_sound(struct bench *b)
+{
+    static const char *const sound_lines[] = {"LS3,5,2,9,5\n", "LSE2047,4095,80,0,0\n", "LSW0,0,1,2047,4095\n"};
+    static const char *const others[] = {
+        "LS03,5,2,9,5\n", "LS3,5,2,9,05\n", "LSE3,5,00,9,5\n", "LS3,5,0,9,5\n", "LS3,5,81,9,5\n", "LS2048,5,2,9,5\n", "LS3,4096,2,9,5\n", "LSW3,5,2,2048,5\n",
+        "LSW3,5,2,9,4096\n", "LSO3,5,2,9,5\n", "LS3,5,2,9\n", "LS3,5,2,9,5,\n", "LS3,5,2,9,5", "LSE\n", "LS\n"};
+    unsigned wrong = 0;
+
+    for (unsigned i = 0; i < 3; i++)
+        wrong += sound_with(b, sound_lines[i]) != 0;
+    check("a form of a slanted line is sound", wrong == 0);
+    wrong = 0;
+    for (unsigned i = 0; i < sizeof others / sizeof others[0]; i++)
+        wrong += sound_with(b, others[i]) != 3;
+    check("and 3 with any other number, zero, letter or end", wrong == 0);
+}
+
+/* Lines by chance sent to a background and recorded in a form, told again on the plain page; R between them, the page turned or not. */
+static void label_by_chance(struct bench *b, unsigned *wrong)
+{
+    static const char *const words[] = {"LS", "LSW", "LSE"};
+    int width = 80 + number_to(120), length = 1 + number_to(99), split = number_to(8), x = 0, y = 0;
+    char line[64];
+
+    begin_pages(&pages, width, length);
+    memset(pages.plain, 0, (size_t)(length + 2) * ROW_BYTES);
+    call_station(&peer_station, &b->desk, OPEN, b->length);
+    sprintf(line, "q%d", width);
+    send(b, line);
+    sprintf(line, "Q%d,0", length);
+    send(b, line);
+    for (int i = 0; i < 16; i++) {
+        struct segment s = {number_to(width + 40), number_to(length + 40), 1 + number_to(i % 2 ? 8 : 79), number_to(width + 40), number_to(length + 40)};
+        if (i == split)
+            *wrong += send(b, "FS\"S\"") != 0;
+        if (i % 4 == 1) {
+            sprintf(line, "R%d,%d", x = number_to(30), y = number_to(30));
+            *wrong += send(b, line) != 0;
+        }
+        send_segment(b, words[i % 3], s);
+        draw_plainly(&pages, &(struct segment){s.a + x, s.b + y, s.c, s.d + x, s.e + y}, (enum ink)(i % 3));
+    }
+    *wrong += send(b, "FE") != 0 || send(b, "FR\"S\"") != 0 || send(b, number_to(1) ? "ZB" : "ZT") != 0 || send(b, "P1") != 0 || label(b) != 0;
+    for (int v = 0; v < length; v++)
+        for (int u = 0; u < width; u++) {
+            bool turned = b->desk.bytes[SESSION][4] == 1;
+            int at_x = turned ? width - 1 - u : u, at_y = turned ? length - 1 - v : v;
+            *wrong += dot(b, PAGE, u, v) != (pages.plain[at_y * ROW_BYTES + at_x / 8] >> (7 - at_x % 8) & 1);
+        }
+}
+
+static void slanted_labels(struct bench *b)
+{
+    unsigned wrong = 0;
+
+    for (unsigned i = 0; i < 300; i++)
+        label_by_chance(b, &wrong);
+    check("300 labels of background and form, straight and turned", wrong == 0);
+}
+
+static void slanted_cases(void)
+{
+    struct bench b, other;
+
+    small_segments();
+    close_segments();
+    segments_by_chance(20000, 200, 120, "on small pages");
+    segments_by_chance(300, 608, 4000, "on great pages");
+    farthest_segments();
+    open_bench(&b, 300, empty_font, sizeof empty_font);
+    level_by_hand(&b);
+    discs_by_hand(&b);
+    diagonals_by_hand(&b);
+    boundaries_by_hand(&b);
+    feet_by_hand(&b);
+    rows_by_hand(&b);
+    open_bench(&other, 400, empty_font, sizeof empty_font);
+    send(&b, "q333");
+    send(&b, "Q277,0");
+    laws_of_place(&b, &other);
+    farthest_origins(&b);
+    clear_away(&other.desk);
+    open_bench(&other, 300, empty_font, sizeof empty_font);
+    send(&other, "q333");
+    send(&other, "Q277,0");
+    laws_of_mirrors(&b, &other);
+    send(&b, "N");
+    send(&other, "N");
+    laws_of_ink(&b, &other);
+    slanted_places(&b);
+    send(&b, "N");
+    slanted_recorded(&b);
+    slanted_labels(&b);
+    slanted_sound(&b);
+    clear_away(&other.desk);
+    clear_away(&b.desk);
+}
+
 /* ---- rectangles, the turned page, a picture ---- */
 
 /* Rectangles in each ink, kept dot by dot in a second page. */
@@ -2458,6 +2990,7 @@ int main(int argc, char **argv)
     full_cases();
     free_number_cases();
     fits_cases();
+    slanted_cases();
     rectangle_cases();
     picture_case();
     return failures != 0;

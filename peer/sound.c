@@ -148,7 +148,8 @@ static bool others_free(const struct memory *m, const uint8_t *marked)
 static bool may_be_recorded(enum word word)
 {
     switch (word) {
-    case W_R: case W_V: case W_C: case W_A: case W_B: case W_LO: case W_LE: case W_LW: case W_X: case W_GG: return true;
+    case W_R: case W_V: case W_C: case W_A: case W_B: case W_LO: case W_LE: case W_LW: case W_LS: case W_LSE: case W_LSW: case W_X:
+    case W_GG: return true;
     default: return false;
     }
 }

@@ -81,6 +81,13 @@ static void run_picture(struct run *r, const struct command *c, int x, int y)
     draw_picture(&r->paper, x, y, start_of(r->memory, entry_at(r->memory, i)));
 }
 
+/* "R is added to both ends." */
+static void run_slanted(struct run *r, const struct command *c, enum ink ink)
+{
+    draw_slanted(&r->paper, (int)(r->origin_x + c->n[0]), (int)(r->origin_y + c->n[1]), (int)c->n[2], (int)(r->origin_x + c->n[3]),
+                 (int)(r->origin_y + c->n[4]), ink);
+}
+
 /* A line that was judged and whose picture exists. V and C draw nothing. */
 static void run_line(struct run *r, const struct command *c)
 {
@@ -95,6 +102,9 @@ static void run_line(struct run *r, const struct command *c)
     case W_LO: draw_box(&r->paper, x, y, (int)c->n[2], (int)c->n[3], BLACK); break;
     case W_LW: draw_box(&r->paper, x, y, (int)c->n[2], (int)c->n[3], WHITE); break;
     case W_LE: draw_box(&r->paper, x, y, (int)c->n[2], (int)c->n[3], INVERT); break;
+    case W_LS: run_slanted(r, c, BLACK); break;
+    case W_LSW: run_slanted(r, c, WHITE); break;
+    case W_LSE: run_slanted(r, c, INVERT); break;
     case W_X:
         draw_frame(&r->paper, x, y, (int)c->n[2], (int)(r->origin_x + c->n[3]), (int)(r->origin_y + c->n[4]));
         break;
@@ -282,11 +292,12 @@ static enum answer owe_labels(struct call *k, const struct command *c)
     return TAKEN;
 }
 
-/* "While recording only R, V, C, A, B, LO, LE, LW, X, GG and FE have a place; otherwise all but V, C and FE." */
+/* "While recording only R, V, C, A, B, LO, LE, LW, X, GG and FE have a place; otherwise all but V, C and FE." And paper 02: "LS may be
+ * recorded." */
 static bool has_place(enum word word, bool recording)
 {
     switch (word) {
-    case W_R: case W_A: case W_B: case W_LO: case W_LE: case W_LW: case W_X: case W_GG: return true;
+    case W_R: case W_A: case W_B: case W_LO: case W_LE: case W_LW: case W_LS: case W_LSE: case W_LSW: case W_X: case W_GG: return true;
     case W_V: case W_C: case W_FE: return recording;
     default: return !recording;
     }

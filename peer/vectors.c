@@ -5,8 +5,8 @@
  * Without a seed it writes what is kept in peer/vectors: six sessions by chance, behind
  * them a seventh that is written here and draws every word of the line under the bars, an eighth of lines that are refused, in which
  * every kind of piece is once at fault, a ninth of jobs that take counters to their end, a tenth in which portions and entries
- * run out, each alone and both, an eleventh that moves the number of free portions in every way and puts wrong ones in, and a twelfth
- * of questions whether it fits, with every answer of theirs and what goes before what. Together they give each of the 24 answers.
+ * run out, each alone and both, an eleventh that moves the number of free portions in every way and puts wrong ones in, a twelfth
+ * of questions whether it fits, with every answer of theirs and what goes before what, and a thirteenth of slanted lines. Together they give each of the 24 answers.
  *
  * INPUT-FILE is a row of records, all numbers low byte first. A record starts with its letter:
  *
@@ -755,6 +755,65 @@ static void fits_session(struct record *r, struct event e)
     asked_at_once(r, &e);
 }
 
+/* ---- slanted lines ---- */
+
+/* Level, upright, at 45 degrees, discs, each ink; dots just c/2 away, because three across and four down are five long, and five and twelve
+ * thirteen: with the even c they belong to the line, with the odd one below it not. Across 14 and down 5 with thickness 7, a dot near each end belongs to
+ * it because its foot just lies on the segment, and one opposite does not. LSE twice gives back the page, ends exchanged too. */
+static const char *const slanted_inks[] = {
+    "LS3,5,2,9,5", "LSE10,10,8,100,200", "LSW0,0,1,7,9", "LS20,8,1,20,8", "LS30,8,2,30,8", "LSE40,8,3,40,8", "LS50,8,4,50,8", "LS60,8,7,60,8", "LSE75,20,16,75,20",
+    "LSW75,20,9,75,20", "LS100,20,9,150,20", "LSE120,12,10,120,30", "LS170,5,1,195,30", "LS200,30,2,225,5", "LSE230,5,3,255,30", "LS270,5,10,288,29", "LSE270,5,10,288,29",
+    "LSE288,29,10,270,5", "LSE270,5,9,288,29", "LS300,34,26,310,10", "LSE310,10,25,300,34", "LSW300,34,2,310,10", "LS330,2,1,390,37", "LSE333,37,1,391,3", "LS400,20,80,440,21",
+    "LSE400,20,79,440,21", "LSW380,0,33,460,39", "LSE480,10,7,494,15", "LSE520,28,17,543,22", "LSE0,0,1,607,39", "LSE607,39,1,0,0", "LSE0,39,80,607,0", "LSE0,39,80,607,0"};
+/* Over each edge of pages of other sizes, from outside, and past it without touching; then at origins, the farthest too. */
+static const char *const slanted_cuts[] = {
+    "LS590,5,20,640,35", "LSE607,0,80,607,4095", "LS0,39,41,600,60", "LSE2047,4095,80,0,0", "LSE0,4095,1,2047,0", "LSE647,0,80,647,39", "LSE648,0,80,648,39", "LSE0,79,80,90,79",
+    "LSE0,80,80,90,80", "q333", "Q33,0", "LS0,0,12,332,32", "LSE300,40,31,360,20", "LSE332,32,1,332,32", "LSE333,33,2,333,33", "LSE333,32,1,333,33", "R100,5", "LS0,0,3,50,20",
+    "LSE50,20,3,0,0", "LSW200,0,5,240,90", "R2048,0", "LSE0,0,80,2047,39", "R0,4096", "LSE0,0,80,300,4095", "R2048,4096", "LS0,0,80,2047,4095", "R0,0", "LSE100,5,3,150,25"};
+/* Each field past its limits, several at once, and the letters and fields that are not written so or end too soon. */
+static const char *const slanted_refused[] = {
+    "LS2048,0,1,0,0", "LSE0,4096,1,0,0", "LSW0,0,0,0,0", "LS0,0,81,0,0", "LSE0,0,1,2048,0", "LSW0,0,1,0,4096", "LSW0,0,81,2048,4096", "LS", "LSE", "LSW0", "LSx", "LSEx",
+    "LSO0,0,1,5,5", "LSe0,0,1,5,5", "LSEW0,0,1,5,5", "LS,0,1,5,5", "LS0,0,1,5", "LS0,0,1,5,", "LS0,0,1,5,5,", "LSW0,0,1,5,5 ", "LSE1234567890,0,1,5,5", "LS9999,0,0,0,0x"};
+/* Recorded without its zeros, listed, drawn straight and turned at the session's origin and the form's own; while labels are owed 8, 6 and 7. */
+static const char *const slanted_form[] = {
+    "N", "FS\"S\"", "LS003,05,02,0009,5", "LSE010,010,08,0100,0200", "LS1,2,0,3,4", "LSW5,0,3,95,038", "LSx", "R40,0", "LSE0,0,80,200,39", "LSW2047,4095,1,0,0", "FE", "FI", "FP\"S\"",
+    "LS0,20,5,332,20", "R7,3", "FR\"S\"", "P2"};
+static const char *const slanted_owed[] = {"LS0,0,1,5,5", "LSE0,0,81,5,5", "LSW0,0,1,5"};
+
+/* A byte of the form's first two lines, LS3,5,2,9,5 and LSE10,10,8,100,200: another ink or number is sound, another letter, a leading zero, a
+ * thickness of 0 or one field less is not. */
+static void damaged_slanted(struct record *r, struct event *e)
+{
+    static const struct other_byte damage[] = {{STORE, 14, 'W'}, {STORE, 14, 'O'}, {STORE, 14, '1'}, {STORE, 15, '0'}, {STORE, 2, 'E'}, {STORE, 6, '0'}, {STORE, 6, '9'}, {STORE, 9, '6'}, {STORE, 7, '7'}};
+
+    for (unsigned i = 0; i < sizeof damage / sizeof damage[0]; i++) {
+        uint8_t before = r->desk.bytes[STORE][damage[i].at];
+        poke_byte(r, e, STORE, damage[i].at, damage[i].byte);
+        send_lines(r, e, slanted_owed, 1);
+        poke_byte(r, e, STORE, damage[i].at, before);
+    }
+}
+
+static void slanted_session(struct record *r, struct event e)
+{
+    static const char *const turned[] = {"ZB", "P1"};
+
+    set_up(r, &e);
+    lend_digits(r, &e, 1, 1);
+    open_with(r, &e, 16, 4);
+    SEND_LINES(r, &e, slanted_inks);
+    SEND_LINES(r, &e, slanted_cuts);
+    SEND_LINES(r, &e, slanted_refused);
+    SEND_LINES(r, &e, slanted_form);
+    SEND_LINES(r, &e, slanted_owed);
+    damaged_slanted(r, &e);
+    draw_label(r, &e);
+    poke_byte(r, &e, STORE, 14, 'W');
+    draw_label(r, &e);
+    SEND_LINES(r, &e, turned);
+    draw_label(r, &e);
+}
+
 static void tell_places(const struct record *r)
 {
     for (unsigned a = 0; a < ANSWERS; a++) {
@@ -797,6 +856,7 @@ int main(int argc, char **argv)
     full_session(&r, room);
     number_session(&r, room);
     fits_session(&r, room);
+    slanted_session(&r, room);
     for (unsigned a = 0; a < ANSWERS; a++)
         missing += r.reached[a] == 0;
     fprintf(stderr, "%u calls, %ld bytes, %u of the %u answers not reached\n", r.calls, ftell(r.input), missing, ANSWERS);

@@ -6,7 +6,7 @@ use Rattle.declarations.specs.declared.Declared.{Declared}
 use Rattle.declarations.specs.Declarations.{nothing}
 use Rattle.grammar.specs.declared.Origin.{Origin as Place}
 use Rattle.grammar.specs.declared.Item.{Item}
-use Rattle.grammar.specs.declared.Item.the-variants.{Origin, Variable, Counter, Text, Bars, Box, Frame, Picture}
+use Rattle.grammar.specs.declared.Item.the-variants.{Origin, Variable, Counter, Text, Bars, Box, Frame, Slant, Picture}
 use Rattle.recording.specs.Judged.{declares}
 use Rattle.carried.specs.declared.Carried.{Carried}
 
@@ -29,6 +29,7 @@ originAfter at (Text t) = at
 originAfter at (Bars b) = at
 originAfter at (Box r) = at
 originAfter at (Frame f) = at
+originAfter at (Slant l) = at
 originAfter at (Picture p) = at
 
 -- what is left after an item

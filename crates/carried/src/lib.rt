@@ -24,6 +24,7 @@ fn origin_after(origin: Origin, item: Item) -> Origin
         Item::Bars(_) => origin,
         Item::Box(_) => origin,
         Item::Frame(_) => origin,
+        Item::Slant(_) => origin,
         Item::Picture(_) => origin,
     }
 }

@@ -4,3 +4,4 @@ pub mod Sample
 pub mod Cases
 pub mod Full
 pub mod FreeRoom
+pub mod Slants

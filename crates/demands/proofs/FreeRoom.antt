@@ -10,7 +10,7 @@ use lib.Dec.{eqb}
 use borrow.Author.Tests.{eqb-true, eq-eqb}
 use Rattle.font.specs.Rules.{legal as legalFont}
 use Rattle.grammar.specs.declared.Item.{Item}
-use Rattle.grammar.specs.declared.Item.the-variants.{Origin, Variable, Counter, Text, Bars, Box, Frame, Picture}
+use Rattle.grammar.specs.declared.Item.the-variants.{Origin, Variable, Counter, Text, Bars, Box, Frame, Slant, Picture}
 use Rattle.grammar.specs.declared.Command.{Command}
 use Rattle.grammar.specs.declared.Command.the-variants.{Item as item, End, Page, Forms, Pictures, Values, Listing}
 use Rattle.grammar.specs.declared.PageCommand.the-variants.{Length, Width, Turn, White}
@@ -96,6 +96,7 @@ module _ (font : List ℕ) (w : World) (s : Session) (line more : List ℕ) wher
   based-stays (Bars b) = refl
   based-stays (Box b) = refl
   based-stays (Frame f) = refl
+  based-stays (Slant l) = refl
   based-stays (Picture p) = refl
 
   placed-stays : (f : Found) (c : Command) → storing f c ≡ false → placed font w s line more c f .session .free ≡ s .free

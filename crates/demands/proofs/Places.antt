@@ -25,7 +25,7 @@ use Rattle.grammar.specs.Named.{VARIABLE, COUNTER, SET-VARIABLE, SET-COUNTER, D
 use Rattle.grammar.specs.Forms.{Form, forms, rowOf, inOrder}
 use Rattle.grammar.proofs.Rows.{_&_, Each, each-row}
 use Rattle.grammar.specs.declared.Item.{Item}
-use Rattle.grammar.specs.declared.Item.the-variants.{Origin, Variable, Counter, Text, Bars, Box, Frame, Picture}
+use Rattle.grammar.specs.declared.Item.the-variants.{Origin, Variable, Counter, Text, Bars, Box, Frame, Slant, Picture}
 use Rattle.grammar.specs.declared.Command.{Command}
 use Rattle.grammar.specs.declared.Command.the-variants.{Item as item, End, Page, Forms, Pictures, Values, Listing}
 use Rattle.grammar.specs.declared.FormCommand.the-variants.{Start, Retrieve, Erase as EraseForm}
@@ -170,6 +170,9 @@ entering =
     & (λ s vs ps k. entered-counter s vs ps k .1)
     & (λ s vs ps k. tt)
     & (λ s vs ps k. tt)
+    & (λ s vs ps k. tt)
+    & (λ s vs ps k. tt)
+    & (λ s vs ps k. tt)
     & (λ j s vs ps k. tt)
 
 module _ (rows : ℕ) (s : List ℕ) where
@@ -192,6 +195,7 @@ module _ (rows : ℕ) (s : List ℕ) where
   told-within (Bars b) t = chained (t .1)
   told-within (Box r) t = omega arith
   told-within (Frame f) t = omega arith
+  told-within (Slant l) t = omega arith
   told-within (Picture p) t = omega arith
 
   data-within : (i : Item) → readOf rows s ≡ Reads (item i) → dataPlace (shownBy i) ≤ length s

@@ -103,6 +103,9 @@ asking =
     & (λ s vs ps e. tt)
     & (λ s vs ps e. tt)
     & (λ s vs ps e. tt)
+    & (λ s vs ps e. tt)
+    & (λ s vs ps e. tt)
+    & (λ s vs ps e. tt)
     & (λ k s vs ps e. tt)
 
 store-asked : (rows : ℕ) (s : List ℕ) (p : StorePicture) → readOf rows s ≡ Reads (Pictures (Store p)) → asked s ≡ p .n

@@ -154,6 +154,9 @@ has-other directory line a e n =
         & (λ e s v p. refl)
         & (λ e s v p. refl)
         & (λ e s v p. refl)
+        & (λ e s v p. refl)
+        & (λ e s v p. refl)
+        & (λ e s v p. refl)
         & (λ k e s v p. refl)
 
     rows : others other (getD line 0 0) forms 0 ≡ true
@@ -193,6 +196,9 @@ declaring-other d line a e n m =
         & (λ e s v p. refl)
         & (λ e s v p. absurd (false≢true e))
         & (λ e s v p. absurd (false≢true e))
+        & (λ e s v p. refl)
+        & (λ e s v p. refl)
+        & (λ e s v p. refl)
         & (λ e s v p. refl)
         & (λ e s v p. refl)
         & (λ e s v p. refl)

@@ -38,6 +38,9 @@ codes =
     ∷ bytes "--n-v"
     ∷ bytes "-t"
     ∷ bytes "-"
+    ∷ bytes "--a-c-d-a-c"
+    ∷ bytes "---a-c-d-a-c"
+    ∷ bytes "---a-c-d-a-c"
     ∷ []
 
 abbrev pub codeAt : ℕ → ℕ → ℕ

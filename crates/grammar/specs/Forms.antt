@@ -1,4 +1,4 @@
--- Paper 01, "Commands": each command as the paper writes it, with its limits and with what its fields make.
+-- Paper 01, "Commands", and paper 02: each command as the paper writes it, with its limits and with what its fields make.
 -- Assumes nothing.
 use Prim.Native.Nat.{ℕ, suc, _+_, _-_}
 use Prim.Native.Char.{code}
@@ -11,7 +11,7 @@ use lib.Dec.{eqb}
 use Rattle.kinds.specs.Text.{bytes}
 use Rattle.fields.specs.Field.{kindFrom, underFrom}
 use Rattle.numbers.specs.Number.{nought}
-use Rattle.grammar.specs.Makers.{Maker, boxOf, isMinus, stepOf, sideOf, namedFrom}
+use Rattle.grammar.specs.Makers.{Maker, boxOf, slantOf, isMinus, stepOf, sideOf, namedFrom}
 use Rattle.grammar.specs.declared.Ink.the-variants.{Black, White, Inverted}
 use Rattle.grammar.specs.declared.Item.the-variants.{Origin, Variable, Counter, Text, Bars, Frame, Picture}
 use Rattle.grammar.specs.declared.PageCommand.the-variants.{Length, Width, Turn, White as Whiten}
@@ -35,6 +35,7 @@ pub record Form : Type 0 where
 abbrev pub form : String → List (ℕ × ℕ) → Maker → Form
 form f m c = record { fields = bytes f; bounds = λ rows. m; makes = c }
 
+-- the commands of paper 01, and behind them those of paper 02, §8: "a, d 0..2047; b, e 0..4095; thickness c 1..80; black, inverting, white"
 abbrev pub forms : List Form
 forms =
     record { fields = bytes "Qn,n"; bounds = λ rows. (1, rows) ∷ (0, 240) ∷ []; makes = λ s v p. Page (Length (record { m = v 0; g = v 1 })) }
@@ -65,6 +66,9 @@ forms =
     ∷ form "?Cn,n" ((0, 9) ∷ (0, 999999999) ∷ []) (λ s v p. Values (EnterCounter (record { n = v 0; value = v 1 })))
     ∷ form "Pn" ((1, 65535) ∷ []) (λ s v p. Values (Print (record { k = v 0 })))
     ∷ form "N" [] (λ s v p. Page Whiten)
+    ∷ form "LSn,n,n,n,n" ((0, 2047) ∷ (0, 4095) ∷ (1, 80) ∷ (0, 2047) ∷ (0, 4095) ∷ []) (λ s v p. slantOf Black v)
+    ∷ form "LSEn,n,n,n,n" ((0, 2047) ∷ (0, 4095) ∷ (1, 80) ∷ (0, 2047) ∷ (0, 4095) ∷ []) (λ s v p. slantOf Inverted v)
+    ∷ form "LSWn,n,n,n,n" ((0, 2047) ∷ (0, 4095) ∷ (1, 80) ∷ (0, 2047) ∷ (0, 4095) ∷ []) (λ s v p. slantOf White v)
     ∷ []
 
 -- Past the last row there is none: it has no letters, so no line is ever read by it, and what it makes does not matter.

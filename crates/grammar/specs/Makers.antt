@@ -9,7 +9,7 @@ use lib.Dec.{ltb, eqb}
 use Rattle.numbers.specs.Number.{nought}
 use Rattle.grammar.specs.declared.Ink.{Ink}
 use Rattle.grammar.specs.declared.Named.{Named}
-use Rattle.grammar.specs.declared.Item.the-variants.{Box}
+use Rattle.grammar.specs.declared.Item.the-variants.{Box, Slant}
 use Rattle.grammar.specs.declared.Command.{Command}
 use Rattle.grammar.specs.declared.Command.the-variants.{Item as item}
 
@@ -20,6 +20,10 @@ Maker = List ℕ → (ℕ → ℕ) → (ℕ → ℕ) → Command
 -- `LO` black, `LE` inverts, `LW` white: c by d dots from a, b on
 abbrev pub boxOf : Ink → (ℕ → ℕ) → Command
 boxOf i v = item (Box (record { ink = i; a = v 0; b = v 1; c = v 2; d = v 3 }))
+
+-- paper 02, §8, "`LS`, then nothing, `E` or `W`, then a,b,c,d,e": "black, inverting, white", c thick, from a, b to d, e
+abbrev pub slantOf : Ink → (ℕ → ℕ) → Command
+slantOf i v = item (Slant (record { ink = i; a = v 0; b = v 1; c = v 2; d = v 3; e = v 4 }))
 
 -- the step of a counter: its sign and how far it goes (the field counts from -1,000,000,000)
 abbrev pub isMinus : ℕ → Bool

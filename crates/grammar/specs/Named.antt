@@ -1,4 +1,4 @@
--- The rows of the table `forms` by name: by their letters where these are two capitals, else by what the command is for.
+-- The rows of the table `forms` by name: by their letters where these are two capitals or three, else by what the command is for.
 -- Assumes nothing.
 use Prim.Native.Nat.{ℕ}
 
@@ -85,6 +85,15 @@ PRINT = 26
 
 abbrev pub WHITE : ℕ
 WHITE = 27
+
+abbrev pub LS : ℕ
+LS = 28
+
+abbrev pub LSE : ℕ
+LSE = 29
+
+abbrev pub LSW : ℕ
+LSW = 30
 
 -- Where the number stands that names a variable or a counter: behind the one letter of V and C, and behind the two of ?V and ?C.
 abbrev pub DECLARED-AT : ℕ

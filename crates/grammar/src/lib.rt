@@ -85,6 +85,16 @@ pub struct Frame {
     pub e: usize,
 }
 
+// LS, LSE, LSW: a slanted line from a, b to d, e, of thickness c.
+pub struct Slant {
+    pub ink: Ink,
+    pub a: usize,
+    pub b: usize,
+    pub c: usize,
+    pub d: usize,
+    pub e: usize,
+}
+
 // GG: the picture of a name, at a, b.
 pub struct Picture {
     pub a: usize,
@@ -102,6 +112,7 @@ pub enum Item {
     Bars(Bars),
     Box(Rectangle),
     Frame(Frame),
+    Slant(Slant),
     Picture(Picture),
 }
 

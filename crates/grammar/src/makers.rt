@@ -1,10 +1,10 @@
 // What the fields of a row make: a command. The rows stand in the groups of `table`; v and p are the values and the places of a row's fields, a slot for each byte of its form.
 ghost use mathlib.Core.Path.{_≡_};
 ghost use mathlib.Core.List.{List};
-ghost use Prim.Native.Nat.{ℕ, _≤_, _<_};
+ghost use Prim.Native.Nat.{ℕ, _+_, _*_, _≤_, _<_};
 ghost use lib.ListN.{getD};
-ghost use Rattle.grammar.specs.Named.{LO, FRAME, TEXT, BARS, GG, FS, VC, VARIABLE, COUNTER};
-ghost use Rattle.grammar.specs.Makers.{boxOf, stepOf, sideOf, starred, namedFrom};
+ghost use Rattle.grammar.specs.Named.{LO, FRAME, TEXT, BARS, GG, FS, VC, VARIABLE, COUNTER, LS};
+ghost use Rattle.grammar.specs.Makers.{boxOf, slantOf, stepOf, sideOf, starred, namedFrom};
 ghost use Rattle.grammar.specs.Forms.{rowOf, Form, inOrder, commandOf, Makes};
 use crate::Bars;
 use crate::Command;
@@ -24,6 +24,7 @@ use crate::Print;
 use crate::Rectangle;
 use crate::SetCounter;
 use crate::SetVariable;
+use crate::Slant;
 use crate::StorePicture;
 use crate::Text;
 use crate::Turn;
@@ -76,6 +77,11 @@ mod two {
     pub const THIRD: usize = 6;
 
     pub const FOURTH: usize = 8;
+}
+
+// Behind three letters.
+mod three {
+    pub const FIRST: usize = 3;
 }
 
 // The step of a counter without its sign.
@@ -141,6 +147,21 @@ fn frame(v: &[usize; 18]) -> Command
         c: v[one::THIRD],
         d: v[one::FOURTH],
         e: v[one::FIFTH],
+    }))
+}
+
+// The slot of the first field, and the others behind it: each field has a comma behind it.
+fn slant(ink: Ink, v: &[usize; 18], first: usize) -> Command
+    requires { ⌜ first ≤ 3 ⌝ }
+    ensures { λ r. ⌜ r ≡ slantOf ink (λ i. getD (now (v .entry)) (first + 2 * i) 0) ⌝ }
+{
+    Command::Item(Item::Slant(Slant {
+        ink: ink,
+        a: v[first],
+        b: v[first + 2],
+        c: v[first + 4],
+        d: v[first + 6],
+        e: v[first + 8],
     }))
 }
 
@@ -269,9 +290,9 @@ fn kept_makes(line: &[u8], row: usize, v: &[usize; 18], p: &[usize; 18]) -> Comm
     }
 }
 
-// Values and labels: VC, V, C, ?V, ?C, P, N. Past the last row there is none.
+// Values and labels: VC, V, C, ?V, ?C, P, N.
 fn value_makes(row: usize, v: &[usize; 18], p: &[usize; 18]) -> Command
-    requires { ⌜ VC ≤ row ⌝ }
+    requires { ⌜ (VC ≤ row) × (row < LS) ⌝ }
     ensures { λ r. ⌜ Makes row (now (v .entry)) (now (p .entry)) r ⌝ }
 {
     match row {
@@ -288,7 +309,19 @@ fn value_makes(row: usize, v: &[usize; 18], p: &[usize; 18]) -> Command
             value: v[two::SECOND],
         })),
         row::PRINT => Command::Values(ValueCommand::Print(Print { k: v[one::FIRST] })),
-        row::WHITE => Command::Page(PageCommand::White),
+        _ => Command::Page(PageCommand::White),
+    }
+}
+
+// Slanted lines: LS, LSE, LSW. Past the last row there is none.
+fn slant_makes(row: usize, v: &[usize; 18]) -> Command
+    requires { ⌜ LS ≤ row ⌝ }
+    ensures { λ r. ⌜ ((p : List ℕ) → Makes row (now (v .entry)) p r) ⌝ }
+{
+    match row {
+        row::LS => slant(Ink::Black, v, two::FIRST),
+        row::LSE => slant(Ink::Inverted, v, three::FIRST),
+        row::LSW => slant(Ink::White, v, three::FIRST),
         _ => Command::End,
     }
 }
@@ -306,5 +339,8 @@ pub fn command_of(line: &[u8], row: usize, vs: &[usize; 18], ps: &[usize; 18]) -
     if row < row::VC {
         return kept_makes(line, row, vs, ps);
     }
-    value_makes(row, vs, ps)
+    if row < row::LS {
+        return value_makes(row, vs, ps);
+    }
+    slant_makes(row, vs)
 }

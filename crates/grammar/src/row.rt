@@ -55,6 +55,12 @@ pub const PRINT: usize = 26;
 
 pub const WHITE: usize = 27;
 
+pub const LS: usize = 28;
+
+pub const LSE: usize = 29;
+
+pub const LSW: usize = 30;
+
 // Where the number stands that names a variable or a counter: behind the one letter of V and C, and behind the two of ?V and ?C.
 pub const DECLARED_AT: usize = 1;
 

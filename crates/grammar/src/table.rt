@@ -2,7 +2,7 @@
 // row is read once for a line: its bytes are quickly at hand, and a whole table would be copied each time.
 ghost use mathlib.Core.Path.{_≡_};
 ghost use Prim.Native.Nat.{_≤_, _<_};
-ghost use Rattle.grammar.specs.Named.{LO, FS, VC};
+ghost use Rattle.grammar.specs.Named.{LO, FS, VC, LS};
 ghost use Rattle.grammar.specs.Codes.{lineUp};
 use crate::row;
 
@@ -54,9 +54,9 @@ fn kept_rows(row: usize) -> [u8; 36]
     }
 }
 
-// Values and labels: VC, V, C, ?V, ?C, P, N. Past the last row there is none.
+// Values and labels: VC, V, C, ?V, ?C, P, N.
 fn value_rows(row: usize) -> [u8; 36]
-    requires { ⌜ VC ≤ row ⌝ }
+    requires { ⌜ (VC ≤ row) × (row < LS) ⌝ }
     ensures { λ r. ⌜ r ≡ lineUp row ⌝ }
 {
     match row {
@@ -66,7 +66,19 @@ fn value_rows(row: usize) -> [u8; 36]
         row::SET_VARIABLE => *b"?Vn,u             --n---------------",
         row::SET_COUNTER => *b"?Cn,n             --n-v-------------",
         row::PRINT => *b"Pn                -t----------------",
-        row::WHITE => *b"N                 ------------------",
+        _ => *b"N                 ------------------",
+    }
+}
+
+// Slanted lines: LS, LSE, LSW. Past the last row there is none.
+fn slant_rows(row: usize) -> [u8; 36]
+    requires { ⌜ LS ≤ row ⌝ }
+    ensures { λ r. ⌜ r ≡ lineUp row ⌝ }
+{
+    match row {
+        row::LS => *b"LSn,n,n,n,n       --a-c-d-a-c-------",
+        row::LSE => *b"LSEn,n,n,n,n      ---a-c-d-a-c------",
+        row::LSW => *b"LSWn,n,n,n,n      ---a-c-d-a-c------",
         _ => *b"                  ------------------",
     }
 }
@@ -84,5 +96,8 @@ pub fn line_up(row: usize) -> [u8; 36]
     if row < row::VC {
         return kept_rows(row);
     }
-    value_rows(row)
+    if row < row::LS {
+        return value_rows(row);
+    }
+    slant_rows(row)
 }

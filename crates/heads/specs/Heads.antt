@@ -52,10 +52,15 @@ lettersCut (f ∷ fs) s = (ltb (length s) (length (lettersOf (f .fields))) && be
 unfoldable pub lettersFault : List ℕ → ℕ
 lettersFault s = cond (lettersCut forms s) (length s) 0
 
--- the letters a and b alone decide; this serves the code, which looks at a third where a row has one
-abbrev pub Decided : ℕ → ℕ → Head → Type 0
-Decided a b r = (c : ℕ) → r ≡ headBy a b c
-
--- the second letter b, behind the first
+-- What follows serves the code: it looks at a third letter only behind LS.
+-- the second letter b, behind the first, decides alone
 abbrev pub Behind : Char → ℕ → Head → Type 0
-Behind l b r = Decided (code l) b r
+Behind l b r = (c : ℕ) → r ≡ headBy (code l) b c
+
+-- the second letter b and the third c, behind L
+abbrev pub lineHead : ℕ → ℕ → Head
+lineHead b c = headBy (code "L") b c
+
+-- the third letter c, behind LS
+abbrev pub slantHead : ℕ → Head
+slantHead c = lineHead (code "S") c

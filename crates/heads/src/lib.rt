@@ -1,9 +1,10 @@
 // The letters of a command.
 //
 // A command starts with its letters; where the letters of several commands match, the longest count: VC is not V. `head_of` answers the row of the
-// grammar that a line's letters name, by a decision over the first letter and then the second.
+// grammar that a line's letters name, by a decision over the first letter, then the second, and the third where LS stands in front of it.
 ghost use mathlib.Core.Path.{_≡_};
-ghost use Rattle.heads.specs.Heads.{headOf, Decided, Behind, lettersFault};
+ghost use mathlib.Core.List.{[], _∷_};
+ghost use Rattle.heads.specs.Heads.{headBy, headOf, Behind, lineHead, slantHead, lettersFault};
 use grammar::row;
 use ground::byte;
 
@@ -17,14 +18,17 @@ pub enum Head {
 pub fn head_of(line: &[u8]) -> Head
     ensures { λ r. ⌜ r ≡ headOf (now (line .entry)) ⌝ }
 {
-    by_first(byte(line, 0), byte(line, 1))
+    by_first(byte(line, 0), byte(line, 1), byte(line, 2))
 }
 
 // Where a line that no command's letters match is at fault: at its first byte, or at the LF where it ends within the letters of a command. No command has more
-// than two letters.
+// than three letters.
 pub fn letters_fault(line: &[u8]) -> usize
     ensures { λ r. ⌜ r ≡ lettersFault (now (line .entry)) ⌝ }
 {
+    if line.len() == 2 {
+        return pair_fault(byte(line, 0), byte(line, 1));
+    }
     if line.len() != 1 {
         return 0;
     }
@@ -39,15 +43,25 @@ pub fn letters_fault(line: &[u8]) -> usize
     }
 }
 
-fn by_first(a: u8, b: u8) -> Head
-    ensures { λ r. ⌜ Decided a b r ⌝ }
+// The same of a line of two bytes: LSE and LSW alone have a letter behind two.
+fn pair_fault(a: u8, b: u8) -> usize
+    ensures { λ r. ⌜ r ≡ lettersFault (a ∷ b ∷ []) ⌝ }
+{
+    if a != b'L' {
+        return 0;
+    }
+    if b == b'S' { 2 } else { 0 }
+}
+
+fn by_first(a: u8, b: u8, c: u8) -> Head
+    ensures { λ r. ⌜ r ≡ headBy a b c ⌝ }
 {
     match a {
         b'Q' => Head::Row(row::LENGTH),
         b'q' => Head::Row(row::WIDTH),
         b'R' => Head::Row(row::ORIGIN),
         b'Z' => turns(b),
-        b'L' => lines(b),
+        b'L' => lines(b, c),
         b'X' => Head::Row(row::FRAME),
         b'A' => Head::Row(row::TEXT),
         b'B' => Head::Row(row::BARS),
@@ -72,14 +86,25 @@ fn turns(b: u8) -> Head
     }
 }
 
-fn lines(b: u8) -> Head
-    ensures { λ r. ⌜ Behind "L" b r ⌝ }
+fn lines(b: u8, c: u8) -> Head
+    ensures { λ r. ⌜ r ≡ lineHead b c ⌝ }
 {
     match b {
         b'O' => Head::Row(row::LO),
         b'E' => Head::Row(row::LE),
         b'W' => Head::Row(row::LW),
+        b'S' => slants(c),
         _ => Head::Unknown,
+    }
+}
+
+fn slants(c: u8) -> Head
+    ensures { λ r. ⌜ r ≡ slantHead c ⌝ }
+{
+    match c {
+        b'E' => Head::Row(row::LSE),
+        b'W' => Head::Row(row::LSW),
+        _ => Head::Row(row::LS),
     }
 }
 

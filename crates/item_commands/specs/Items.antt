@@ -1,4 +1,4 @@
--- R, V, C, A, B, LO, LE, LW, X, GG: their rows of the table, and what they do outside a form.
+-- R, V, C, A, B, LO, LE, LW, LS, LSE, LSW, X, GG: their rows of the table, and what they do outside a form.
 -- Assumes nothing.
 use Prim.Native.Nat.{ℕ}
 use mathlib.Core.Bool.{Bool, true, false, not}
@@ -17,7 +17,7 @@ use Rattle.summary.specs.Summary.{judged as fitAlways}
 use Rattle.elements.specs.declared.What.{What}
 use Rattle.grammar.specs.Named.{DECLARED-AT}
 use Rattle.grammar.specs.declared.Item.{Item}
-use Rattle.grammar.specs.declared.Item.the-variants.{Origin, Variable, Counter, Text, Bars, Box, Frame, Picture}
+use Rattle.grammar.specs.declared.Item.the-variants.{Origin, Variable, Counter, Text, Bars, Box, Frame, Slant, Picture}
 use Rattle.recording.specs.declared.Verdict.{Verdict}
 use Rattle.recording.specs.declared.Verdict.the-variants.{Taken as Fine, Again as Before, Undeclared as Unknown, Past as Reaches, Unfit as Wrong}
 use Rattle.recording.specs.Judged.{hasPicture}
@@ -46,6 +46,7 @@ shownBy (Text t) = dataAt (t .at) Shown
 shownBy (Bars b) = dataAt (b .at) (b .kind)
 shownBy (Box r) = noData
 shownBy (Frame f) = noData
+shownBy (Slant l) = noData
 shownBy (Picture p) = noData
 
 -- [12] "declared before in this form": V and C numbers are separate
@@ -57,6 +58,7 @@ declaredBefore d (Text t) = false
 declaredBefore d (Bars b) = false
 declaredBefore d (Box r) = false
 declaredBefore d (Frame f) = false
+declaredBefore d (Slant l) = false
 declaredBefore d (Picture p) = false
 
 -- [13] "variable or counter not declared"
@@ -131,6 +133,7 @@ basedBy s (Text t) = s
 basedBy s (Bars b) = s
 basedBy s (Box r) = s
 basedBy s (Frame f) = s
+basedBy s (Slant l) = s
 basedBy s (Picture p) = s
 
 -- an item outside a form is drawn on the background

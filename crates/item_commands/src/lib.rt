@@ -1,4 +1,4 @@
-// Items, the lines that may stand in a form: R, V, C, A, B, LO, LE, LW, X, GG.
+// Items, the lines that may stand in a form: R, V, C, A, B, LO, LE, LW, LS, LSE, LSW, X, GG.
 //
 // `item_answer` gives the table's rows 11 to 15 for an item after the declarations of the lines before it: recording asks it, and so does an item outside a
 // form, where "data elements find nothing declared". `run_item` draws one on the background and promises one equation with `itemBy` (specs/Items.antt).
@@ -57,6 +57,7 @@ fn based_by(session: Session, item: Item) -> Session
         Item::Bars(_) => session,
         Item::Box(_) => session,
         Item::Frame(_) => session,
+        Item::Slant(_) => session,
         Item::Picture(_) => session,
     }
 }

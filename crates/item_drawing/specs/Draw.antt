@@ -16,13 +16,14 @@ use Rattle.dots.specs.declared.Ink.{Ink}
 use Rattle.dots.specs.declared.Ink.the-variants.{Black, White, Inverted}
 use Rattle.dots.specs.Dots.{drawn, cut, box}
 use Rattle.frames.specs.Frame.{frame}
+use Rattle.slanted_lines.specs.Slanted.{slanted}
 use Rattle.picture.specs.Shape.{pictured}
 use Rattle.text.specs.Text.{textDrawn}
 use Rattle.lined.specs.Lined.{barsWith}
 use Rattle.grammar.specs.declared.Ink.{Ink as Said}
 use Rattle.grammar.specs.declared.Ink.the-variants.{Black as black, White as white, Inverted as inverted}
 use Rattle.grammar.specs.declared.Item.{Item}
-use Rattle.grammar.specs.declared.Item.the-variants.{Origin, Variable, Counter, Text, Bars, Box, Frame, Picture}
+use Rattle.grammar.specs.declared.Item.the-variants.{Origin, Variable, Counter, Text, Bars, Box, Frame, Slant, Picture}
 use Rattle.parts.specs.Names.{packedOf}
 
 -- what a label, or a command outside a form, is drawn with
@@ -39,7 +40,7 @@ pub record Setting : Type 0 where
 abbrev pub setting : List ℕ → List ℕ → List ℕ → List ℕ → List ℕ → Counters → ℕ → ℕ → Setting
 setting f s l d v c w n = record { font = f; store = s; links = l; directory = d; values = v; counters = c; width = w; length = n }
 
--- `LO` black, `LW` white, `LE` inverts
+-- `LO` black, `LW` white, `LE` inverts, and so `LS`, `LSW`, `LSE`
 abbrev pub inkOf : Said → Ink
 inkOf black = Black
 inkOf white = White
@@ -76,5 +77,7 @@ drawsItem g d x y line (Box r) page =
     drawn (inkOf (r .ink)) (cut (g .width) (g .length) (box (far x (r .a)) (far y (r .b)) (far (far x (r .a)) (r .c)) (far (far y (r .b)) (r .d)))) page
 drawsItem g d x y line (Frame f) page =
     drawn Black (cut (g .width) (g .length) (frame (far x (f .a)) (far y (f .b)) (f .c) (far x (f .d)) (far y (f .e)))) page
+drawsItem g d x y line (Slant l) page =
+    drawn (inkOf (l .ink)) (cut (g .width) (g .length) (slanted (far x (l .a)) (far y (l .b)) (l .c) (far x (l .d)) (far y (l .e)))) page
 drawsItem g d x y line (Picture p) page =
     drawn Black (cut (g .width) (g .length) (pictured (pictureBytes g (packedOf line (p .at) (p .length))) (far x (p .a)) (far y (p .b)))) page

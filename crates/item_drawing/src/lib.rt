@@ -1,7 +1,7 @@
 // What an item draws on a page, from an origin: one function a kind of item.
 //
 // R's origin "is added to coordinates after it"; the sums are not limited, and "Drawing is cut at width and length." Text and bars show the data of their line for
-// the values that are lent, boxes and frames are inked, and GG draws the picture of its name where it is stored. `draw_item` leaves the page that the
+// the values that are lent, boxes, frames and slanted lines are inked, and GG draws the picture of its name where it is stored. `draw_item` leaves the page that the
 // definition (specs/Draw.antt) says, for any item, memory and page. How text, bars and pictures look stands in crates `text`, `lined` and `picture`, how a
 // whole form is drawn in crate `form_drawing`.
 ghost use mathlib.Core.Path.{_≡_};
@@ -15,6 +15,7 @@ ghost use Rattle.parts.specs.Names.{packedOf};
 ghost use Rattle.dots.specs.Dots.{drawn, cut, box};
 ghost use Rattle.frames.specs.Frame.{frame};
 ghost use Rattle.dots.specs.declared.Ink.the-variants.{Black};
+ghost use Rattle.slanted_lines.specs.Slanted.{slanted};
 ghost use Rattle.picture.specs.Shape.{pictured};
 ghost use Rattle.text.specs.Text.{textDrawn};
 ghost use Rattle.lined.specs.Lined.{barsWith};
@@ -27,6 +28,7 @@ use grammar::Frame;
 use grammar::Item;
 use grammar::Picture;
 use grammar::Rectangle;
+use grammar::Slant;
 use grammar::Text;
 use ground::front;
 use ground::least;
@@ -137,6 +139,27 @@ fn draw_frame(page: &mut [u8], width: usize, length: usize, x: usize, y: usize, 
     frames::ink_frame(page, width, length, a, b, f.c, far(x, f.d), far(y, f.e));
 }
 
+// "R is added to both ends."
+fn draw_slant(page: &mut [u8], width: usize, length: usize, x: usize, y: usize, l: Slant)
+    ensures { λ _. ⌜ now (page .exit) ≡ drawn (inkOf (l .ink)) (cut width length (slanted (farOf x (l .a)) (farOf y (l .b)) (l .c) (farOf x (l .d)) (farOf y (l .e)))) (now (page .entry)) ⌝ }
+{
+    let said = l.ink;
+    let ink = ink_of(said);
+    let a = far(x, l.a);
+    let b = far(y, l.b);
+    slanted_lines::ink_line(
+        page,
+        ink,
+        width,
+        length,
+        a,
+        b,
+        l.c,
+        far(x, l.d),
+        far(y, l.e),
+    );
+}
+
 // One byte more than a legal picture has, so that what is too long is no picture here either.
 fn draw_content(
     page: &mut [u8],
@@ -230,6 +253,7 @@ pub fn draw_item<'a>(
         ),
         Item::Box(r) => draw_box(page, width, length, x, y, r),
         Item::Frame(f) => draw_frame(page, width, length, x, y, f),
+        Item::Slant(l) => draw_slant(page, width, length, x, y, l),
         Item::Picture(p) => draw_picture(
             page,
             store,

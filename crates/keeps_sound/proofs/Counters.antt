@@ -21,7 +21,7 @@ use Rattle.values.proofs.Sound.{counter-at}
 use Rattle.forms.specs.Form.{declaredOf}
 use Rattle.forms.proofs.Growing.{declaredOf-empty}
 use Rattle.grammar.specs.declared.Item.{Item}
-use Rattle.grammar.specs.declared.Item.the-variants.{Origin, Variable, Counter, Text, Bars, Box, Frame, Picture}
+use Rattle.grammar.specs.declared.Item.the-variants.{Origin, Variable, Counter, Text, Bars, Box, Frame, Slant, Picture}
 use Rattle.grammar.specs.declared.SetCounter.{SetCounter}
 use Rattle.grammar.specs.declared.Command.{Command}
 use Rattle.grammar.specs.declared.Command.the-variants.{Item as item, End, Page, Forms, Pictures, Values, Listing}
@@ -69,6 +69,7 @@ module _ (font : List ℕ) (w : World) (s : Session) (line more : List ℕ) (P :
   based-left (Bars b) = same
   based-left (Box b) = same
   based-left (Frame f) = same
+  based-left (Slant l) = same
   based-left (Picture p) = same
 
   entered-left :

@@ -32,7 +32,7 @@ use Rattle.heads.specs.Heads.{headOf}
 use Rattle.reader.specs.Letters.{fieldAt}
 use Rattle.read.specs.Commands.{readOf}
 use Rattle.grammar.specs.declared.Item.{Item}
-use Rattle.grammar.specs.declared.Item.the-variants.{Origin, Variable, Counter, Text, Bars, Box, Frame, Picture}
+use Rattle.grammar.specs.declared.Item.the-variants.{Origin, Variable, Counter, Text, Bars, Box, Frame, Slant, Picture}
 use Rattle.heads.specs.declared.Head.the-variants.{Row}
 use Rattle.grammar.specs.declared.Command.{Command}
 use Rattle.grammar.specs.declared.Command.the-variants.{Item as item, End, Page, Forms, Pictures, Values, Listing}
@@ -161,6 +161,7 @@ Tells s (Text t) = (contents s ≡ pieces s (elements s (t .at))) × Chain s (t 
 Tells s (Bars b) = (contents s ≡ pieces s (elements s (b .at))) × Chain s (b .at) (elements s (b .at))
 Tells s (Box r) = Unit {0}
 Tells s (Frame f) = Unit {0}
+Tells s (Slant l) = Unit {0}
 Tells s (Picture p) = Unit {0}
 
 -- fields that hold nothing
@@ -254,6 +255,9 @@ telling =
     & (λ s vs ps k c. tt)
     & (λ s vs ps k c. tt)
     & (λ s vs ps k c. tt)
+    & (λ s vs ps k c. tt)
+    & (λ s vs ps k c. tt)
+    & (λ s vs ps k c. tt)
     & (λ j s vs ps k c. tt)
 
 pub item-tells : (rows : ℕ) (s : List ℕ) (i : Item) → readOf rows s ≡ Reads (item i) → Tells s i
@@ -272,6 +276,7 @@ judgedItem d xs (Text t) = judgedBy d xs Shown
 judgedItem d xs (Bars b) = judgedBy d xs (b .kind)
 judgedItem d xs (Box r) = 0
 judgedItem d xs (Frame f) = 0
+judgedItem d xs (Slant l) = 0
 judgedItem d xs (Picture p) = 0
 
 again-number : (b : Bool) (p : ℕ) → numberOf (verdictAnswer (cond b (Again p) Taken)) ≡ cond b 12 0
@@ -288,6 +293,7 @@ judged-item d s (Text t) h = judged-data d s (t .at) Shown (h .1) ∙ sym (ap (�
 judged-item d s (Bars b) h = judged-data d s (b .at) (b .kind) (h .1) ∙ sym (ap (λ (xs : List Piece). judgedBy d xs (b .kind)) (h .0))
 judged-item d s (Box r) h = refl
 judged-item d s (Frame f) h = refl
+judged-item d s (Slant l) h = refl
 judged-item d s (Picture p) h = refl
 
 -- THE NORMAL FORM IS JUDGED AS THE LINE IS: by the same number. The place may be another, where zeros in front of a number are dropped

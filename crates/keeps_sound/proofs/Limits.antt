@@ -1,22 +1,24 @@
--- The numbers of a command that was read lie within the limits of paper 01: those that a session keeps, and how many bytes follow a GM.
+-- The numbers of a command that was read lie within the limits of paper 01: those that a session keeps, how many bytes follow a GM, and the ends of a
+-- slanted line.
 -- Assumes nothing.
 use mathlib.Core.Path.{_≡_, refl, ap, subst}
 use mathlib.Core.Bool.{Bool, true, false, cond, _&&_, false≢true}
 use mathlib.Core.List.{List, [], _∷_, _++_}
-use Prim.Native.Nat.{ℕ, suc, _≤_}
+use Prim.Native.Nat.{ℕ, zero, suc, _≤_}
 use lib.ListN.{length, getD, drop}
 use Rattle.kinds.specs.Bytes.{between}
+use Rattle.kinds.specs.Text.{bytes}
 use Rattle.data_field.specs.declared.Limits.{Limits}
 use Rattle.data_field.specs.declared.Limits.the-variants.{Within, Outside}
 use Rattle.grammar.specs.declared.Item.{Item}
-use Rattle.grammar.specs.declared.Item.the-variants.{Origin, Variable, Counter, Text, Bars, Box, Frame, Picture}
+use Rattle.grammar.specs.declared.Item.the-variants.{Origin, Variable, Counter, Text, Bars, Box, Frame, Slant, Picture}
 use Rattle.grammar.specs.declared.Command.{Command}
 use Rattle.grammar.specs.declared.Command.the-variants.{Item as item, End, Page, Forms, Pictures, Values, Listing}
 use Rattle.grammar.specs.declared.PageCommand.the-variants.{Length, Width, Turn, White}
 use Rattle.grammar.specs.declared.PictureCommand.the-variants.{Store, Erase as ErasePicture}
 use Rattle.grammar.specs.declared.ValueCommand.the-variants.{Variable as EnterVariable, Counter as EnterCounter, Clear, Print}
 use Rattle.read.specs.declared.Read.the-variants.{Taken}
-use Rattle.grammar.specs.Named.{LENGTH, WIDTH, ORIGIN, GM, PRINT}
+use Rattle.grammar.specs.Named.{LENGTH, WIDTH, ORIGIN, GM, PRINT, LS, LSE, LSW}
 use Rattle.grammar.specs.Forms.{forms, boundsOf, isNumber, spread, free, inOrder}
 use Rattle.grammar.proofs.Rows.{_&_, Each}
 use Rattle.row_limits.specs.Limits.{limitsFrom, fieldLimits, meets}
@@ -37,6 +39,7 @@ itemRanged (Text t) = Unit {0}
 itemRanged (Bars b) = Unit {0}
 itemRanged (Box r) = Unit {0}
 itemRanged (Frame f) = Unit {0}
+itemRanged (Slant l) = Ranged (0, 2047) (l .a) × (Ranged (0, 4095) (l .b) × (Ranged (1, 80) (l .c) × (Ranged (0, 2047) (l .d) × Ranged (0, 4095) (l .e))))
 itemRanged (Picture p) = Unit {0}
 
 abbrev pub ranged : ℕ → Command → Type 0
@@ -94,7 +97,34 @@ number-behind (f ∷ before) fs ls s u vs ps e =
     subst (λ (l : ℕ × ℕ). Ranged l (getD vs (suc (length before)) 0)) (getD-next ls (length before) free)
     (subst (Ranged (getD (drop 1 ls) (length before) free)) (getD-next vs (length before) 0) h)
 
--- ---- every row: a session keeps the numbers of Q, q, R and P, and a call reads as many bytes as GM says
+-- so many numbers and one more from slot k on, each with a comma behind it, lie within their limits
+abbrev Numbers : ℕ → List (ℕ × ℕ) → List ℕ → ℕ → Type 0
+Numbers zero ls vs k = Ranged (getD ls k free) (getD vs k 0)
+Numbers (suc n) ls vs k = Ranged (getD ls k free) (getD vs k 0) × Numbers n ls vs (suc (suc k))
+
+-- the five numbers of a slanted line
+slant-behind :
+    (letters : List ℕ) (ls : List (ℕ × ℕ)) (s : List ℕ) (u : ℕ) (vs ps : List ℕ) → limitsFrom (letters ++ bytes "n,n,n,n,n") ls s u vs ps ≡ Within →
+    Numbers 4 ls vs (length letters)
+slant-behind [] ls s u vs ps e = (
+  number-behind [] (bytes ",n,n,n,n") ls s u vs ps e,
+  (
+    number-behind (bytes "n,") (bytes ",n,n,n") ls s u vs ps e,
+    (
+      number-behind (bytes "n,n,") (bytes ",n,n") ls s u vs ps e,
+      (number-behind (bytes "n,n,n,") (bytes ",n") ls s u vs ps e, number-behind (bytes "n,n,n,n,") [] ls s u vs ps e),
+    ),
+  ),
+)
+slant-behind (f ∷ letters) [] s u [] ps e = slant-behind letters [] s _ [] (drop 1 ps) (limits-rest f (letters ++ bytes "n,n,n,n,n") [] s u [] ps e)
+slant-behind (f ∷ letters) [] s u (v ∷ vs) ps e =
+    slant-behind letters [] s _ vs (drop 1 ps) (limits-rest f (letters ++ bytes "n,n,n,n,n") [] s u (v ∷ vs) ps e)
+slant-behind (f ∷ letters) (l ∷ ls) s u [] ps e =
+    slant-behind letters ls s _ [] (drop 1 ps) (limits-rest f (letters ++ bytes "n,n,n,n,n") (l ∷ ls) s u [] ps e)
+slant-behind (f ∷ letters) (l ∷ ls) s u (v ∷ vs) ps e =
+    slant-behind letters ls s _ vs (drop 1 ps) (limits-rest f (letters ++ bytes "n,n,n,n,n") (l ∷ ls) s u (v ∷ vs) ps e)
+
+-- ---- every row: a session keeps the numbers of Q, q, R and P, a call reads as many bytes as GM says, and the ends of a slanted line are not far
 
 ranges : Each (Told (λ rows s. ranged rows)) forms
 unfolding spread inOrder
@@ -127,6 +157,9 @@ ranges =
     & (λ rows s vs ps h. tt)
     & (λ rows s vs ps h. number-behind (80 ∷ []) [] (boundsOf PRINT rows) s 0 vs ps h)
     & (λ rows s vs ps h. tt)
+    & (λ rows s vs ps h. slant-behind (bytes "LS") (boundsOf LS rows) s 0 vs ps h)
+    & (λ rows s vs ps h. slant-behind (bytes "LSE") (boundsOf LSE rows) s 0 vs ps h)
+    & (λ rows s vs ps h. slant-behind (bytes "LSW") (boundsOf LSW rows) s 0 vs ps h)
     & (λ k rows s vs ps h. tt)
 
 pub read-ranges : (rows : ℕ) (s : List ℕ) (c : Command) → readOf rows s ≡ Taken c → ranged rows c

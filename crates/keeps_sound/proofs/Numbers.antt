@@ -11,7 +11,7 @@ use Rattle.cells.specs.Cell.{zeros}
 use Rattle.cells.proofs.Cells.{length-zeros}
 use Rattle.declarations.specs.Declarations.{nothing}
 use Rattle.grammar.specs.declared.Item.{Item}
-use Rattle.grammar.specs.declared.Item.the-variants.{Origin, Variable, Counter, Text, Bars, Box, Frame, Picture}
+use Rattle.grammar.specs.declared.Item.the-variants.{Origin, Variable, Counter, Text, Bars, Box, Frame, Slant, Picture}
 use Rattle.grammar.specs.declared.Length.{Length as LengthOf}
 use Rattle.grammar.specs.declared.Width.{Width as WidthOf}
 use Rattle.grammar.specs.declared.Turn.{Turn as TurnOf}
@@ -150,6 +150,7 @@ module _ (font : List ℕ) (w : World) (s : Session) (line more : List ℕ) (g :
   item-good (Bars b) r = drawn-good (Bars b)
   item-good (Box b) r = drawn-good (Box b)
   item-good (Frame f) r = drawn-good (Frame f)
+  item-good (Slant l) r = drawn-good (Slant l)
   item-good (Picture p) r = drawn-good (Picture p)
 
   pub keeps-item : (it : Item) → readOf (rowsOf w) line ≡ Reads (item it)

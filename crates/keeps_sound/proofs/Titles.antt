@@ -272,6 +272,9 @@ titles =
     & (λ rows s vs ps h. tt)
     & (λ rows s vs ps h. tt)
     & (λ rows s vs ps h. tt)
+    & (λ rows s vs ps h. tt)
+    & (λ rows s vs ps h. tt)
+    & (λ rows s vs ps h. tt)
     & (λ k rows s vs ps h. tt)
 
 pub start-named : (rows : ℕ) (s : List ℕ) (n : Named) → readOf rows s ≡ Reads (Forms (Start n)) → Name s (n .at) (n .length)

@@ -12,7 +12,7 @@ use Rattle.normal.specs.Written.{isNormal}
 use Rattle.kept_line.specs.declared.Stored.{Stored}
 use Rattle.kept_line.specs.declared.Stored.the-variants.{Holds, Nothing}
 
--- "While recording only R, V, C, A, B, LO, LE, LW, X, GG and FE have a place", and FE is not recorded
+-- "While recording only R, V, C, A, B, LO, LE, LW, X, GG and FE have a place", "LS may be recorded", and FE is not recorded
 abbrev pub heldCommand : Command → Stored
 heldCommand (item it) = Holds it
 heldCommand End = Nothing

@@ -397,6 +397,9 @@ every-steady =
     & (λ s w v p q. refl)
     & (λ s w v p q. refl)
     & (λ s w v p q. refl)
+    & (λ s w v p q. refl)
+    & (λ s w v p q. refl)
+    & (λ s w v p q. refl)
     & (λ k s w v p q. refl)
 
 -- an item that the same values make at other places
@@ -481,6 +484,9 @@ every-rowless : Each Rowless forms
 unfolding Rowless
 every-rowless =
     (λ s v p i h r r′. absurd (let z : _≡_ {A = ℕ} 0 1 = cc in omega arith))
+    & (λ s v p i h r r′. refl)
+    & (λ s v p i h r r′. refl)
+    & (λ s v p i h r r′. refl)
     & (λ s v p i h r r′. refl)
     & (λ s v p i h r r′. refl)
     & (λ s v p i h r r′. refl)

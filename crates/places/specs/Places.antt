@@ -1,4 +1,5 @@
--- "While recording only R, V, C, A, B, LO, LE, LW, X, GG and FE have a place; otherwise all but V, C and FE."
+-- "While recording only R, V, C, A, B, LO, LE, LW, X, GG and FE have a place; otherwise all but V, C and FE." Paper 02, §8:
+-- "LS may be recorded."
 -- Assumes nothing.
 use mathlib.Core.Bool.{Bool, true, false, not}
 use Rattle.grammar.specs.declared.Command.{Command}

@@ -1,6 +1,6 @@
--- The letters of a command, in a line to which more is added: two bytes decide, and of one byte alone all is computed.
+-- The letters of a command, in a line to which more is added: three bytes decide, of two bytes LS alone may go on, and of one byte all is computed.
 use mathlib.Core.Path.{_≡_, refl}
-use mathlib.Core.Bool.{Bool, true, false, cond, _&&_, not, and-false}
+use mathlib.Core.Bool.{Bool, true, false, cond, _&&_, not, and-false, and-eq-true-iff, true≢false}
 use mathlib.Core.List.{List, [], _∷_, _++_}
 use mathlib.Core.Logic.{_⊎_, inl, inr}
 use Prim.Native.Nat.{ℕ, suc}
@@ -9,7 +9,7 @@ use native.Mathlib.Omega.{arith}
 use native.Mathlib.Decide.{ℕ-discrete}
 use lib.Dec.{T, eqb, eqb→eq, eqb·zero-suc}
 use lib.ListN.{length, getD}
-use borrow.Author.Tests.{le-ltb, ne-eqb}
+use borrow.Author.Tests.{eqb-true, ne-eqb}
 use Rattle.kinds.specs.Bytes.{between}
 use Rattle.kinds.specs.Text.{bytes}
 use Rattle.classes.specs.Bytes.{run}
@@ -22,6 +22,7 @@ use Rattle.reader.specs.Letters.{fieldAt}
 use Rattle.grammar.specs.Forms.{Form, forms, spread, inOrder}
 use Rattle.grammar.proofs.Rows.{every}
 use Rattle.heads.specs.Heads.{lettersOf, begins, find, headBy, headOf, lettersCut, lettersFault}
+use Rattle.heads.proofs.Fault.{fault-first, fault-no-line, fault-no-slant}
 use Rattle.heads.specs.declared.Head.the-variants.{Unknown}
 use Rattle.row_fields.specs.Reading.{fieldsFrom}
 use Rattle.row_limits.specs.Limits.{meets, fieldLimits, limitsFrom}
@@ -33,17 +34,45 @@ use Rattle.pointing.specs.Soon.{isWritten, EndsTooSoon}
 
 -- ---- two bytes and more
 
--- the row that a line of two bytes and more names stays
-pub head-stays : (a b : ℕ) (l m : List ℕ) → headOf (a ∷ (b ∷ (l ++ m))) ≡ headOf (a ∷ (b ∷ l))
-unfolding headOf headBy find
-head-stays a b l m = refl
+-- L and S, behind which a third letter names another row
+abbrev pub isSlant : ℕ → ℕ → Bool
+isSlant a b = eqb a (code "L") && eqb b (code "S")
 
--- no command has more than two letters
-pub letters-over : (a b : ℕ) (l : List ℕ) → lettersFault (a ∷ (b ∷ l)) ≡ 0
-unfolding lettersFault
-letters-over a b l =
-    let n : ℕ = suc (suc (length l)) in
-    rw (le-ltb n 1 (omega arith), le-ltb n 2 (omega arith))
+-- the bytes of a line decide its row, whatever is added: there is a third, or no third letter matters
+abbrev pub Settled : ℕ → ℕ → List ℕ → Type 0
+Settled a b [] = isSlant a b ≡ false
+Settled a b (c ∷ l) = Unit {0}
+
+head-of-two : (a b c : ℕ) → isSlant a b ≡ false → headBy a b c ≡ headBy a b 0
+unfolding headBy find
+head-of-two a b c u = go (eqb a (code "L")) (eqb b (code "S")) refl refl u
+  where
+    go : (x y : Bool) → eqb a (code "L") ≡ x → eqb b (code "S") ≡ y → (x && y) ≡ false → headBy a b c ≡ headBy a b 0
+    go false y e f h = rw e
+    go true false e f h = rw (e, f)
+    go true true e f h = absurd (true≢false h)
+
+-- the row that such a line names stays
+pub head-stays : (a b : ℕ) (l m : List ℕ) → Settled a b l → headOf (a ∷ (b ∷ (l ++ m))) ≡ headOf (a ∷ (b ∷ l))
+unfolding headOf
+head-stays a b [] m u = head-of-two a b (getD m 0 0) u
+head-stays a b (c ∷ l) m u = refl
+
+-- it is no part of a command's letters
+pub letters-over : (a b : ℕ) (l : List ℕ) → Settled a b l → lettersFault (a ∷ (b ∷ l)) ≡ 0
+letters-over a b (c ∷ l) u = fault-first (a ∷ (b ∷ (c ∷ l))) (λ e. omega arith) (λ e. omega arith)
+letters-over a b [] u = go (ℕ-discrete a (code "L")) (ℕ-discrete b (code "S"))
+  where
+    go : Dec (a ≡ code "L") → Dec (b ≡ code "S") → lettersFault (a ∷ (b ∷ [])) ≡ 0
+    go (no h) k = fault-no-line a b h
+    go (yes h) (no k) = rw h (fault-no-slant b k)
+    go (yes h) (yes k) = absurd (true≢false (rw (h, k) at u))
+
+-- the one line of two bytes of which a third may decide
+pub slant-line : (a b : ℕ) → isSlant a b ≡ true → bytes "LS" ≡ a ∷ (b ∷ [])
+slant-line a b h =
+    let x = and-eq-true-iff (eqb a (code "L")) (eqb b (code "S")) .0 h in
+    rw (eqb-true a (code "L") (x .0), eqb-true b (code "S") (x .1))
 
 -- ---- one byte
 

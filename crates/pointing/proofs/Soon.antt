@@ -1,13 +1,16 @@
 -- Paper 02, §2: a line points to its LF exactly where it ends too soon.
 use mathlib.Core.Path.{_≡_, _∙_, refl, sym, ap}
 use mathlib.Core.Logic.{_↔_}
-use mathlib.Core.Bool.{true, false, false≢true}
+use mathlib.Core.Bool.{Bool, true, false, false≢true}
 use mathlib.Core.List.{List, [], _∷_, _++_}
 use Prim.Native.Nat.{ℕ, _<_}
 use native.Mathlib.Omega.{arith}
 use native.Mathlib.Decide.{decLt}
 use lib.ListN.{length}
+use Rattle.kinds.specs.Bytes.{between}
 use Rattle.kinds.specs.Text.{bytes}
+use Rattle.classes.specs.Bytes.{run}
+use Rattle.numbers.specs.Number.{valueFrom, numberAt}
 use Rattle.data_field.specs.declared.Limits.{Limits}
 use Rattle.data_field.specs.declared.Limits.the-variants.{Within, Outside}
 use Rattle.fields.specs.Field.{byteAt}
@@ -18,14 +21,14 @@ use Rattle.heads.specs.Heads.{find, headBy, headOf, lettersFault}
 use Rattle.heads.specs.declared.Head.{Head}
 use Rattle.heads.specs.declared.Head.the-variants.{Row, Unknown}
 use Rattle.row_fields.specs.Reading.{Got, good, bad, fieldsFrom}
-use Rattle.row_limits.specs.Limits.{limitsFrom, fieldLimits}
+use Rattle.row_limits.specs.Limits.{limitsFrom, fieldLimits, meets}
 use Rattle.read.specs.Commands.{decided, judged, headed, readOf}
 use Rattle.read.specs.declared.Fault.the-variants.{Form as form}
 use Rattle.read.specs.declared.Read.the-variants.{Refused}
 use Rattle.pointing.specs.Soon.{isWritten, EndsTooSoon}
 use Rattle.pointing.proofs.Points.{Good, Faulty, Points}
 use Rattle.pointing.proofs.Rows.{row-pointing}
-use Rattle.pointing.proofs.Heads.{head-stays, letters-over, One, begun, never, one-byte}
+use Rattle.pointing.proofs.Heads.{isSlant, Settled, head-stays, letters-over, slant-line, One, begun, never, one-byte}
 
 -- ---- the judgement of a row's fields
 
@@ -72,24 +75,24 @@ row-fault rows s p row h e = judged-faulty row rows s p (fieldsFrom (rowOf row .
 pub unknown-fault : (rows : ℕ) (s : List ℕ) (p : ℕ) → readOf rows s ≡ Refused (form p) → headOf s ≡ Unknown → p ≡ lettersFault s
 unknown-fault rows s p h e = let z = read-unknown rows s e in cc
 
--- ---- two bytes and more
-module _ (rows a b : ℕ) (l : List ℕ) where
+-- ---- two bytes and more, which decide the row
+module _ (rows a b : ℕ) (l : List ℕ) (settled : Settled a b l) where
   abbrev line : List ℕ
   line = a ∷ (b ∷ l)
 
   long-soon : (p : ℕ) → readOf rows line ≡ Refused (form p) → p ≡ length line → (x : Head) → headOf line ≡ x → EndsTooSoon rows line
-  long-soon p h k Unknown e = absurd (let z = unknown-fault rows line p h e in let y = letters-over a b l in omega arith)
+  long-soon p h k Unknown e = absurd (let z = unknown-fault rows line p h e in let y = letters-over a b l settled in omega arith)
   long-soon p h k (Row row) e =
       let P = row-pointing row .points in
       let r = P .soon line 0 (omega arith) (rw (← k) (row-fault rows line p row h e)) in
       record {
         more = r .more;
-        written = ap isWritten (read-row rows (line ++ r .more) row (head-stays a b l (r .more) ∙ e))
+        written = ap isWritten (read-row rows (line ++ r .more) row (head-stays a b l (r .more) settled ∙ e))
             ∙ good-written row rows (line ++ r .more) (fieldsFrom (rowOf row .fields) (line ++ r .more) 0) (r .whole);
       }
 
   long-end : (p : ℕ) → readOf rows line ≡ Refused (form p) → EndsTooSoon rows line → (x : Head) → headOf line ≡ x → p ≡ length line
-  long-end p h k Unknown e = absurd (unknown-unwritten rows (line ++ k .more) (head-stays a b l (k .more) ∙ e) (k .written))
+  long-end p h k Unknown e = absurd (unknown-unwritten rows (line ++ k .more) (head-stays a b l (k .more) settled ∙ e) (k .written))
   long-end p h k (Row row) e = go (decLt p (length line))
     where
       P : Points (rowOf row .fields) (row-pointing row .filler)
@@ -100,9 +103,33 @@ module _ (rows a b : ℕ) (l : List ℕ) where
 
       go : Dec (p < length line) → p ≡ length line
       go (yes i) =
-          absurd (false≢true (sym (ap isWritten (read-row rows (line ++ k .more) row (head-stays a b l (k .more) ∙ e))
+          absurd (false≢true (sym (ap isWritten (read-row rows (line ++ k .more) row (head-stays a b l (k .more) settled ∙ e))
           ∙ faulty-unwritten row rows (line ++ k .more) p (fieldsFrom (rowOf row .fields) (line ++ k .more) 0) (P .firm line (k .more) 0 p (omega arith) f i)) ∙ k .written))
       go (no i) = let z = P .within line 0 p (omega arith) f in omega arith
+
+  pub settled-soon : (p : ℕ) → readOf rows line ≡ Refused (form p) → (p ≡ length line) ↔ EndsTooSoon rows line
+  settled-soon p h = (λ k. long-soon p h k (headOf line) refl, λ k. long-end p h k (headOf line) refl)
+
+-- ---- LS: its numbers are missing, or a third letter
+
+slant-read : (rows : ℕ) → readOf rows (bytes "LS") ≡ Refused (form 2)
+unfolding readOf headed judged headOf headBy find fieldsFrom fieldAt byteAt numberAt run between
+slant-read rows = refl
+
+slant-more : (rows : ℕ) → EndsTooSoon rows (bytes "LS")
+unfolding readOf headed judged headOf headBy find fieldsFrom fieldAt byteAt numberAt run between valueFrom limitsFrom fieldLimits meets spread inOrder
+slant-more rows = record { more = bytes "0,0,1,0,0"; written = refl }
+
+pair-soon : (rows a b p : ℕ) → readOf rows (a ∷ (b ∷ [])) ≡ Refused (form p) → (p ≡ 2) ↔ EndsTooSoon rows (a ∷ (b ∷ []))
+pair-soon rows a b p h = go (isSlant a b) refl
+  where
+    go : (t : Bool) → isSlant a b ≡ t → (p ≡ 2) ↔ EndsTooSoon rows (a ∷ (b ∷ []))
+    go false e = settled-soon rows a b [] e p h
+    go true e =
+        let x = slant-line a b e in
+        let z = slant-read rows in
+        let r : readOf rows (bytes "LS") ≡ Refused (form p) = rw x h in
+        (λ k. rw (← x) (slant-more rows), λ k. cc)
 
 -- ---- one byte, and none
 
@@ -127,4 +154,5 @@ none-soon rows = record { more = bytes "N"; written = refl }
 pub too-soon : (rows : ℕ) (s : List ℕ) (p : ℕ) → readOf rows s ≡ Refused (form p) → (p ≡ length s) ↔ EndsTooSoon rows s
 too-soon rows [] p h = (λ k. none-soon rows, λ k. let z = none-read rows in cc)
 too-soon rows (a ∷ []) p h = one-soon rows a p h
-too-soon rows (a ∷ (b ∷ l)) p h = (λ k. long-soon rows a b l p h k (headOf (a ∷ (b ∷ l))) refl, λ k. long-end rows a b l p h k (headOf (a ∷ (b ∷ l))) refl)
+too-soon rows (a ∷ (b ∷ [])) p h = pair-soon rows a b p h
+too-soon rows (a ∷ (b ∷ (c ∷ l))) p h = settled-soon rows a b (c ∷ l) tt p h

@@ -17,7 +17,7 @@ use Rattle.finding.specs.Find.{isAt, titledAt}
 use Rattle.parts.specs.Names.{packedOf}
 use Rattle.grammar.specs.Named.{DECLARED-AT}
 use Rattle.grammar.specs.declared.Item.{Item}
-use Rattle.grammar.specs.declared.Item.the-variants.{Origin, Variable, Counter, Text, Bars, Box, Frame, Picture}
+use Rattle.grammar.specs.declared.Item.the-variants.{Origin, Variable, Counter, Text, Bars, Box, Frame, Slant, Picture}
 use Rattle.recording.specs.declared.Verdict.{Verdict}
 use Rattle.recording.specs.declared.Verdict.the-variants.{Taken, Again, Undeclared, Past, Unfit}
 
@@ -41,6 +41,7 @@ judged d line (Text t) = judgedData d line (t .at) Shown
 judged d line (Bars b) = judgedData d line (b .at) (b .kind)
 judged d line (Box r) = Taken
 judged d line (Frame f) = Taken
+judged d line (Slant l) = Taken
 judged d line (Picture p) = Taken
 
 -- what is declared after an item
@@ -52,6 +53,7 @@ declares d (Text t) = d
 declares d (Bars b) = d
 declares d (Box r) = d
 declares d (Frame f) = d
+declares d (Slant l) = d
 declares d (Picture p) = d
 
 -- "otherwise all but V, C and FE": an item that has a place in a form alone
@@ -63,6 +65,7 @@ declaration (Text t) = false
 declaration (Bars b) = false
 declaration (Box r) = false
 declaration (Frame f) = false
+declaration (Slant l) = false
 declaration (Picture p) = false
 
 -- recording takes it
@@ -84,4 +87,5 @@ hasPicture directory line (Text t) = true
 hasPicture directory line (Bars b) = true
 hasPicture directory line (Box r) = true
 hasPicture directory line (Frame f) = true
+hasPicture directory line (Slant l) = true
 hasPicture directory line (Picture p) = isAt (titledAt directory true (packedOf line (p .at) (p .length)))

@@ -62,6 +62,7 @@ pub fn judge(line: &[u8], item: Item, d: Declared) -> Verdict
         }
         Item::Box(_) => Verdict::Taken,
         Item::Frame(_) => Verdict::Taken,
+        Item::Slant(_) => Verdict::Taken,
         Item::Picture(_) => Verdict::Taken,
     }
 }
@@ -78,6 +79,7 @@ pub fn is_declaration(item: Item) -> bool
         Item::Bars(_) => false,
         Item::Box(_) => false,
         Item::Frame(_) => false,
+        Item::Slant(_) => false,
         Item::Picture(_) => false,
     }
 }
@@ -100,6 +102,7 @@ pub fn has_picture(directory: &[u8], line: &[u8], item: Item) -> bool
         Item::Bars(_) => true,
         Item::Box(_) => true,
         Item::Frame(_) => true,
+        Item::Slant(_) => true,
         Item::Picture(p) => has_named(directory, line, p.at, p.length),
     }
 }
@@ -129,6 +132,7 @@ pub fn declare(d: Declared, item: Item) -> Declared
         Item::Bars(_) => d,
         Item::Box(_) => d,
         Item::Frame(_) => d,
+        Item::Slant(_) => d,
         Item::Picture(_) => d,
     }
 }

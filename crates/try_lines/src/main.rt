@@ -196,4 +196,7 @@ fn main() {
     show(b"?C0,99");
     show(b"VC");
     show(b"P2");
+    show(b"LS3,5,2,9,5");
+    show(b"LSE10,10,8,100,200");
+    show(b"LSW0,0,1,7,9");
 }

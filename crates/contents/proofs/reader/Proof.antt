@@ -9,7 +9,7 @@ extent-at-requires : tie.Need-extent-at-requires
 extent-at-requires c κs = search needs
 
 returns : tie.Need-returns
-returns c = cc
+returns c = rw (c .extent-at .ensures, c .before .first-at .ensures .0)
 
 pub reader-spec : {M : Type 1} → statement M
 reader-spec = tie.close (tie.spec first-at-requires extent-at-requires returns)

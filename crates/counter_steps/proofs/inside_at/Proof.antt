@@ -21,7 +21,7 @@ is-inside-requires : tie.Need-is-inside-requires
 is-inside-requires c κs = search needs
 
 returns : tie.Need-returns
-returns c = cc
+returns c = rw (c .is-inside .ensures, c .before .value-at .ensures, c .before .before .minus-at .ensures, c .before .before .before .width-at .ensures, c .before .before .before .before .far .ensures, c .before .before .before .before .before .step-at .ensures)
 
 pub inside-at-spec : {M : Type 1} → statement M
 inside-at-spec =

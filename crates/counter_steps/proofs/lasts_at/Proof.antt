@@ -15,7 +15,7 @@ either-requires : tie.Need-either-requires
 either-requires c κs = search needs
 
 returns : tie.Need-returns
-returns c = cc
+returns c = rw (c .either .ensures, c .before .counts-at .ensures, c .before .before .inside-at .ensures, c .before .before .before .steps-between .ensures)
 
 pub lasts-at-spec : {M : Type 1} → statement M
 lasts-at-spec =

@@ -14,7 +14,7 @@ both-requires : tie.Need-both-requires
 both-requires c κs = search needs
 
 returns : tie.Need-returns
-returns c = cc
+returns c = rw (c .both .ensures, c .before .size-at .ensures .0)
 
 pub ended-ok-spec : {M : Type 1} → statement M
 ended-ok-spec = tie.close (tie.spec size-at-requires add-both both-requires returns)

@@ -36,7 +36,7 @@ add-result c =
     }
 
 returns : tie.Need-returns
-returns c = cc
+returns c = rw (c .before .before .size-at .ensures .0, c .before .cell-height .ensures .0, c .row-bytes .ensures .0)
 
 pub sized-ok-spec : {M : Type 1} → statement M
 sized-ok-spec =

@@ -39,6 +39,12 @@ draw-frame-requires c κs = search needs
 enum-known-item-5 : tie.Need-enum-known-item-5
 enum-known-item-5 c = search needs
 
+draw-slant-requires : tie.Need-draw-slant-requires
+draw-slant-requires c κs = search needs
+
+enum-known-item-6 : tie.Need-enum-known-item-6
+enum-known-item-6 c = search needs
+
 draw-picture-requires : tie.Need-draw-picture-requires
 draw-picture-requires c κs = search needs
 
@@ -87,7 +93,14 @@ same-length-5 c = search needs
 
 returns-8 : tie.Need-returns-8
 unfolding drawsItem shown pictureBytes
-returns-8 c = rw (c .before .before .before .before .before .item5 .given .1) (c .before .before .draw-picture .ensures)
+returns-8 c = rw (c .before .before .before .before .before .item5 .given .1) (c .before .before .draw-slant .ensures)
+
+same-length-6 : tie.Need-same-length-6
+same-length-6 c = search needs
+
+returns-9 : tie.Need-returns-9
+unfolding drawsItem shown pictureBytes
+returns-9 c = rw (c .before .before .before .before .before .item6 .given .1) (c .before .before .draw-picture .ensures)
 
 pub draw-item-spec : {M : Type 1} → statement M
-draw-item-spec = tie.close (tie.spec enum-told enum-told-2 enum-told-3 enum-known-item draw-text-requires enum-known-item-2 draw-bars-requires enum-known-item-3 draw-box-requires enum-known-item-4 draw-frame-requires enum-known-item-5 draw-picture-requires returns returns-2 returns-3 same-length returns-4 same-length-2 returns-5 same-length-3 returns-6 same-length-4 returns-7 same-length-5 returns-8)
+draw-item-spec = tie.close (tie.spec enum-told enum-told-2 enum-told-3 enum-known-item draw-text-requires enum-known-item-2 draw-bars-requires enum-known-item-3 draw-box-requires enum-known-item-4 draw-frame-requires enum-known-item-5 draw-slant-requires enum-known-item-6 draw-picture-requires returns returns-2 returns-3 same-length returns-4 same-length-2 returns-5 same-length-3 returns-6 same-length-4 returns-7 same-length-5 returns-8 same-length-6 returns-9)

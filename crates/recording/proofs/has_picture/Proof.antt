@@ -24,6 +24,9 @@ enum-told-6 c = search needs
 enum-told-7 : tie.Need-enum-told-7
 enum-told-7 c = search needs
 
+enum-told-8 : tie.Need-enum-told-8
+enum-told-8 c = search needs
+
 enum-known-item : tie.Need-enum-known-item
 enum-known-item c = search needs
 
@@ -60,7 +63,11 @@ returns-7 c = rw (c .enum-told7 .given .1)
 
 returns-8 : tie.Need-returns-8
 unfolding hasPicture
-returns-8 c = rw (c .before .before .item .given .1) (c .has-named .ensures)
+returns-8 c = rw (c .enum-told8 .given .1)
+
+returns-9 : tie.Need-returns-9
+unfolding hasPicture
+returns-9 c = rw (c .before .before .item .given .1) (c .has-named .ensures)
 
 pub has-picture-spec : {M : Type 1} → statement M
-has-picture-spec = tie.close (tie.spec enum-told enum-told-2 enum-told-3 enum-told-4 enum-told-5 enum-told-6 enum-told-7 enum-known-item has-named-requires returns returns-2 returns-3 returns-4 returns-5 returns-6 returns-7 returns-8)
+has-picture-spec = tie.close (tie.spec enum-told enum-told-2 enum-told-3 enum-told-4 enum-told-5 enum-told-6 enum-told-7 enum-told-8 enum-known-item has-named-requires returns returns-2 returns-3 returns-4 returns-5 returns-6 returns-7 returns-8 returns-9)

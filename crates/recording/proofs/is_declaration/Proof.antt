@@ -29,6 +29,9 @@ enum-told-7 c = search needs
 enum-told-8 : tie.Need-enum-told-8
 enum-told-8 c = search needs
 
+enum-told-9 : tie.Need-enum-told-9
+enum-told-9 c = search needs
+
 returns : tie.Need-returns
 unfolding declaration
 returns c = rw (c .enum-told .given .1)
@@ -61,6 +64,10 @@ returns-8 : tie.Need-returns-8
 unfolding declaration
 returns-8 c = rw (c .enum-told8 .given .1)
 
+returns-9 : tie.Need-returns-9
+unfolding declaration
+returns-9 c = rw (c .enum-told9 .given .1)
+
 pub is-declaration-spec : {M : Type 1} → statement M
 is-declaration-spec =
     tie.close
@@ -73,6 +80,7 @@ is-declaration-spec =
     enum-told-6
     enum-told-7
     enum-told-8
+    enum-told-9
     returns
     returns-2
     returns-3
@@ -80,4 +88,5 @@ is-declaration-spec =
     returns-5
     returns-6
     returns-7
-    returns-8)
+    returns-8
+    returns-9)

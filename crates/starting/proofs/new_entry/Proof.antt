@@ -38,7 +38,7 @@ array-read-t34 c = search needs
 
 returns : tie.Need-returns
 unfolding newEntry
-returns c = cc (c .name-end .ensures)
+returns c = rw (c .name-end .ensures)
 
 pub new-entry-spec : {M : Type 1} → statement M
 new-entry-spec =

@@ -20,7 +20,7 @@ both-requires-5 c κs = search needs
 
 returns : tie.Need-returns
 unfolding legalByte
-returns c = cc
+returns c = rw (c .both5 .ensures, c .before .both4 .ensures, c .before .before .both3 .ensures, c .before .before .before .both2 .ensures, c .before .before .before .before .both .ensures)
 
 pub legal-byte-spec : {M : Type 1} → statement M
 legal-byte-spec =

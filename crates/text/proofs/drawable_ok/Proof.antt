@@ -11,7 +11,7 @@ both-requires-2 : tie.Need-both-requires-2
 both-requires-2 c κs = search needs
 
 returns : tie.Need-returns
-returns c = cc
+returns c = rw (c .both2 .ensures, c .before .both .ensures)
 
 pub drawable-ok-spec : {M : Type 1} → statement M
 drawable-ok-spec = tie.close (tie.spec both-requires both-requires-2 returns)

@@ -25,7 +25,13 @@ value-makes-requires : tie.Need-value-makes-requires
 value-makes-requires c κs = search needs
 
 returns-4 : tie.Need-returns-4
-returns-4 c = c .value-makes .ensures (now (c .before .before .before .before .before .args .line))
+returns-4 c = c .value-makes .ensures (now (c .before .before .before .before .before .before .args .line))
+
+slant-makes-requires : tie.Need-slant-makes-requires
+slant-makes-requires c κs = search needs
+
+returns-5 : tie.Need-returns-5
+returns-5 c = let a = c .before .before .before .before .before .before .args in c .slant-makes .ensures (now (a .ps)) (now (a .line))
 
 pub command-of-spec : {M : Type 1} → statement M
 command-of-spec =
@@ -38,4 +44,6 @@ command-of-spec =
     kept-makes-requires
     returns-3
     value-makes-requires
-    returns-4)
+    returns-4
+    slant-makes-requires
+    returns-5)

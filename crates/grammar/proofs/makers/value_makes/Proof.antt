@@ -1,4 +1,6 @@
-use Rattle.grammar.proofs.Rows.{above, no-row}
+use mathlib.Core.Path.{_≡_}
+use native.Mathlib.Omega.{arith}
+use Rattle.grammar.proofs.Rows.{above}
 use borrow.Author.Needs.{needs}
 use Rattle.grammar.specs.Forms.{inOrder}
 use Rattle.grammar.proofs.makers.value_makes.Statement.{statement}
@@ -58,11 +60,7 @@ returns-6 c = λ s. rw (c .before .match .keys6)
 
 returns-7 : tie.Need-returns-7
 unfolding inOrder
-returns-7 c = λ s. rw (c .match .keys7)
-
-returns-8 : tie.Need-returns-8
-unfolding inOrder
-returns-8 c = let row = c .before .args .row in let r = c .match .rest in let h = above row 27 (above row 26 (above row 25 (above row 24 (above row 23 (above row 22 (above row 21 (c .before .pre) (r .0 .0 .0 .0 .0 .0 .1)) (r .0 .0 .0 .0 .0 .1)) (r .0 .0 .0 .0 .1)) (r .0 .0 .0 .1)) (r .0 .0 .1)) (r .0 .1)) (r .1) in λ s. rw (no-row row h)
+returns-7 c = let row = c .before .args .row in let r = c .match .rest in let u = c .before .pre in let h = above row 26 (above row 25 (above row 24 (above row 23 (above row 22 (above row 21 (u .0) (r .0 .0 .0 .0 .0 .1)) (r .0 .0 .0 .0 .1)) (r .0 .0 .0 .1)) (r .0 .0 .1)) (r .0 .1)) (r .1) in let q : row ≡ 27 = omega arith in λ s. rw q
 
 pub value-makes-spec : {M : Type 1} → statement M
 value-makes-spec =
@@ -82,5 +80,4 @@ value-makes-spec =
     returns-4
     returns-5
     returns-6
-    returns-7
-    returns-8)
+    returns-7)

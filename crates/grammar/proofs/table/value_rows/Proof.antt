@@ -1,7 +1,7 @@
-use mathlib.Core.Path.{sym}
+use mathlib.Core.Path.{_≡_}
 use native.Mathlib.Omega.{arith}
 use Rattle.grammar.specs.Codes.{lineUp}
-use Rattle.grammar.proofs.Rows.{above, no-line}
+use Rattle.grammar.proofs.Rows.{above}
 use Rattle.grammar.proofs.table.value_rows.Statement.{statement}
 use Rattle.grammar.proofs.table.value_rows.Tie as tie
 
@@ -31,10 +31,7 @@ returns-6 c = rw (c .before .before .match .keys6)
 
 returns-7 : tie.Need-returns-7
 unfolding lineUp
-returns-7 c = rw (c .before .before .match .keys7)
-
-returns-8 : tie.Need-returns-8
-returns-8 c = let row = c .before .before .before .args .row in let r = c .before .before .match .rest in sym (no-line row (above row 27 (above row 26 (above row 25 (above row 24 (above row 23 (above row 22 (above row 21 (c .before .before .before .pre) (r .0 .0 .0 .0 .0 .0 .1)) (r .0 .0 .0 .0 .0 .1)) (r .0 .0 .0 .0 .1)) (r .0 .0 .0 .1)) (r .0 .0 .1)) (r .0 .1)) (r .1)))
+returns-7 c = let row = c .before .before .before .args .row in let r = c .before .before .match .rest in let u = c .before .before .before .pre in let h = above row 26 (above row 25 (above row 24 (above row 23 (above row 22 (above row 21 (u .0) (r .0 .0 .0 .0 .0 .1)) (r .0 .0 .0 .0 .1)) (r .0 .0 .0 .1)) (r .0 .0 .1)) (r .0 .1)) (r .1) in let q : row ≡ 27 = omega arith in rw q
 
 pub value-rows-spec : {M : Type 1} → statement M
 value-rows-spec =
@@ -46,5 +43,4 @@ value-rows-spec =
     returns-4
     returns-5
     returns-6
-    returns-7
-    returns-8)
+    returns-7)
