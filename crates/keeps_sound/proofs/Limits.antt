@@ -1,4 +1,4 @@
--- The numbers of a command that was read lie within the limits of paper 01: those that a session keeps, how many bytes follow a GM, and the ends of a
+-- The numbers of a command that was read lie within the limits of papers 01 and 02: those that a session keeps, how many bytes follow a GM, and all five of a
 -- slanted line.
 -- Assumes nothing.
 use mathlib.Core.Path.{_≡_, refl, ap, subst}
@@ -124,7 +124,7 @@ slant-behind (f ∷ letters) (l ∷ ls) s u [] ps e =
 slant-behind (f ∷ letters) (l ∷ ls) s u (v ∷ vs) ps e =
     slant-behind letters ls s _ vs (drop 1 ps) (limits-rest f (letters ++ bytes "n,n,n,n,n") (l ∷ ls) s u (v ∷ vs) ps e)
 
--- ---- every row: a session keeps the numbers of Q, q, R and P, a call reads as many bytes as GM says, and the ends of a slanted line are not far
+-- ---- every row: a session keeps the numbers of Q, q, R and P, a call reads as many bytes as GM says, and a slanted line is drawn by its five
 
 ranges : Each (Told (λ rows s. ranged rows)) forms
 unfolding spread inOrder
