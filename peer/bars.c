@@ -104,7 +104,7 @@ static void all_ean_13(struct widths *w, const uint8_t *data)
     put_modules(w, "111");
 }
 
-/* ---- Code 128, ISO/IEC 15417: eleven modules a symbol, set B alone ---- */
+/* ---- Code 128, ISO/IEC 15417: eleven modules a symbol; in set B a symbol is a byte, in set C a pair of digits ---- */
 
 static const char code_128[106][7] = {
     "212222", "222122", "222221", "121223", "121322", "131222", "122213", "122312", "132212", "221213", "221312", "231212",
@@ -117,19 +117,76 @@ static const char code_128[106][7] = {
     "124112", "124211", "411212", "421112", "421211", "212141", "214121", "412121", "111143", "111341", "131141", "114113",
     "114311", "411113", "411311", "113141", "114131", "311141", "411131", "211412", "211214", "211232"};
 
-enum { START_B = 104 };
+enum { TO_C = 99, TO_B = 100, START_B = 104, START_C = 105 };
+
+/* How many symbols, at least, write the data from some byte on when the first of them is a byte of set B, or a pair of set C. */
+struct fewest {
+    uint8_t b, c;
+};
+
+static bool is_digit(uint8_t byte)
+{
+    return byte >= '0' && byte <= '9';
+}
+
+/* In a set that needs so many symbols, with another at hand behind one symbol of change. */
+static unsigned fewest_in(unsigned own, unsigned other)
+{
+    return own < other + 1 ? own : other + 1;
+}
+
+/* From the last byte to the first. Where no pair stands c is more than any change leads to. */
+static void count_fewest(const uint8_t *data, unsigned length, struct fewest *from)
+{
+    from[length] = (struct fewest){0, 0};
+    for (unsigned i = length; i-- > 0;) {
+        bool pair = i + 1 < length && is_digit(data[i]) && is_digit(data[i + 1]);
+        unsigned b = 1 + fewest_in(from[i + 1].b, from[i + 1].c), c = pair ? 1 + fewest_in(from[i + 2].c, from[i + 2].b) : b + 2;
+        from[i] = (struct fewest){(uint8_t)b, (uint8_t)c};
+    }
+}
+
+/* The writing of which no other "has fewer symbols; among equals, the one whose first differing symbol value is smaller". Start B is less than start C, a byte of
+ * set B less than the change to C, and a pair less than the change to B: so it starts with C only where that takes a symbol less, and a set is left only where staying in it takes one more. */
+static unsigned write_code_128(const uint8_t *data, unsigned length, uint8_t *values)
+{
+    struct fewest from[MOST_DATA + 1];
+    unsigned count = 0;
+    bool in_c;
+
+    count_fewest(data, length, from);
+    in_c = from[0].c < from[0].b;
+    values[count++] = in_c ? START_C : START_B;
+    for (unsigned i = 0; i < length;)
+        if (in_c ? from[i].b + 1 < from[i].c : from[i].c + 1 < from[i].b) {
+            values[count++] = in_c ? TO_B : TO_C;
+            in_c = !in_c;
+        } else if (in_c) {
+            values[count++] = (uint8_t)((data[i] - '0') * 10 + data[i + 1] - '0');
+            i += 2;
+        } else
+            values[count++] = (uint8_t)(data[i++] - 32);
+    return count;
+}
+
+/* The check symbol: the start and every value behind it times its place, from 1. */
+static unsigned code_128_check(const uint8_t *values, unsigned count)
+{
+    unsigned sum = values[0];
+
+    for (unsigned i = 1; i < count; i++)
+        sum += values[i] * i;
+    return sum % 103;
+}
 
 static void all_code_128(struct widths *w, const uint8_t *data, unsigned length)
 {
-    unsigned sum = START_B;
+    uint8_t values[MOST_DATA + 1];  /* set B alone has no more */
+    unsigned count = write_code_128(data, length, values);
 
-    put_modules(w, code_128[START_B]);
-    for (unsigned i = 0; i < length; i++) {
-        unsigned value = data[i] - 32U;
-        sum += value * (i + 1);
-        put_modules(w, code_128[value]);
-    }
-    put_modules(w, code_128[sum % 103]);
+    for (unsigned i = 0; i < count; i++)
+        put_modules(w, code_128[values[i]]);
+    put_modules(w, code_128[code_128_check(values, count)]);
     put_modules(w, "2331112");
 }
 

@@ -328,6 +328,31 @@ static void slanted_lines(void)
     }
 }
 
+/* Type 1 on an empty store, upright, so that the page has all of it: of 64 and 128 bytes, digits alone and rows of three to nine digits with a letter behind each. What the memory takes to
+ * judge is told by the row in which nothing is drawn. */
+static void shortest_symbols(void)
+{
+    static const char digits[] = "0123456789", mixed[] = "012A3456A78901A234567A8901234A56789012A345678901A";
+    static const struct {
+        const char *what, *bytes;
+        unsigned length;
+    } symbols[] = {{"nothing drawn on 1,500 rows", "", 0}, {"type 1, 64 digits", digits, 64}, {"type 1, 128 digits", digits, 128}, {"type 1, 64 bytes, digits and letters", mixed, 64},
+                   {"type 1, 128 bytes, digits and letters", mixed, 128}};
+
+    for (unsigned i = 0; i < sizeof symbols / sizeof symbols[0]; i++) {
+        char data[MOST_DATA + 1] = "", line[200] = "ZT\n";
+        struct work w;
+        for (unsigned k = 0; k < symbols[i].length; k++)
+            data[k] = symbols[i].bytes[k % strlen(symbols[i].bytes)];
+        if (symbols[i].length > 0)
+            sprintf(line, "B100,0,1,1,1,2,24,N,\"%.128s\"\n", data);
+        open_work(&w, 1500, 1, 1);
+        fill(&w, line);
+        measure(symbols[i].what, &w, 500, time_same);
+        clear_away(&w.desk);
+    }
+}
+
 static void long_label(void)
 {
     struct work w;
@@ -394,5 +419,6 @@ int main(void)
     recorded_lines();
     questions();
     slanted_lines();
+    shortest_symbols();
     return 0;
 }

@@ -10,10 +10,11 @@
  * what a fresh count finds, and has moved only where it may, that an image of another length is 1 and one refused by opening all zero, and
  * that the question whether it fits changes nothing and has the answer of the FS or GM that is sent right behind it on a copy of the memory, if that
  * is sound. And that a slanted line drawn on the background inks, in some of the rows, just the dots that the paper's sentence names, that it gives the same page with its ends
- * exchanged, and that LSE of it twice gives back the page. The first difference is told with
+ * exchanged, and that LSE of it twice gives back the page. And that the bars of each symbol of type 1 drawn on the background or a label read back as its data, in the writing that its rows of
+ * digits ask for, and so do those on the background itself, where they stand whole in a row that was white. The first difference is told with
  * the seed of its session and ends the run. At the end: how often each call gave each answer, and of the answers that point how
  * many places they were seen to point to, how many of these more than nine times, and how often to the LF; and how many slanted lines were drawn, by their
- * ends and by whether the page has them whole. With -DSELF the station
+ * ends and by whether the page has them whole; and how many symbols of type 1, by their start and how often their set changes. With -DSELF the station
  * is the peer again, which tries the generator and this program alone. */
 #include <inttypes.h>
 #include <stdio.h>
@@ -23,6 +24,7 @@
 #include "desk.h"
 #include "generate.h"
 #include "peer.h"
+#include "reading.h"
 #include "station.h"
 
 #ifdef SELF
@@ -578,6 +580,110 @@ static void check_slanted(struct pair *p, const struct generator *g, const struc
     }
 }
 
+/* ---- Code 128 as short as it can be ---- */
+
+enum { NO_CHANGE, ONE_CHANGE, MORE_CHANGES, CHANGES };
+
+static uint64_t written[DRAWN_BY][2][CHANGES], across_elements, read_on_page;
+
+/* A line of type 1 and what it shows. */
+struct type_1 {
+    struct command command;
+    uint8_t data[MOST_DATA];
+    unsigned length;
+};
+
+/* False if the line is no B of type 1. It was taken, so it has its written form. */
+static bool type_1_at(const uint8_t *line, unsigned length, const struct declarations *d, const uint8_t *values, const struct session *s, struct type_1 *t)
+{
+    struct normal_line normal;
+
+    if (length == 0 || line[0] != 'B' || read_line(line, length, MOST_ROWS, &t->command, &normal).answer != TAKEN || t->command.type != CODE_128)
+        return false;
+    t->length = show_data(&t->command, d, values, s->counters, t->data);
+    return true;
+}
+
+/* The bars as the peer has them, read back: the data, and the writing that its rows of digits ask for. */
+static bool written_so(unsigned by, const struct type_1 *t)
+{
+    uint8_t widths[MOST_BARS], values[MOST_DATA + 1];
+    unsigned count = bar_widths(CODE_128, 1, 2, t->data, t->length, widths), changes;
+    struct reading r;
+
+    if (!read_bars(widths, count, 1, &r) || r.length != t->length || memcmp(r.data, t->data, t->length) != 0)
+        return false;
+    changes = changes_of_set(&r);
+    written[by][r.value[0] == 105][changes < MORE_CHANGES ? changes : MORE_CHANGES]++;
+    across_elements += t->command.elements > 1 && (changes > 0 || r.value[0] == 105);
+    return write_by_rows(t->data, t->length, values) == r.count && memcmp(values, r.value, r.count) == 0;
+}
+
+/* A symbol whose first row was white before it and is whole on the page: its bars are read from there. */
+static bool read_from_page(const struct pair *p, const struct type_1 *t, const struct session *s)
+{
+    unsigned narrow = t->command.n[3], y = t->command.n[1] + s->origin_y, first, count;
+    size_t at = (size_t)y * ROW_BYTES;
+    uint8_t widths[ROW_BYTES * 8], values[MOST_DATA + 1];
+    struct reading r;
+
+    if (t->command.n[2] != 0 || y >= s->length || row_widths(p->before.bytes[BACKGROUND] + at, s->width, widths, &first) != 0)
+        return true;
+    count = row_widths(p->peer.bytes[BACKGROUND] + at, s->width, widths, &first);
+    if (count == 0)
+        return t->command.letter != 'N' || t->command.n[0] + s->origin_x >= s->width;
+    if (first + (11 * (write_by_rows(t->data, t->length, values) + 1) + 13) * narrow > s->width)
+        return true;
+    read_on_page++;
+    return read_bars(widths, count, narrow, &r) && r.length == t->length && memcmp(r.data, t->data, t->length) == 0;
+}
+
+/* The symbols of type 1 that a label has drawn, with the values and counters it had. */
+static bool label_written_so(const struct pair *p, const struct event *e, const struct declarations *d)
+{
+    uint8_t *const *b = p->before.bytes;
+    struct memory m = {b[BACKGROUND], 0, b[STORE], (uint16_t *)(void *)b[LINKS], (unsigned)e->length[LINKS], b[DIRECTORY],
+                       (unsigned)(e->length[DIRECTORY] / ENTRY), b[VALUE]};
+    uint8_t room[MOST_LINE + 1];
+    static struct type_1 t;
+    struct session s;
+    unsigned length;
+
+    read_image(b[SESSION], &s);
+    if (s.active == NO_FORM)
+        return true;
+    for (struct cursor at = start_of(&m, entry_at(&m, s.active)); at.left > 0;) {
+        const uint8_t *line = next_line(&at, room, &length);
+        if (type_1_at(line, length, d, b[VALUE], &s, &t) && !written_so(BY_LABEL, &t))
+            return false;
+    }
+    return true;
+}
+
+static bool command_written_so(const struct pair *p, const struct event *e)
+{
+    static const struct declarations nothing;
+    const uint8_t *lf = memchr(e->bytes, '\n', e->count);
+    static struct type_1 t;
+    struct session s;
+
+    read_image(p->before.bytes[SESSION], &s);
+    if (kind_before(p, e, RECORDING) || !type_1_at(e->bytes, (unsigned)(lf - e->bytes), &nothing, p->before.bytes[VALUE], &s, &t))
+        return true;
+    return written_so(BY_COMMAND, &t) && read_from_page(p, &t, &s);
+}
+
+static void check_written(const struct pair *p, const struct generator *g, const struct event *e, unsigned answer, const struct declarations *d, uint64_t calls)
+{
+    if (answer != TAKEN || e->call == OPEN)
+        return;
+    if (!(e->call == LABEL ? label_written_so(p, e, d) : command_written_so(p, e))) {
+        tell_difference(g, e, calls);
+        printf("the bars of a symbol of type 1 do not read back as its data, or another writing was asked for\n");
+        exit(1);
+    }
+}
+
 /* ---- all of it ---- */
 
 static void check_unchanged(const struct pair *p, const struct generator *g, const struct event *e, unsigned answer, uint64_t calls)
@@ -611,6 +717,7 @@ static void check_promises(const struct pair *p, const struct generator *g, cons
         exit(1);
     }
     check_room(p, g, e, answer, calls);
+    check_written(p, g, e, answer, &facts.of_active, calls);
 }
 
 static void make_call(struct pair *p, struct generator *g, const struct event *e, uint64_t calls)
@@ -696,6 +803,17 @@ static void tell_slanted(void)
     printf("asked dot by dot: %" PRIu64 " rows, %" PRIu64 " dots in the line\n", rows_asked, dots_in_line);
 }
 
+static void tell_written(void)
+{
+    static const char *const by[DRAWN_BY] = {"background", "label"};
+
+    printf("type 1                  no change  one change        more\n");
+    for (unsigned i = 0; i < DRAWN_BY; i++)
+        for (unsigned c = 0; c < 2; c++)
+            printf("%-10s start %c %14" PRIu64 " %11" PRIu64 " %11" PRIu64 "\n", by[i], "BC"[c], written[i][c][NO_CHANGE], written[i][c][ONE_CHANGE], written[i][c][MORE_CHANGES]);
+    printf("of several elements, set C in use: %" PRIu64 "; read from the page: %" PRIu64 "\n", across_elements, read_on_page);
+}
+
 int main(int argc, char **argv)
 {
     uint64_t wanted = argc > 1 ? strtoull(argv[1], NULL, 10) : 10000, calls = 0;
@@ -723,6 +841,7 @@ int main(int argc, char **argv)
     tell_places();
     printf("asked and then sent: %" PRIu64 " FS, %" PRIu64 " GM\n", sent_forms, sent_pictures);
     tell_slanted();
+    tell_written();
     clear_away(&p.station);
     clear_away(&p.peer);
     clear_away(&p.before);

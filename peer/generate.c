@@ -526,6 +526,103 @@ static void put_any_data(struct generator *g, const struct declared *d)
         put_stray(g);
 }
 
+/* ---- rows of digits, for type 1 ---- */
+
+/* Not in small sessions: those that are stored make the calls that they made. */
+static bool rows_due(struct generator *g, unsigned in_hundred)
+{
+    return !g->small && chance(g, in_hundred);
+}
+
+/* Short ones most of all, about the lengths at which set C begins to be worth its changes; every length and parity. */
+static unsigned some_row(struct generator *g)
+{
+    unsigned k = below(g, 100);
+
+    if (k < 45)
+        return between(g, 1, 7);
+    if (k < 80)
+        return between(g, 4, 9);
+    return k < 95 ? between(g, 1, 24) : between(g, 1, MOST_DATA);
+}
+
+/* No digit; those beside the digits, a space and both ends of what may be shown a little likelier. */
+static uint8_t no_digit(struct generator *g)
+{
+    static const uint8_t likely[] = "/: A~!,B";
+    uint8_t byte = chance(g, 60) ? likely[below(g, 8)] : text_byte(g);
+
+    return byte >= '0' && byte <= '9' ? 'x' : byte;
+}
+
+/* A text is begun where it must be; end_text ends it, if one is begun. */
+static void put_in_text(struct generator *g, bool *begun, uint8_t byte)
+{
+    if (!*begun)
+        put(g, '"');
+    *begun = true;
+    put(g, byte);
+}
+
+static void end_text(struct generator *g, bool *begun)
+{
+    if (*begun)
+        put(g, '"');
+    *begun = false;
+}
+
+/* So many digits, as one text, as several, and as counters and variables of digits between them: a pair may have its digits from two elements. Gives how many are put. */
+static unsigned put_row(struct generator *g, const struct declared *d, bool *begun, unsigned digits, unsigned parted)
+{
+    unsigned done = 0;
+
+    while (done < digits) {
+        unsigned shown = 0;
+        if (chance(g, parted)) {
+            end_text(g, begun);
+            shown = chance(g, 80) ? put_value(g, d, true) : 0;
+        }
+        if (shown == 0)
+            put_in_text(g, begun, (uint8_t)('0' + below(g, 10)));
+        done += shown > 0 ? shown : 1;
+    }
+    return done;
+}
+
+/* Rows of digits and other bytes in turn, one to four of them, with any of both at either end. Gives how many bytes are shown. */
+static unsigned put_rows(struct generator *g, const struct declared *d, bool *begun)
+{
+    unsigned pieces = chance(g, 35) ? 1 : between(g, 2, 4), shown = 0, parted = chance(g, 40) ? 0 : between(g, 3, 40);
+    bool alone = pieces == 1, digits = alone || chance(g, 55);
+
+    for (; pieces > 0; pieces--, digits = !digits) {
+        unsigned left = shown < MOST_DATA ? MOST_DATA - shown : 0, length = chance(g, 70) ? 1 : between(g, 1, 5);
+        if (digits)
+            length = alone && chance(g, 50) ? between(g, 1, 5) : some_row(g);
+        if (length > left && !chance(g, 3))
+            length = left;
+        if (digits)
+            length = put_row(g, d, begun, length, parted);
+        for (unsigned i = 0; i < length && !digits; i++)
+            put_in_text(g, begun, no_digit(g));
+        shown += length;
+    }
+    return shown;
+}
+
+/* Now and then filled up to the most that data may show, with digits or without, and now and then with some element of any kind behind it. */
+static void put_row_data(struct generator *g, const struct declared *d)
+{
+    bool begun = false, digits = chance(g, 30);
+    unsigned shown = put_rows(g, d, &begun), to = rarely(g, 60) ? MOST_DATA - (chance(g, 60) ? 0 : below(g, 4)) : 0;
+
+    for (; shown < to; shown++)
+        put_in_text(g, &begun, digits ? (uint8_t)('0' + below(g, 10)) : no_digit(g));
+    end_text(g, &begun);
+    if (shown == 0 || chance(g, 4))
+        put_any_element(g, d);
+}
+
 /* What is put to so many bytes of values, 46 at most: now and then up to the most that data may show, or a little more. */
 static unsigned usual_fill(struct generator *g, char type, unsigned total)
 {
@@ -809,6 +906,8 @@ static void put_bars_line(struct generator *g, const struct declared *d)
     char type = types[below(g, 4)];
     bool ends = false;
 
+    if (rows_due(g, 25))
+        type = '1';
     put_corner(g, 'B', chance(g, 70) ? g->rows / 3 : usual_y(g));
     put_bar_sizes(g, type);
     if (chance(g, g->faulty ? 25 : 4))
@@ -819,7 +918,9 @@ static void put_bars_line(struct generator *g, const struct declared *d)
         return;
     if (chance(g, 2))
         put_stray(g);
-    if (type == '1')
+    if (type == '1' && !g->faulty && rows_due(g, 75))
+        put_row_data(g, d);
+    else if (type == '1')
         put_any_data(g, d);
     else
         put_digit_data(g, d, type);
@@ -914,6 +1015,8 @@ static void put_value_text(struct generator *g, unsigned m, char justify)
         length = 1;
     if (justify == 'Z' && chance(g, 95))
         put_from(g, "0123456789", length);
+    else if (rows_due(g, 50))
+        put_from(g, chance(g, 40) ? "0123456789" : "01234567890123456789 /:A", length);
     else
         put_quoted(g, length);
 }

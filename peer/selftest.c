@@ -1,9 +1,10 @@
 /* selftest.c: paper 01's sample session, as paper 02 changed it, and its ten proof cases, as far as the calls show them,
  * paper 02's line under the bars, places of refusals, counters that run out, two kinds of full, the number of free portions, the
- * question whether it fits and slanted lines, and drawing dot by dot.
+ * question whether it fits, slanted lines and the shortest Code 128, and drawing dot by dot.
  *
  *   selftest                   runs all of them
  *   selftest bars TYPE W DATA  writes the modules of one symbol, narrow 1 and wide W, as 1 (bar) and 0, for zint-check
+ *   selftest bars TYPE W       the same of each line of standard input
  *   selftest label             reads standard input as the sample session's program does
  */
 #include <stdio.h>
@@ -13,6 +14,8 @@
 #include "desk.h"
 #include "peer.h"
 #include "pointing.h"
+#include "reading.h"
+#include "writings.h"
 
 static unsigned failures;
 
@@ -419,6 +422,13 @@ static void lined_cases(void)
         {"2,1,2,24", "12345678", "12345678", 24, 64, 64},
         {"2,1,3,24", "12", "12", 24, 27, 16},
         {"2,1,2,30", "1234567890", "1234567890", 30, 78, 80},
+        {"1,1,2,24", "12", "12", 24, 46, 16},
+        {"1,1,2,24", "12345A", "12345A", 24, 90, 48},
+        {"1,6,7,24", "1234", "1234", 24, 342, 32},
+        {"1,2,3,26", "A123456B", "A123456B", 26, 224, 64},
+        {"1,1,2,24", "12345678901234", "12345678901234", 24, 112, 112},
+        {"1,1,2,24", "1234567890123456", "1234567890123456", 24, 123, 128},
+        {"1,1,2,24", "12345678901234567", "12345678901234567", 24, 145, 136},
         {"E30,1,2,24", "123456789012", "1234567890128", 24, 95, 104},
         {"E30,2,3,24", "400638133393", "4006381333931", 24, 190, 104}};
     static const char *const words[] = {"B", "B,C", "B,R"};
@@ -2942,6 +2952,279 @@ static void picture_case(void)
     clear_away(&b.desk);
 }
 
+/* ---- Code 128 as short as it can be ---- */
+
+/* The bars of this data, with narrow 3, read back: they have their check and give the data. */
+static bool read_back(const void *data, unsigned length, struct reading *r)
+{
+    uint8_t widths[MOST_BARS];
+    unsigned count = bar_widths(CODE_128, 3, 4, data, length, widths);
+
+    return read_bars(widths, count, 3, r) && r->length == length && memcmp(r->data, data, length) == 0;
+}
+
+static bool values_are(const struct reading *r, const uint8_t *values, unsigned count)
+{
+    return r->count == count && memcmp(r->value, values, count) == 0;
+}
+
+static void tell_values(const struct reading *r, char *text)
+{
+    for (unsigned i = 0; i < r->count; i++)
+        text += sprintf(text, "%u ", r->value[i]);
+    sprintf(text, "check %u", r->check);
+}
+
+static const struct {
+    const char *data, *values;
+} written_by_hand[] = {
+    {"A", "104 33 check 34"}, {"1", "104 17 check 18"}, {" ", "104 0 check 1"}, {"~", "104 94 check 95"}, {"12", "105 12 check 14"},
+    {"00", "105 0 check 2"}, {"123", "104 17 18 19 check 8"}, {"000", "104 16 16 16 check 97"}, {"1234", "105 12 34 check 82"},
+    {"0000", "105 0 0 check 2"}, {"9999", "105 99 99 check 93"}, {"12345", "104 17 99 23 45 check 53"}, {"1234567", "104 17 99 23 45 67 check 79"},
+    {"A12", "104 33 17 18 check 19"}, {"A123", "104 33 17 18 19 check 95"}, {"A1234", "104 33 99 12 34 check 95"},
+    {"A12345", "104 33 17 99 23 45 check 64"}, {"AIM1234", "104 33 41 45 99 12 34 check 87"}, {"12A", "104 17 18 33 check 50"},
+    {"123A", "104 17 18 19 33 check 37"}, {"1234A", "105 12 34 100 33 check 102"}, {"12345A", "105 12 34 100 21 33 check 13"},
+    {"A1234B", "104 33 17 18 19 20 34 check 90"}, {"A12345B", "104 33 17 18 19 20 21 34 check 44"},
+    {"A123456B", "104 33 99 12 34 56 100 34 check 80"}, {"A1234567B", "104 33 17 99 23 45 67 100 34 check 99"},
+    {"12 34", "104 17 18 0 19 20 check 24"}, {"1234 5678", "105 12 34 100 0 99 56 78 check 8"}, {"123-456", "104 17 18 19 13 20 21 22 check 28"},
+    {"/0000:", "104 15 16 16 16 16 26 check 87"}, {"/000000:", "104 15 99 0 0 0 100 26 check 69"}, {"99A99", "104 25 25 33 25 25 check 91"}};
+
+static void writings_by_hand(void)
+{
+    unsigned wrong = 0;
+    struct reading r;
+    char text[128];
+
+    for (unsigned i = 0; i < sizeof written_by_hand / sizeof written_by_hand[0]; i++) {
+        wrong += !read_back(written_by_hand[i].data, (unsigned)strlen(written_by_hand[i].data), &r);
+        tell_values(&r, text);
+        wrong += strcmp(text, written_by_hand[i].values) != 0;
+    }
+    check("type 1 by hand: A12 in B, 123 from 104, AIM1234 with 87", wrong == 0);
+}
+
+/* Of a row of n digits, with a letter before it, behind it, on both sides or alone: how many symbols, start included, and no check. By hand: set B has one for each byte; where it is
+ * written in pairs, n/2 of them, an odd digit and the changes. */
+static unsigned symbols_of_row(unsigned n, bool before, bool behind)
+{
+    unsigned pairs = n / 2 + n % 2, letters = (unsigned)before + behind;
+
+    if (!before && !behind)
+        return n == 1 || n == 3 ? n + 1 : 1 + pairs + n % 2;
+    if (before && behind)
+        return n < 6 ? n + 3 : 1 + pairs + letters + 2;
+    return n < 4 ? n + 2 : 1 + pairs + letters + 1;
+}
+
+/* Rows of digits of every length up to 128 bytes in all. The lists say which writing, the hand how many symbols. */
+static void rows_of_digits(bool before, bool behind, const char *what)
+{
+    uint8_t data[MOST_DATA], values[MOST_WRITTEN + 1];
+    unsigned wrong = 0;
+    struct reading r;
+
+    for (unsigned n = 1; n + before + behind <= MOST_DATA; n++) {
+        unsigned length = n + before + behind;
+        for (unsigned i = 0; i < n; i++)
+            data[before + i] = (uint8_t)('0' + (7 * i + n) % 10);
+        if (before)
+            data[0] = 'A';
+        if (behind)
+            data[length - 1] = 'z';
+        wrong += !read_back(data, length, &r) || r.count != symbols_of_row(n, before, behind);
+        wrong += !values_are(&r, values, least_of_lists(data, length, values));
+    }
+    check(what, wrong == 0);
+}
+
+/* The writing of bars.c, that of all writings and that by rows are one; *made grows by the writings. */
+static bool least_so(const uint8_t *data, unsigned length, uint64_t *made)
+{
+    uint8_t all[MOST_WRITTEN + 1], rows[MOST_WRITTEN + 1];
+    unsigned count = least_of_all(data, length, all, made);
+    struct reading r;
+
+    return read_back(data, length, &r) && values_are(&r, all, count) && write_by_rows(data, length, rows) == count && memcmp(rows, all, count) == 0;
+}
+
+/* Every data of one byte to so many over an alphabet. */
+static void every_data(const char *alphabet, unsigned most)
+{
+    unsigned letters = (unsigned)strlen(alphabet), wrong = 0;
+    uint64_t made = 0, all = 1;
+    char what[128];
+    uint8_t data[16];
+
+    for (unsigned length = 1; length <= most; length++) {
+        all *= letters;
+        for (uint64_t k = 0; k < all; k++) {
+            uint64_t rest = k;
+            for (unsigned i = 0; i < length; i++, rest /= letters)
+                data[i] = (uint8_t)alphabet[rest % letters];
+            wrong += !least_so(data, length, &made);
+        }
+    }
+    snprintf(what, sizeof what, "every data of 1 to %u bytes of `%s`, all writings", most, alphabet);
+    check(what, wrong == 0 && made > all);
+}
+
+/* Much of digits, in rows: after a digit another one is likelier. Bytes beside the digits too. */
+static void data_by_chance(uint8_t *data, unsigned length, unsigned digits_in_ten)
+{
+    for (unsigned i = 0; i < length; i++) {
+        bool row = i > 0 && data[i - 1] >= '0' && data[i - 1] <= '9';
+        if (chance_number() % 10 < digits_in_ten + (row ? 1 : 0))
+            data[i] = (uint8_t)('0' + chance_number() % 10);
+        else
+            data[i] = (uint8_t)(chance_number() % 3 ? 32 + chance_number() % 95 : chance_number() % 2 ? 47 : 58);
+    }
+}
+
+static void short_data_by_chance(void)
+{
+    unsigned wrong = 0;
+    uint64_t made = 0;
+    uint8_t data[16];
+
+    for (unsigned i = 0; i < 3000; i++) {
+        unsigned length = 9 + (unsigned)(chance_number() % 6);
+        data_by_chance(data, length, 5 + i % 5);
+        wrong += !least_so(data, length, &made);
+    }
+    check("3000 data of 9 to 14 bytes by chance, all writings", wrong == 0);
+}
+
+/* "never more than set B alone has": a start and a symbol for each byte. */
+static void long_data_by_chance(void)
+{
+    uint8_t data[MOST_DATA], lists[MOST_WRITTEN + 1], rows[MOST_WRITTEN + 1];
+    unsigned unread = 0, more = 0, wrong = 0;
+    struct reading r;
+
+    for (unsigned i = 0; i < 1500; i++) {
+        unsigned length = i % 10 == 0 ? MOST_DATA : 1 + (unsigned)(chance_number() % MOST_DATA);
+        data_by_chance(data, length, i % 11);
+        unread += !read_back(data, length, &r);
+        more += r.count > length + 1;
+        wrong += !values_are(&r, lists, least_of_lists(data, length, lists)) || !values_are(&r, rows, write_by_rows(data, length, rows));
+    }
+    check("1500 data of up to 128 bytes: their bars read back", unread == 0);
+    check("no more symbols than set B alone has", more == 0);
+    check("the writing that lists of values and rows of digits give", wrong == 0);
+}
+
+/* What row 0 of a page says, if it is one symbol with modules of one dot. */
+static bool row_reads(const struct bench *b, enum slice s, const char *data)
+{
+    uint8_t widths[ROW_BYTES * 8];
+    unsigned first, count = row_widths(b->desk.bytes[s], ROW_BYTES * 8, widths, &first);
+    struct reading r;
+
+    return read_bars(widths, count, 1, &r) && r.length == strlen(data) && memcmp(r.data, data, r.length) == 0;
+}
+
+/* The dots of a symbol whose corner is at 0,0, along its turn: from the left, from the top, from the right or from the bottom. */
+static unsigned widths_along(const struct bench *b, int r, int rows, uint8_t *widths)
+{
+    uint8_t along[200] = {0};
+    int length = r % 2 ? rows : ROW_BYTES * 8;
+    unsigned first;
+
+    for (int k = 0; k < length; k++) {
+        int at = r < 2 ? k : length - 1 - k;
+        if (dot(b, BACKGROUND, r % 2 ? 0 : at, r % 2 ? at : 0))
+            along[k / 8] |= (uint8_t)(128 >> k % 8);
+    }
+    return row_widths(along, (unsigned)length, widths, &first);
+}
+
+/* Up to 128 bytes upright on 1,500 rows; as many as a row has room for across them. */
+static void drawn_data_by_chance(void)
+{
+    uint8_t data[MOST_DATA + 1] = {0}, widths[1600];
+    unsigned wrong = 0;
+    struct bench b;
+    struct reading r;
+
+    open_bench(&b, 1500, empty_font, sizeof empty_font);
+    for (int i = 0; i < 400; i++) {
+        unsigned length = 1 + (unsigned)(chance_number() % (i % 2 ? MOST_DATA : 50));
+        char line[200];
+        data_by_chance(data, length, (unsigned)i % 11);
+        data[length] = 0;
+        for (unsigned k = 0; k < length; k++)
+            data[k] = data[k] == '"' ? '!' : data[k];
+        sprintf(line, "B0,0,%d,1,1,2,24,N,\"%s\"", i % 4, (const char *)data);
+        wrong += send(&b, "N") != 0 || send(&b, line) != 0 || !read_bars(widths, widths_along(&b, i % 4, 1500, widths), 1, &r);
+        wrong += r.length != length || memcmp(r.data, data, length) != 0;
+    }
+    check("400 data by chance drawn in four turns: the page reads back", wrong == 0);
+    clear_away(&b.desk);
+}
+
+/* Elements side by side are one row of bytes: a pair may have its digits from two of them, whatever they are. */
+static void pairs_across_elements(void)
+{
+    static const char *const same[] = {"\"A\"\"1\"\"2\"\"345\"\"6\"\"B\"", "\"A12\"\"3456B\"", "\"A1\"\"\"\"23456B\"", "\"A123456B\""};
+    static const char *const form[] = {"FS\"F\"", "C0,3,+1,\"\"", "C1,1,-1,\"\"", "V1,4,N,\"\"", "B0,0,0,1,1,2,24,N,C0\"5\"C1V1", "FE", "FR\"F\"", "?C0,98", "?C1,7"};
+    static const struct {
+        const char *value, *data;
+        int wide;
+    } labels[] = {{"?V1,\"\"", "09857", 79}, {"?V1,\"8\"", "099568", 68}, {"?V1,\"89\"", "1005589", 90}, {"?V1,\"x\"", "10154x", 90}, {"?V1,\" 1\"", "10253 1", 101}};
+    unsigned wrong = 0, parted = 0;
+    struct bench b;
+    char line[128];
+
+    open_bench(&b, 40, empty_font, sizeof empty_font);
+    for (unsigned i = 0; i < 4; i++) {
+        sprintf(line, "B0,0,0,1,1,2,24,N,%s", same[i]);
+        wrong += send(&b, "N") != 0 || send(&b, line) != 0 || !row_reads(&b, BACKGROUND, "A123456B") || bars_wide(&b) != 112;
+    }
+    check("A123456B in one element or more: the same 112 modules", wrong == 0);
+    for (unsigned i = 0; i < sizeof form / sizeof form[0]; i++)
+        parted += (i == 0 && send(&b, "N") != 0) || send(&b, form[i]) != 0;
+    for (unsigned i = 0; i < sizeof labels / sizeof labels[0]; i++) {
+        parted += send(&b, labels[i].value) != 0 || send(&b, "P1") != 0 || label(&b) != 0 || !row_reads(&b, PAGE, labels[i].data);
+        parted += !dot(&b, PAGE, labels[i].wide - 1, 0) || dot(&b, PAGE, labels[i].wide, 0);
+    }
+    check("counters, text and variables side by side: pairs of two", parted == 0);
+    clear_away(&b.desk);
+}
+
+/* What is unfit does not move: 128 bytes are taken however few symbols they are, 129 are 15, and so is no byte. */
+static void fit_as_before(void)
+{
+    char line[300] = "B0,0,0,1,1,2,24,N,\"";
+    struct bench b;
+    int well = 1;
+
+    open_bench(&b, 40, empty_font, sizeof empty_font);
+    memset(line + 19, '7', 128);
+    strcpy(line + 19 + 128, "\"");
+    well &= send(&b, line) == 0;
+    strcpy(line + 19 + 128, "7\"");
+    well &= send(&b, line) == 15 && count(&b, 2) == 18;
+    check("128 digits are taken, 129 are 15, and none are", well && send(&b, "B0,0,0,1,1,2,24,N,\"\"") == 15);
+    clear_away(&b.desk);
+}
+
+static void shortest_cases(void)
+{
+    writings_by_hand();
+    rows_of_digits(false, false, "1 to 128 digits alone: odd ones begin with one in B");
+    rows_of_digits(true, false, "1 to 127 digits behind a letter: in C from 4 on");
+    rows_of_digits(false, true, "1 to 127 digits before a letter: in C from 4 on");
+    rows_of_digits(true, true, "1 to 126 digits between letters: in C from 6 on");
+    every_data("A09 ", 8);
+    every_data("/5:", 9);
+    every_data("7z", 13);
+    short_data_by_chance();
+    long_data_by_chance();
+    drawn_data_by_chance();
+    pairs_across_elements();
+    fit_as_before();
+}
+
 /* ---- the modules of one symbol ---- */
 
 static int write_modules(const char *type, int wide, const char *data)
@@ -2955,6 +3238,17 @@ static int write_modules(const char *type, int wide, const char *data)
         for (unsigned k = 0; k < widths[i]; k++)
             putchar(i % 2 == 0 ? '1' : '0');
     putchar('\n');
+    return 0;
+}
+
+static int write_all_modules(const char *type, int wide)
+{
+    char line[MOST_DATA + 2];
+
+    while (fgets(line, sizeof line, stdin)) {
+        line[strcspn(line, "\n")] = 0;
+        write_modules(type, wide, line);
+    }
     return 0;
 }
 
@@ -2973,6 +3267,8 @@ int main(int argc, char **argv)
 {
     if (argc == 5 && strcmp(argv[1], "bars") == 0)
         return write_modules(argv[2], atoi(argv[3]), argv[4]);
+    if (argc == 4 && strcmp(argv[1], "bars") == 0)
+        return write_all_modules(argv[2], atoi(argv[3]));
     if (argc == 2 && strcmp(argv[1], "label") == 0)
         return label_program();
     sample_session();
@@ -2991,6 +3287,7 @@ int main(int argc, char **argv)
     free_number_cases();
     fits_cases();
     slanted_cases();
+    shortest_cases();
     rectangle_cases();
     picture_case();
     return failures != 0;

@@ -6,7 +6,8 @@
  * them a seventh that is written here and draws every word of the line under the bars, an eighth of lines that are refused, in which
  * every kind of piece is once at fault, a ninth of jobs that take counters to their end, a tenth in which portions and entries
  * run out, each alone and both, an eleventh that moves the number of free portions in every way and puts wrong ones in, a twelfth
- * of questions whether it fits, with every answer of theirs and what goes before what, and a thirteenth of slanted lines. Together they give each of the 24 answers.
+ * of questions whether it fits, with every answer of theirs and what goes before what, a thirteenth of slanted lines, and a fourteenth of
+ * Code 128 in every mixture of its two sets. Together they give each of the 24 answers.
  *
  * INPUT-FILE is a row of records, all numbers low byte first. A record starts with its letter:
  *
@@ -814,6 +815,68 @@ static void slanted_session(struct record *r, struct event e)
     draw_label(r, &e);
 }
 
+/* ---- Code 128 as short as it can be ---- */
+
+/* Rows of digits alone, behind a letter, before one and between two, at and about the lengths from which they are written in pairs; the bytes beside the digits; two rows; several elements. */
+static const char *const rows_outside[] = {
+    "B0,0,0,1,1,2,24,N,\"A\"", "B60,0,0,1,1,2,24,N,\"12\"", "B120,0,0,1,1,2,24,N,\"123\"", "B200,0,0,1,1,2,24,N,\"1234\"", "B270,0,0,1,1,2,24,N,\"12345\"", "B380,0,0,1,1,2,24,N,\"A12\"",
+    "B470,0,0,1,1,2,24,N,\"A123\"", "N", "B0,0,0,1,1,2,24,N,\"A1234\"", "B90,0,0,1,1,2,24,N,\"A12345\"", "B200,0,0,1,1,2,24,N,\"AIM1234\"", "B320,0,0,1,1,2,24,N,\"12A\"", "B400,0,0,1,1,2,24,N,\"123A\"",
+    "B490,0,0,1,1,2,24,N,\"1234A\"", "N", "B0,0,0,1,1,2,24,N,\"12345A\"", "B100,0,0,1,1,2,24,N,\"A1234B\"", "B210,0,0,1,1,2,24,N,\"A12345B\"", "B330,0,0,1,1,2,24,N,\"A123456B\"", "B450,0,0,1,1,2,24,N,\"A1234567B\"", "N",
+    "B0,0,0,1,1,2,24,N,\"00\"", "B50,0,0,1,1,2,24,N,\"/0000:\"", "B170,0,0,1,1,2,24,N,\"/000000:\"", "B290,0,0,1,1,2,24,N,\"12 34\"", "B400,0,0,1,1,2,24,N,\"1234 5678\"", "N",
+    "B0,0,0,1,1,2,24,N,\"A1\"\"2\"\"\"\"3456B\"", "B120,0,0,1,1,2,24,N,\"9\"\"8\"", "B180,0,0,1,2,3,24,N,\"9999\"\"9\"", "B340,0,0,1,4,5,24,N,\"07\"", "B0,0,0,1,1,2,24,N,\"\"\"\""};
+/* The line is narrower than these bars with the font of 6 by 5 and wider with that of 16 by 3; each word and turn. */
+static const char *const rows_lined[] = {
+    "N", "B0,0,0,1,1,2,24,B,\"1234567\"", "B140,2,2,1,1,2,24,B,C,\"A1234567B\"", "B300,0,1,1,1,2,24,B,R,\"12\"", "B350,0,3,1,1,2,24,B,C,\"12345678\"", "B400,1,0,1,1,2,24,B,R,\"12345678901A\""};
+/* The shape of the writing goes by V1, the values of its pairs by the counters too; the pairs go across the elements. */
+static const char *const rows_form[] = {
+    "N", "FS\"C\"", "C0,3,+1,\"\"", "C1,1,-1,\"\"", "V0,2,Z,\"\"", "V1,4,N,\"\"", "V2,5,C,\"\"", "B0,0,0,1,1,2,24,B,C0V0C1V1", "B160,1,2,1,1,2,24,B,R,\"A\"C0C1V1\"5B\"", "B320,0,1,1,1,2,24,N,C1C1",
+    "B350,2,3,1,1,2,24,B,C,V0C1", "B390,0,0,1,1,2,24,N,V2", "B500,3,0,1,1,2,24,B,V2M2.3C0L1", "FE", "FR\"C\"", "?C0,98", "?C1,7", "?V0,\"5\"", "?V1,\"\"", "?V2,\"1234\"", "P2"};
+static const char *const rows_values[] = {"?V1,\"8\"", "?V1,\"89\"", "?V1,\"x\"", "?V2,\"12345\"", "?V1,\"8 12\""};
+
+/* As many bytes as there may be, of which a page of this size shows the first and, turned by two quarters, the last: all digits, one letter among them, or letters behind four of them. */
+static void longest_rows(struct record *r, struct event *e)
+{
+    static const struct {
+        unsigned turn, bytes, letters_from, letters;
+    } rows[] = {{0, 128, 0, 0}, {2, 128, 0, 0}, {2, 127, 0, 0}, {0, 128, 1, 1}, {2, 128, 125, 1}, {0, 128, 4, 124}, {0, 129, 0, 0}};
+    static const char *const white[] = {"N"};
+    char line[200];
+    const char *lines[] = {line};
+
+    for (unsigned i = 0; i < sizeof rows / sizeof rows[0]; i++) {
+        int start = sprintf(line, "B0,0,%u,1,1,2,24,N,\"", rows[i].turn);
+        for (unsigned k = 0; k < rows[i].bytes; k++)
+            line[start + (int)k] = (char)('0' + (3 * k + i) % 10);
+        memset(line + start + rows[i].letters_from, 'A', rows[i].letters);
+        strcpy(line + start + rows[i].bytes, "\"");
+        SEND_LINES(r, e, white);
+        SEND_LINES(r, e, lines);
+    }
+}
+
+static void shortest_session(struct record *r, struct event e)
+{
+    static const char *const one[] = {"P1"};
+
+    set_up(r, &e);
+    lend_digits(r, &e, 6, 5);
+    open_with(r, &e, 16, 4);
+    SEND_LINES(r, &e, rows_outside);
+    longest_rows(r, &e);
+    SEND_LINES(r, &e, rows_lined);
+    lend_digits(r, &e, 16, 3);
+    SEND_LINES(r, &e, rows_lined);
+    SEND_LINES(r, &e, rows_form);
+    draw_label(r, &e);
+    lend_digits(r, &e, 6, 5);
+    draw_label(r, &e);
+    for (unsigned i = 0; i < sizeof rows_values / sizeof rows_values[0]; i++) {
+        send_lines(r, &e, rows_values + i, 1);
+        SEND_LINES(r, &e, one);
+        draw_label(r, &e);
+    }
+}
+
 static void tell_places(const struct record *r)
 {
     for (unsigned a = 0; a < ANSWERS; a++) {
@@ -857,6 +920,7 @@ int main(int argc, char **argv)
     number_session(&r, room);
     fits_session(&r, room);
     slanted_session(&r, room);
+    shortest_session(&r, room);
     for (unsigned a = 0; a < ANSWERS; a++)
         missing += r.reached[a] == 0;
     fprintf(stderr, "%u calls, %ld bytes, %u of the %u answers not reached\n", r.calls, ftell(r.input), missing, ANSWERS);

@@ -2,7 +2,7 @@
 -- Assumes nothing.
 use mathlib.Core.Path.{_≡_, refl, sym, ap, _∙_}
 use mathlib.Core.Bool.{Bool, true, false, cond, _&&_, _||_}
-use mathlib.Core.List.{List, [], _∷_, _++_, map}
+use mathlib.Core.List.{List, [], _∷_, map}
 use Prim.Native.Nat.{ℕ, zero, suc, _+_, _*_, _≤_, _<_}
 use native.Mathlib.Decide.{decLt}
 use native.Mathlib.Nat.{le-of-suc-le-suc}
@@ -10,7 +10,7 @@ use native.Mathlib.Numerals.{add-one}
 use native.Mathlib.Omega.{arith}
 use borrow.Author.Tests.{lt-ltb, le-leb}
 use lib.ListN.{length, getD, take, drop, length-map, drop-of-length-le, List·getD-eq-default}
-use lib.Seq.{sets, length-sets, sets-eq, length-take-le, drop-cons, take-append-seam}
+use lib.Seq.{length-sets, length-take-le, drop-cons}
 use Rattle.dots.specs.declared.Ink.the-variants.{Black}
 use Rattle.dots.specs.Dots.{within, box, drawn, cut}
 use Rattle.dots.proofs.Pages.{Bytes, length-drawn}
@@ -23,6 +23,7 @@ use Rattle.symbols.specs.Elements.{elements}
 use Rattle.bars.specs.Drawing.{dotsOf, widths, inBar, bars}
 use Rattle.code128.specs.Widths.{sum}
 use Rattle.symbols.specs.Laid.{Put}
+use Rattle.symbols.proofs.Lists.{written-front}
 
 and-true-right : (a : Bool) → (a && true) ≡ a
 and-true-right true = refl
@@ -128,13 +129,7 @@ module _ (W L x y r w g : ℕ) (ws p₀ : List ℕ) where
 
 -- ---- from the lent list to the page
 
-pub written-front : (xs l m : List ℕ) (n : ℕ) → Put xs 0 l m n → length xs ≤ length l → take n m ≡ xs
-written-front xs l m n p h =
-    let s : sets l 0 xs ≡ [] ++ xs ++ drop (0 + length xs) l = sets-eq xs l 0 (omega arith) in
-    let e : n ≡ length xs = omega (arith, p .next) in
-    ap (λ k. take k m) e ∙ ap (take (length xs)) (p .written ∙ s) ∙ take-append-seam xs (drop (0 + length xs) l)
-
--- so the widths that stand there are those of the bars
+-- the widths that stand there are those of the bars
 pub widths-front : (kind : Kind) (e f n : ℕ) (s l m : List ℕ) → Put (elements kind s) 0 l m n → n ≤ 1299 → 1299 ≤ length l
     → map (dotsOf kind e f) (take n m) ≡ widths kind e f s
 unfolding widths

@@ -52,6 +52,7 @@ use Rattle.font.specs.Rules as Fonts
 use Rattle.pages.specs.Pages as Whole
 use Rattle.symbols.specs.Tables as Tables
 use Rattle.code128.specs.Code128 as Code128
+use Rattle.shortest.specs.Found as Found
 use Rattle.symbols.specs.Elements as Bars
 use Rattle.code128.specs.Widths as Widths
 use Rattle.bars.specs.Drawing as Drawing
@@ -94,7 +95,7 @@ calls = true
 
 -- bars
 unfoldable pub bars : Bool
-unfolding FitBytes.between Fit.inClass Fit.fitLength Fit.fit Field.kindFrom Code128.rows128 Tables.rows39 Tables.rows25 Widths.digits Widths.each Code128.six Code128.weighed Code128.check128 Code128.elements128 Bars.nine Bars.spaced Bars.elements39 Bars.five Bars.woven Bars.pairs Bars.elements25 Bars.weights Bars.checkDigit Bars.elementsIn Bars.elements Drawing.dotsOf Drawing.widths Widths.sum
+unfolding FitBytes.between Fit.inClass Fit.fitLength Fit.fit Field.kindFrom Code128.rows128 Tables.rows39 Tables.rows25 Widths.digits Widths.each Code128.six Code128.weighed Code128.check128 Code128.elements128 Found.leavesB Found.step Found.best Found.started Found.ourWriting Bars.nine Bars.spaced Bars.elements39 Bars.five Bars.woven Bars.pairs Bars.elements25 Bars.weights Bars.checkDigit Bars.elementsIn Bars.elements Drawing.dotsOf Drawing.widths Widths.sum
 bars = true
 
 unfoldable pub computed : Bool

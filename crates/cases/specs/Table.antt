@@ -10,6 +10,7 @@ use Rattle.kinds.specs.Text.{bytes}
 use Rattle.fields.specs.Field.{kindFrom}
 use Rattle.symbols.specs.Elements.{checkDigit}
 use Rattle.code128.specs.Code128.{check128}
+use Rattle.shortest.specs.Found.{ourWriting}
 use Rattle.bars.specs.Drawing.{widths}
 use Rattle.code128.specs.Widths.{sum}
 use Rattle.frames.specs.Frame.{frame}
@@ -59,7 +60,7 @@ gives (Answers parts) = run parts start .answers
 gives (Listing parts) = run parts start .listed
 gives (Black parts) = run parts start .black
 gives (Counter parts c) = counterValue (run parts start .session .counters) c ∷ []
-gives (Check t text) = cond (eqb t 30) (checkDigit text) (check128 text) ∷ []
+gives (Check t text) = cond (eqb t 30) (checkDigit text) (check128 (ourWriting text)) ∷ []
 gives (Wide t e f text) = sum (widths (kindFrom t) e f text) ∷ []
 gives (Framed a b c d e) = countBelow 608 (λ x. frame a b c d e x (min b e)) ∷ countBelow 4000 (λ y. frame a b c d e (min a d) y) ∷ []
 gives (Shows m value line) = dataOf line 0 (V0 m) (valuesIn (variableEntered (V0 m) 0 value (replicate 340 0) .values) noneSet)

@@ -3,14 +3,12 @@
 use mathlib.Core.Path.{_≡_, refl, ap, subst, _∙_}
 use mathlib.Core.Bool.{Bool, true, not, _&&_}
 use mathlib.Core.List.{List, [], _∷_, _++_}
-use Prim.Native.Nat.{ℕ, _+_, _-_, _*_, _%_, _≤_, _<_}
+use Prim.Native.Nat.{ℕ, _+_, _*_, _%_, _<_}
 use native.Mathlib.Omega.{arith}
-use borrow.Author.Tests.{leb-true}
-use lib.Dec.{T, T-not, leb, eqb, eqb→eq, eqb-refl, leb→le}
+use borrow.Author.Tests.{ltb-true}
+use lib.Dec.{T, T-not, leb, ltb, eqb, eqb→eq, eqb-refl, leb→le}
 use lib.ListN.{length, getD}
-use Rattle.kinds.specs.declared.Kind.the-variants.{Code128}
-use Rattle.kinds.specs.Bytes.{between, allIn}
-use Rattle.kinds.specs.Fit.{inClass}
+use Rattle.kinds.specs.Bytes.{allIn}
 use Rattle.ground.proofs.Tests.{and-true}
 use Rattle.code128.specs.Widths.{digits, each, sum}
 use Rattle.code128.specs.Code128.{rows128, six, check128, elements128}
@@ -65,41 +63,38 @@ rule v h =
           (subst (λ k. T (eqb (number u) k)) (ap packed e) (eqb-refl (number u)));
     }
 
--- ---- a symbol with n bytes of data has 11 n + 35 modules
+-- ---- n symbols, the check symbol and the stop have 11 n + 24 modules
 
 pub sum-append : (xs ys : List ℕ) → sum (xs ++ ys) ≡ sum xs + sum ys
 unfolding sum
 sum-append [] ys = omega arith
 sum-append (x ∷ xs) ys = ap (λ k. x + k) (sum-append xs ys) ∙ omega arith
 
--- each byte of data is a row of the table, and so of 11 modules
-sum-data : (s : List ℕ) → allIn (inClass Code128) s ≡ true → sum (each (λ b. six (b - 32)) s) ≡ 11 * length s
-unfolding sum each inClass between
-sum-data [] h = refl
-sum-data (b ∷ s) h =
-    let i = and-true (leb 32 b && leb b 126) (allIn (inClass Code128) s) h in
-    let top : b ≤ 126 = leb-true b 126 (and-true (leb 32 b) (leb b 126) (i .0) .1) in
-    sum-append (six (b - 32)) (each (λ b. six (b - 32)) s) ∙ omega (arith, rule (b - 32) (omega arith) .modules, sum-data s (i .1))
+-- each symbol is a row of the table, and so of 11 modules
+sum-symbols : (vs : List ℕ) → allIn (λ v. ltb v 106) vs ≡ true → sum (each six vs) ≡ 11 * length vs
+unfolding sum each
+sum-symbols [] h = refl
+sum-symbols (v ∷ vs) h =
+    let i = and-true (ltb v 106) (allIn (λ v. ltb v 106) vs) h in
+    sum-append (six v) (each six vs) ∙ omega (arith, rule v (ltb-true v 106 (i .0)) .modules, sum-symbols vs (i .1))
 
-check-small : (s : List ℕ) → check128 s < 106
+check-small : (vs : List ℕ) → check128 vs < 106
 unfolding check128
-check-small s = omega arith
+check-small [] = omega arith
+check-small (v ∷ vs) = omega arith
 
 stop-modules : sum (six 106 ++ (2 ∷ [])) ≡ 13
 unfolding sum six digits rows128
 stop-modules = refl
 
-pub sum-128 : (s : List ℕ) → allIn (inClass Code128) s ≡ true → sum (elements128 s) ≡ 11 * length s + 35
+pub sum-128 : (vs : List ℕ) → allIn (λ v. ltb v 106) vs ≡ true → sum (elements128 vs) ≡ 11 * length vs + 24
 unfolding elements128
-sum-128 s h =
-    let c : check128 s < 106 = check-small s in
-    sum-append (six 104) (each (λ b. six (b - 32)) s ++ (six (check128 s) ++ (six 106 ++ (2 ∷ []))))
+sum-128 vs h =
+    sum-append (each six vs) (six (check128 vs) ++ (six 106 ++ (2 ∷ [])))
     ∙ omega (
       arith,
-      rule 104 (omega arith) .modules,
-      sum-append (each (λ b. six (b - 32)) s) (six (check128 s) ++ (six 106 ++ (2 ∷ []))),
-      sum-append (six (check128 s)) (six 106 ++ (2 ∷ [])),
-      rule (check128 s) c .modules,
+      sum-append (six (check128 vs)) (six 106 ++ (2 ∷ [])),
+      rule (check128 vs) (check-small vs) .modules,
       stop-modules,
-      sum-data s h,
+      sum-symbols vs h,
     )

@@ -1,8 +1,7 @@
--- Code 128, ISO/IEC 15417, which paper 01 names for type 1: "Type 1 uses set B alone." The widths of an element are in modules, s is the data's bytes.
--- Past the end of the table stands 0.
+-- Code 128, ISO/IEC 15417, which paper 01 names for type 1. The widths of an element are in modules; vs is the values of the symbols from the start symbol
+-- on, as crate `shortest` writes data. Past the end of the table stands 0.
 -- Assumes nothing.
-use Prim.Native.Nat.{ℕ, _+_, _-_, _*_, _%_}
-use Prim.Native.Char.{code}
+use Prim.Native.Nat.{ℕ, _+_, _*_, _%_}
 use mathlib.Core.List.{List, [], _∷_, _++_}
 use lib.ListN.{getD}
 use Rattle.code128.specs.Widths.{digits, each}
@@ -21,10 +20,7 @@ rows128 =
     114311 ∷ 411113 ∷ 411311 ∷ 113141 ∷ 114131 ∷ 311141 ∷ 411131 ∷ 211412 ∷ 211214 ∷ 211232 ∷ 233111 ∷
     []
 
--- the start that says set B, the stop, and the width of the stop's last bar
-abbrev pub startB : ℕ
-startB = 104
-
+-- the stop, and the width of its last bar
 abbrev pub stop : ℕ
 stop = 106
 
@@ -35,19 +31,16 @@ lastBar = 2
 unfoldable pub six : ℕ → List ℕ
 six v = digits 6 (getD rows128 v 0)
 
--- "set B alone": a space is symbol 0, and the other bytes follow
-abbrev pub symbolOf : ℕ → ℕ
-symbolOf b = b - code " "
-
--- each symbol counts by its place
+-- behind the start each symbol counts by its place
 unfoldable pub weighed : ℕ → List ℕ → ℕ
 weighed i [] = 0
-weighed i (b ∷ s) = i * symbolOf b + weighed (i + 1) s
+weighed i (v ∷ vs) = i * v + weighed (i + 1) vs
 
--- the check symbol: start B and the weighed symbols, modulo 103
+-- the check symbol: the start and the weighed symbols behind it, modulo 103
 unfoldable pub check128 : List ℕ → ℕ
-check128 s = (startB + weighed 1 s) % 103
+check128 [] = 0
+check128 (start ∷ vs) = (start + weighed 1 vs) % 103
 
--- start B, the data, the check symbol, the stop with its last bar
+-- the symbols, the check symbol, the stop with its last bar
 unfoldable pub elements128 : List ℕ → List ℕ
-elements128 s = six startB ++ (each (λ b. six (symbolOf b)) s ++ (six (check128 s) ++ (six stop ++ (lastBar ∷ []))))
+elements128 vs = each six vs ++ (six (check128 vs) ++ (six stop ++ (lastBar ∷ [])))

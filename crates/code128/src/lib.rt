@@ -1,16 +1,15 @@
-// Code 128, ISO/IEC 15417, in set B alone: the symbol table and the check symbol. Paper 01, "The bar tables": the table is one constant of 106 rows of
+// Code 128, ISO/IEC 15417: the symbol table and the check symbol. Paper 01, "The bar tables": the table is one constant of 106 rows of
 // six widths and the stop, and its rule ("widths 1 to 4, sum 11, bars even, rows distinct") is proved once and carried to each row (proofs/Rule.antt).
-// `row` gives the widths of a symbol as one number and `check` the check symbol of any bytes, as specs/Code128.antt has them.
-// How the widths of a whole symbol are written is left to `symbols`.
+// `row` gives the widths of a symbol as one number and `check` the check symbol of any symbols, as specs/Code128.antt has them.
+// Which symbols data is written with stands in `shortest`; how the widths of the whole are written is left to `symbols`.
 ghost use mathlib.Core.Path.{_≡_};
 ghost use Prim.Native.Nat.{_-_, _≤_};
 ghost use lib.ListN.{getD};
 ghost use Rattle.code128.specs.Code128.{rows128, lastBar, check128};
+use ground::byte_at;
 use ground::wide;
 
-// The symbols before the data and after it.
-pub const START_B: usize = 104;
-
+// The symbol after all others.
 pub const STOP: usize = 106;
 
 // The symbol table: 106 rows of six widths, and the stop's seven.
@@ -47,14 +46,14 @@ pub fn last_bar() -> usize
     above(W128[642], b'0')
 }
 
-// The check symbol of any bytes: what is summed stays below the modulus.
-pub fn check(s: &[u8]) -> usize
-    ensures { λ r. ⌜ r ≡ check128 (now (s .entry)) ⌝ }
+// The check symbol of any symbols: what is summed stays below the modulus and one symbol's weight.
+pub fn check(symbols: &[u8]) -> usize
+    ensures { λ r. ⌜ r ≡ check128 (now (symbols .entry)) ⌝ }
 {
-    let mut sum: usize = START_B;
-    let mut i = 0;
-    while i < s.len() {
-        sum = sum % 103 + (i + 1) % 103 * above(s[i], b' ');
+    let mut sum = byte_at(symbols, 0);
+    let mut i = 1;
+    while i < symbols.len() {
+        sum = sum % 103 + i % 103 * byte_at(symbols, i);
         i += 1;
     }
     sum % 103

@@ -9,6 +9,7 @@ use lib.ListN.{length}
 use lib.Dec.{eqb, ltb, leb}
 use borrow.Author.Tests.{ltb-false, eqb-true, eqb-false, leb-true, le-leb, eq-eqb, not-false}
 use Rattle.kinds.specs.Bytes.{between}
+use Rattle.kinds.proofs.Laws.{between-facts}
 use Rattle.store_sound.specs.Sound.{lentOk}
 use Rattle.sound.specs.Sound.{numbersOk}
 use Rattle.results.proofs.Answers.{or-none}
@@ -79,10 +80,6 @@ pub record Numbers (rows : ℕ) (s : Session) : Type 0 where
   pub turn : s .turn ≤ 1
   pub x : s .x ≤ 2048
   pub y : s .y ≤ 4096
-
-pub between-facts : (a b n : ℕ) → between a b n ≡ true → (a ≤ n) × (n ≤ b)
-unfolding between
-between-facts a b n e = (leb-true _ _ (first-of (leb a n) (leb n b) e), leb-true _ _ (second-of (leb a n) (leb n b) e))
 
 facts-between : (a b n : ℕ) → a ≤ n → n ≤ b → between a b n ≡ true
 unfolding between

@@ -18,13 +18,13 @@ use Rattle.grammar.specs.declared.PageCommand.the-variants.{Length, Width, Turn
 use Rattle.grammar.specs.declared.PictureCommand.the-variants.{Store, Erase as ErasePicture}
 use Rattle.grammar.specs.declared.ValueCommand.the-variants.{Variable as EnterVariable, Counter as EnterCounter, Clear, Print}
 use Rattle.read.specs.declared.Read.the-variants.{Taken}
+use Rattle.kinds.proofs.Laws.{between-facts}
 use Rattle.grammar.specs.Named.{LENGTH, WIDTH, ORIGIN, GM, PRINT, LS, LSE, LSW}
 use Rattle.grammar.specs.Forms.{forms, boundsOf, isNumber, spread, free, inOrder}
 use Rattle.grammar.proofs.Rows.{_&_, Each}
 use Rattle.row_limits.specs.Limits.{limitsFrom, fieldLimits, meets}
 use Rattle.read.specs.Commands.{readOf}
 use Rattle.keeps_sound.proofs.Layers.{first-of}
-use Rattle.keeps_sound.proofs.Facts.{between-facts}
 use Rattle.keeps_sound.proofs.Titles.{Told, limits-tell, first-within, limits-rest}
 
 -- what is known of the numbers, on a page of so many rows

@@ -8,8 +8,8 @@ use native.Mathlib.Numerals.{add-one}
 use lib.ListN.{length, getD, drop, drop-of-length-le}
 use lib.Seq.{drop-cons}
 use lib.Dec.{leb}
-use borrow.Author.Tests.{le-leb, lt-leb}
-use Rattle.ground.proofs.Tests.{or-first, or-second}
+use borrow.Author.Tests.{le-leb, lt-leb, leb-true}
+use Rattle.ground.proofs.Tests.{and-true, or-first, or-second}
 use Rattle.kinds.specs.declared.Kind.{Kind}
 use Rattle.kinds.specs.declared.Kind.the-variants.{Code39}
 use Rattle.kinds.specs.Bytes.{between, isDigit, allIn}
@@ -24,6 +24,10 @@ between-below lo hi b h = simp (lt-leb lo b h)
 pub between-from : (lo hi b : ℕ) → lo ≤ b → between lo hi b ≡ leb b hi
 unfolding between
 between-from lo hi b h = simp (le-leb lo b h)
+
+pub between-facts : (lo hi b : ℕ) → between lo hi b ≡ true → (lo ≤ b) × (b ≤ hi)
+unfolding between
+between-facts lo hi b h = let k = and-true (leb lo b) (leb b hi) h in (leb-true lo b (k .0), leb-true b hi (k .1))
 
 -- ---- `allIn`, along a list
 

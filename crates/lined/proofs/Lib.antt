@@ -3,3 +3,4 @@ pub mod Within
 pub mod Showing
 pub mod Stacked
 pub mod Keeping
+pub mod Asked

@@ -17,7 +17,7 @@ use Rattle.kinds.specs.declared.Kind.the-variants.{Shown, Code39, Interleaved, 
 use Rattle.kinds.specs.Fit.{fit}
 use Rattle.code128.specs.Widths.{sum}
 use Rattle.symbols.specs.Elements.{checkDigit, checked}
-use Rattle.symbols.proofs.Fits.{fit-most, fit-twelve}
+use Rattle.kinds.proofs.FitData.{fit-most, fit-twelve}
 use Rattle.text.specs.Text.{down, glyphs, inMode, textDrawn}
 use Rattle.bars.specs.Drawing.{inLimits, widths, bars, barsDrawn}
 use Rattle.lined.specs.Lined.{checks, lineOf, lineWide}

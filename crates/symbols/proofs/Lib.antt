@@ -1,7 +1,7 @@
 pub mod Lists
-pub mod Fits
 pub mod Checks
 pub mod Fill39
 pub mod Fill25
 pub mod FillEan
 pub mod Fill128
+pub mod Asked

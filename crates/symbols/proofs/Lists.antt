@@ -5,8 +5,8 @@ use mathlib.Core.List.{List, [], _∷_, _++_}
 use Prim.Native.Nat.{ℕ, zero, suc, _+_, _-_, _*_, _/_, _%_, _≤_, _<_}
 use native.Mathlib.Numerals.{add-one}
 use native.Mathlib.Omega.{arith}
-use lib.ListN.{length, getD, set, drop, length-append, length-set, drop-of-length-le}
-use lib.Seq.{sets, length-sets, drop-cons}
+use lib.ListN.{length, getD, set, take, drop, length-append, length-set, drop-of-length-le}
+use lib.Seq.{sets, length-sets, sets-eq, drop-cons, take-append-seam}
 use Rattle.ground.proofs.Stores.{sets-append, sets-last}
 use Rattle.code128.specs.Widths.{digits, each}
 use Rattle.symbols.specs.Laid.{Put}
@@ -40,6 +40,13 @@ put-more xs ys at l m n q r p s =
 
 pub put-all : (ws : List ℕ) (at from : ℕ) (l m : List ℕ) (r : ℕ) → at ≡ from → r ≡ at + length ws → m ≡ sets l from ws → Put ws at l m r
 put-all ws at from l m r e n f = record { next = n; written = f ∙ ap (λ k. sets l k ws) (sym e) }
+
+-- what was put into a list long enough is the first part of it
+pub written-front : (xs l m : List ℕ) (n : ℕ) → Put xs 0 l m n → length xs ≤ length l → take n m ≡ xs
+written-front xs l m n p h =
+    let s : sets l 0 xs ≡ [] ++ xs ++ drop (0 + length xs) l = sets-eq xs l 0 (omega arith) in
+    let e : n ≡ length xs = omega (arith, p .next) in
+    ap (λ k. take k m) e ∙ ap (take (length xs)) (p .written ∙ s) ∙ take-append-seam xs (drop (0 + length xs) l)
 
 -- ---- `each`
 

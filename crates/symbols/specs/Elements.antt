@@ -12,6 +12,7 @@ use Rattle.kinds.specs.declared.Kind.the-variants.{Shown, Code39, Interleaved, 
 use Rattle.kinds.specs.Fit.{fit}
 use Rattle.code128.specs.Widths.{digits, each}
 use Rattle.code128.specs.Code128.{elements128}
+use Rattle.shortest.specs.Found.{ourWriting}
 use Rattle.symbols.specs.Tables.{rows39, rows25, rowsA, rowsB, rowsSet}
 
 -- the digit that a byte is
@@ -92,13 +93,13 @@ elementsEan s =
     ++ (patterns (setsOf s) (drop 1 (checked s))
     ++ (digits 5 11111 ++ (patterns (digits 6 333333) (drop 7 (checked s)) ++ digits 3 111)))
 
--- ---- the four types; data that are unfit for the type have no elements, and text that is shown has none
+-- ---- the four types; what is written with Code 128's symbols is paper 02's, §9; data that are unfit for the type have no elements, and text that is shown has none
 unfoldable pub elementsIn : Kind → List ℕ → List ℕ
 elementsIn Shown s = []
 elementsIn Code39 s = elements39 s
 elementsIn Interleaved s = elements25 s
 elementsIn Ean13 s = elementsEan s
-elementsIn Code128 s = elements128 s
+elementsIn Code128 s = elements128 (ourWriting s)
 
 unfoldable pub elements : Kind → List ℕ → List ℕ
 elements kind s = cond (fit kind s) (elementsIn kind s) []

@@ -1,15 +1,15 @@
 // Symbols: data to the widths of a symbol's elements.
 //
-// Paper 01 has four types of bars: Code 39 (3), Interleaved 2 of 5 (2), EAN-13 (E30) and Code 128 in set B alone (1), after ISO/IEC 16388,
+// Paper 01 has four types of bars: Code 39 (3), Interleaved 2 of 5 (2), EAN-13 (E30) and Code 128 (1), after ISO/IEC 16388,
 // 16390, 15420 and 15417. `elements` writes the widths of a symbol's elements as specs/Elements.antt makes them from the tables, for any bytes; what is
 // unfit has none. `check_digit` is the check digit of any digits, which EAN-13 has behind its twelve. Which bytes are fit stands in crate `kinds`, the
-// table of Code 128 and its check symbol in `code128`, bars drawn in `bars`.
+// table of Code 128 and its check symbol in `code128`, which of its symbols data is written with in `shortest`, bars drawn in `bars`.
 // The modules are private. Where one of their functions asks for room in a list or for fit data, `elements` below meets it.
 mod code39;
 mod ean;
 mod interleaved;
 mod row;
-mod set_b;
+mod sets_b_and_c;
 
 ghost use mathlib.Core.Path.{_≡_};
 ghost use mathlib.Core.Bool.{true};
@@ -33,7 +33,7 @@ fn fill(kind: Kind, bytes: &[u8], out: &mut [u8]) -> usize
         Kind::Code39 => code39::fill(bytes, out),
         Kind::Interleaved => interleaved::fill(bytes, out),
         Kind::Ean13 => ean::fill(bytes, out),
-        Kind::Code128 => set_b::fill(bytes, out),
+        Kind::Code128 => sets_b_and_c::fill(bytes, out),
     }
 }
 

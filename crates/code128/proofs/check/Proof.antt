@@ -8,31 +8,28 @@ use Rattle.code128.proofs.check.Statement.{statement}
 use Rattle.code128.proofs.check.Tie as tie
 
 abbrev Inv-loop : tie.InvT-loop
-Inv-loop s sum₀ i₀ sum i = Weighing s i sum
+Inv-loop symbols sum₀ i₀ sum i = Weighing symbols i sum
 
 abbrev μ-loop : tie.MeasureT-loop
-μ-loop s sum₀ i₀ sum i = length s - i
+μ-loop symbols sum₀ i₀ sum i = length symbols - i
 
-turn : (c : tie.After-above Inv-loop μ-loop) → Weighed (c .before .before .before .before .before .args .s .now) (c .before .before .before .loop .i) (c .before .before .before .loop .sum) (c .above .result)
-turn c = weighing-step _ _ _ _ (c .before .before .loop-test .taken) (c .before .before .before .loop .inv) (c .above .ensures .0) (c .above .ensures .1)
+turn : (c : tie.After-byte-at2 Inv-loop μ-loop) → Weighed (c .before .before .before .before .before .args .symbols .now) (c .before .before .loop .i) (c .before .before .loop .sum) (c .byte-at2 .result)
+turn c = weighing-step _ _ _ _ (c .before .loop-test .taken) (c .before .before .loop .inv) (c .byte-at2 .ensures .0) (c .byte-at2 .ensures .1)
+
+byte-at-requires : tie.Need-byte-at-requires Inv-loop μ-loop
+byte-at-requires c κs = search needs
 
 loop-holds : tie.Need-loop-holds Inv-loop μ-loop
-loop-holds c = weighing-start _
+loop-holds c = weighing-start _ _ (c .byte-at .ensures .0) (c .byte-at .ensures .1)
 
-add-sum : tie.Need-add-sum Inv-loop μ-loop
-add-sum c = omega arith
-
-shared-slice-read-above : tie.Need-shared-slice-read-above Inv-loop μ-loop
-shared-slice-read-above c = omega arith
-
-above-requires : tie.Need-above-requires Inv-loop μ-loop
-above-requires c κs = search needs
+byte-at-requires-2 : tie.Need-byte-at-requires-2 Inv-loop μ-loop
+byte-at-requires-2 c κs = search needs
 
 mul-sum : tie.Need-mul-sum Inv-loop μ-loop
 mul-sum c = record { fits = omega (arith, turn c .term) }
 
-add-sum-2 : tie.Need-add-sum-2 Inv-loop μ-loop
-add-sum-2 c = record { fits = omega (arith, turn c .term, c .before .before .before .loop .inv .small) }
+add-sum : tie.Need-add-sum Inv-loop μ-loop
+add-sum c = record { fits = omega (arith, turn c .term) }
 
 add-i : tie.Need-add-i Inv-loop μ-loop
 add-i c = omega arith
@@ -52,12 +49,11 @@ check-spec =
     (tie.spec
     Inv-loop
     μ-loop
+    byte-at-requires
     loop-holds
-    add-sum
-    shared-slice-read-above
-    above-requires
+    byte-at-requires-2
     mul-sum
-    add-sum-2
+    add-sum
     add-i
     loop-less
     loop-again

@@ -2,7 +2,7 @@
 use mathlib.Core.Path.{refl}
 use native.Mathlib.Omega.{arith}
 use Rattle.symbols.specs.Elements.{elementsIn}
-use Rattle.symbols.proofs.Fits.{fit-most, fit-even, fit-twelve}
+use Rattle.kinds.proofs.FitData.{fit-most, fit-even, fit-twelve}
 use borrow.Author.Needs.{needs}
 use Rattle.symbols.proofs.fill.Statement.{statement}
 use Rattle.symbols.proofs.fill.Tie as tie
@@ -32,7 +32,7 @@ enum-told-5 : tie.Need-enum-told-5
 enum-told-5 c = search needs
 
 fill-requires-4 : tie.Need-fill-requires-4
-fill-requires-4 c κs = fit-most _ _ (c .before .before .before .before .before .pre)
+fill-requires-4 c κs = search needs
 
 returns : tie.Need-returns
 unfolding elementsIn

@@ -2,7 +2,7 @@
 use mathlib.Core.Path.{sym, _∙_}
 use native.Mathlib.Omega.{arith}
 use borrow.Author.Needs.{needs}
-use Rattle.symbols.proofs.Fits.{fit-most}
+use Rattle.kinds.proofs.FitData.{fit-most}
 use Rattle.lined.proofs.Showing.{length-checked, length-plain, line-short}
 use Rattle.lined.proofs.line.line_length.Statement.{statement}
 use Rattle.lined.proofs.line.line_length.Tie as tie

@@ -8,15 +8,19 @@ use native.Mathlib.Omega.{arith}
 use borrow.Author.Tests.{leb-true, eqb-true}
 use lib.Dec.{leb, eqb}
 use lib.ListN.{length}
 use Rattle.kinds.specs.declared.Kind.{Kind}
 use Rattle.kinds.specs.declared.Kind.the-variants.{Shown, Code39, Interleaved, Ean13, Code128}
 use Rattle.kinds.specs.Bytes.{allIn}
 use Rattle.kinds.specs.Fit.{inClass, fitLength, fit}
 use Rattle.ground.proofs.Tests.{and-true}
 
 fit-length : (kind : Kind) (s : List ℕ) → fit kind s ≡ true → fitLength kind (length s) ≡ true
 unfolding fit
 fit-length kind s h = and-true (fitLength kind (length s)) (allIn (inClass kind) s) h .0
+
+pub fit-all : (kind : Kind) (s : List ℕ) → fit kind s ≡ true → allIn (inClass kind) s ≡ true
+unfolding fit
+fit-all kind s h = and-true (fitLength kind (length s)) (allIn (inClass kind) s) h .1
 
 length-most : (kind : Kind) (n : ℕ) → fitLength kind n ≡ true → n ≤ 128
 unfolding fitLength

@@ -1,0 +1,9 @@
+pub mod Digits
+pub mod Order
+pub mod Writings
+pub mod Best
+pub mod Ours
+pub mod Shortest
+pub mod Planning
+pub mod Placing
+pub mod Alike

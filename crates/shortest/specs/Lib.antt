@@ -1,0 +1,4 @@
+pub mod Writing
+pub mod Found
+pub mod Lengths
+pub mod Cases
