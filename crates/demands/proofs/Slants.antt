@@ -51,7 +51,7 @@ use Rattle.demands.proofs.Lines.{holds-read}
 
 -- ---- what a line that is read draws
 
-short-sum : (m n : ℕ) → m + n ≤ 8191 → far m n ≡ m + n
+pub short-sum : (m n : ℕ) → m + n ≤ 8191 → far m n ≡ m + n
 unfolding far
 short-sum m n h = omega arith
 
@@ -159,7 +159,7 @@ slant-kept s w g i still a legal l r room =
 -- ---- on a label
 
 -- the origin is within the limits of R
-abbrev InLimits : Drawing → Type 0
+abbrev pub InLimits : Drawing → Type 0
 InLimits t = (t .carried .origin .x ≤ 2048) × (t .carried .origin .y ≤ 4096)
 
 line-keeps : (g : Setting) (t : Drawing) (line : List ℕ) → InLimits t → InLimits (drawsLine g t line)
@@ -178,7 +178,7 @@ line-keeps g t line h = by (itemIn line) refl
     by (Holds (Slant l)) e = h
     by (Holds (Picture p)) e = h
 
-lines-keep : (g : Setting) (lines : List (List ℕ)) (t : Drawing) → InLimits t → InLimits (drawsLines g t lines)
+pub lines-keep : (g : Setting) (lines : List (List ℕ)) (t : Drawing) → InLimits t → InLimits (drawsLines g t lines)
 unfolding drawsLines
 lines-keep g [] t h = h
 lines-keep g (l ∷ ls) t h = lines-keep g ls (drawsLine g t l) (line-keeps g t l h)

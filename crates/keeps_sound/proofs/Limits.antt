@@ -1,11 +1,13 @@
--- The numbers of a command that was read lie within the limits of papers 01 and 02: those that a session keeps, how many bytes follow a GM, and all five of a
--- slanted line.
+-- The numbers of a command that was read lie within the limits of papers 01 and 02: those that a session keeps, how many bytes follow a GM, those of bars and
+-- all five of a slanted line.
 -- Assumes nothing.
-use mathlib.Core.Path.{_≡_, refl, ap, subst}
+use mathlib.Core.Path.{_≡_, refl, ap, subst, _∙_}
 use mathlib.Core.Bool.{Bool, true, false, cond, _&&_, false≢true}
 use mathlib.Core.List.{List, [], _∷_, _++_}
-use Prim.Native.Nat.{ℕ, zero, suc, _≤_}
+use Prim.Native.Nat.{ℕ, zero, suc, _≤_, _<_}
 use lib.ListN.{length, getD, drop}
+use lib.Dec.{ltb}
+use borrow.Author.Tests.{ltb-true}
 use Rattle.kinds.specs.Bytes.{between}
 use Rattle.kinds.specs.Text.{bytes}
 use Rattle.data_field.specs.declared.Limits.{Limits}
@@ -19,12 +21,12 @@ use Rattle.grammar.specs.declared.PictureCommand.the-variants.{Store, Erase as 
 use Rattle.grammar.specs.declared.ValueCommand.the-variants.{Variable as EnterVariable, Counter as EnterCounter, Clear, Print}
 use Rattle.read.specs.declared.Read.the-variants.{Taken}
 use Rattle.kinds.proofs.Laws.{between-facts}
-use Rattle.grammar.specs.Named.{LENGTH, WIDTH, ORIGIN, GM, PRINT, LS, LSE, LSW}
+use Rattle.grammar.specs.Named.{LENGTH, WIDTH, ORIGIN, BARS, GM, PRINT, LS, LSE, LSW}
 use Rattle.grammar.specs.Forms.{forms, boundsOf, isNumber, spread, free, inOrder}
 use Rattle.grammar.proofs.Rows.{_&_, Each}
 use Rattle.row_limits.specs.Limits.{limitsFrom, fieldLimits, meets}
 use Rattle.read.specs.Commands.{readOf}
-use Rattle.keeps_sound.proofs.Layers.{first-of}
+use Rattle.keeps_sound.proofs.Layers.{first-of, second-of}
 use Rattle.keeps_sound.proofs.Titles.{Told, limits-tell, first-within, limits-rest}
 
 -- what is known of the numbers, on a page of so many rows
@@ -36,7 +38,8 @@ itemRanged (Origin o) = Ranged (0, 2048) (o .x) × Ranged (0, 4096) (o .y)
 itemRanged (Variable v) = Unit {0}
 itemRanged (Counter c) = Unit {0}
 itemRanged (Text t) = Unit {0}
-itemRanged (Bars b) = Unit {0}
+itemRanged (Bars b) =
+    Ranged (0, 2047) (b .x) × (Ranged (0, 4095) (b .y) × (Ranged (1, 6) (b .e) × ((Ranged (2, 10) (b .f) × (b .e < b .f)) × Ranged (24, 1000) (b .g))))
 itemRanged (Box r) = Unit {0}
 itemRanged (Frame f) = Unit {0}
 itemRanged (Slant l) = Ranged (0, 2047) (l .a) × (Ranged (0, 4095) (l .b) × (Ranged (1, 80) (l .c) × (Ranged (0, 2047) (l .d) × Ranged (0, 4095) (l .e))))
@@ -97,6 +100,39 @@ number-behind (f ∷ before) fs ls s u vs ps e =
     subst (λ (l : ℕ × ℕ). Ranged l (getD vs (suc (length before)) 0)) (getD-next ls (length before) free)
     (subst (Ranged (getD (drop 1 ls) (length before) free)) (getD-next vs (length before) 0) h)
 
+-- the wide width behind the narrow one, which must be less
+wide-field : (l : ℕ × ℕ) (s : List ℕ) (u v p : ℕ) → fieldLimits 119 l s u v p ≡ Within → Ranged l v × (u < v)
+unfolding fieldLimits meets
+wide-field l s u v p e =
+    let h = chosen-within (between (l .0) (l .1) v && ltb u v) p e in
+    (between-facts (l .0) (l .1) v (first-of (between (l .0) (l .1) v) (ltb u v) h), ltb-true u v (second-of (between (l .0) (l .1) v) (ltb u v) h))
+
+wide-within :
+    (fs : List ℕ) (ls : List (ℕ × ℕ)) (s : List ℕ) (u : ℕ) (vs ps : List ℕ) → limitsFrom (119 ∷ fs) ls s u vs ps ≡ Within →
+    Ranged (getD ls 0 free) (getD vs 0 0) × (u < getD vs 0 0)
+unfolding limitsFrom
+wide-within fs ls s u vs ps e =
+    wide-field (getD ls 0 free) s u (getD vs 0 0) (getD ps 0 0)
+    (first-within (fieldLimits 119 (getD ls 0 free) s u (getD vs 0 0) (getD ps 0 0))
+    (limitsFrom fs (drop 1 ls) s (cond (isNumber 119) (getD vs 0 0) u) (drop 1 vs) (drop 1 ps)) e .0)
+
+getD-third : {A : Type 0} (l : List A) (d : A) → getD (drop 1 (drop 1 l)) 0 d ≡ getD l 2 d
+getD-third l d = getD-next (drop 1 l) 0 d ∙ getD-next l 1 d
+
+wide-behind :
+    (before fs : List ℕ) (ls : List (ℕ × ℕ)) (s : List ℕ) (u : ℕ) (vs ps : List ℕ) → limitsFrom (before ++ (110 ∷ 44 ∷ 119 ∷ fs)) ls s u vs ps ≡ Within →
+    Ranged (getD ls (suc (suc (length before))) free) (getD vs (suc (suc (length before))) 0)
+    × (getD vs (length before) 0 < getD vs (suc (suc (length before))) 0)
+wide-behind [] fs ls s u vs ps e =
+    let a = limits-rest 110 (44 ∷ 119 ∷ fs) ls s u vs ps e in
+    let b = limits-rest 44 (119 ∷ fs) (drop 1 ls) s (getD vs 0 0) (drop 1 vs) (drop 1 ps) a in
+    let c = wide-within fs (drop 1 (drop 1 ls)) s (getD vs 0 0) (drop 1 (drop 1 vs)) (drop 1 (drop 1 ps)) b in
+    rw (getD-third ls free, getD-third vs 0) at c
+wide-behind (f ∷ before) fs ls s u vs ps e =
+    let r = limits-rest f (before ++ (110 ∷ 44 ∷ 119 ∷ fs)) ls s u vs ps e in
+    let h = wide-behind before fs (drop 1 ls) s (cond (isNumber f) (getD vs 0 0) u) (drop 1 vs) (drop 1 ps) r in
+    rw (getD-next ls (suc (suc (length before))) free, getD-next vs (suc (suc (length before))) 0, getD-next vs (length before) 0) at h
+
 -- so many numbers and one more from slot k on, each with a comma behind it, lie within their limits
 abbrev Numbers : ℕ → List (ℕ × ℕ) → List ℕ → ℕ → Type 0
 Numbers zero ls vs k = Ranged (getD ls k free) (getD vs k 0)
@@ -124,7 +160,8 @@ slant-behind (f ∷ letters) (l ∷ ls) s u [] ps e =
 slant-behind (f ∷ letters) (l ∷ ls) s u (v ∷ vs) ps e =
     slant-behind letters ls s _ vs (drop 1 ps) (limits-rest f (letters ++ bytes "n,n,n,n,n") (l ∷ ls) s u (v ∷ vs) ps e)
 
--- ---- every row: a session keeps the numbers of Q, q, R and P, a call reads as many bytes as GM says, and a slanted line is drawn by its five
+-- ---- every row: a session keeps the numbers of Q, q, R and P, a call reads as many bytes as GM says, bars are drawn within
+-- their limits, and a slanted line by its five
 
 ranges : Each (Told (λ rows s. ranged rows)) forms
 unfolding spread inOrder
@@ -139,7 +176,19 @@ ranges =
     & (λ rows s vs ps h. tt)
     & (λ rows s vs ps h. tt)
     & (λ rows s vs ps h. tt)
-    & (λ rows s vs ps h. tt)
+    & (λ rows s vs ps h. (
+      number-behind (bytes "B") (bytes ",n,n,k,n,w,n,h,d") (boundsOf BARS rows) s 0 vs ps h,
+      (
+        number-behind (bytes "Bn,") (bytes ",n,k,n,w,n,h,d") (boundsOf BARS rows) s 0 vs ps h,
+        (
+          number-behind (bytes "Bn,n,n,k,") (bytes ",w,n,h,d") (boundsOf BARS rows) s 0 vs ps h,
+          (
+            wide-behind (bytes "Bn,n,n,k,") (bytes ",n,h,d") (boundsOf BARS rows) s 0 vs ps h,
+            number-behind (bytes "Bn,n,n,k,n,w,") (bytes ",h,d") (boundsOf BARS rows) s 0 vs ps h,
+          ),
+        ),
+      ),
+    ))
     & (λ rows s vs ps h. tt)
     & (λ rows s vs ps h. tt)
     & (λ rows s vs ps h. tt)

@@ -3,11 +3,8 @@
 use mathlib.Core.Path.{_≡_, ap, _∙_}
 use mathlib.Core.Bool.{true}
 use mathlib.Core.List.{List, map}
-use Prim.Native.Nat.{ℕ, _+_, _*_, max}
+use Prim.Native.Nat.{ℕ, _+_, _*_}
 use lib.ListN.{length}
-use Rattle.dots.specs.declared.Ink.the-variants.{Black}
-use Rattle.dots.specs.Dots.{drawn, cut}
-use Rattle.figures.specs.Figures.{placed}
 use Rattle.kinds.specs.declared.Kind.the-variants.{Code128}
 use Rattle.kinds.specs.declared.Under.{Under}
 use Rattle.kinds.specs.declared.Under.the-variants.{Nothing, Line}
@@ -15,16 +12,10 @@ use Rattle.kinds.specs.Fit.{fit}
 use Rattle.code128.specs.Widths.{sum}
 use Rattle.code128.specs.Code128.{elements128}
 use Rattle.shortest.specs.Writing.{Shortest}
-use Rattle.text.specs.Text.{down}
-use Rattle.bars.specs.Drawing.{inLimits, widths, bars, barsDrawn}
+use Rattle.bars.specs.Drawing.{inLimits, widths, barsDrawn}
 use Rattle.bars.proofs.Totals.{widths-shortest, total-shortest}
-use Rattle.lined.specs.Lined.{lineOf, lineWide, lined, linedDrawn, barsWith}
-
--- what is drawn with bars of these widths, n dots together: `N`, the bars alone; `B`, the text under them, in one box as wide as the wider of the two
-abbrev pub drawnAs : ℕ → ℕ → ℕ → ℕ → ℕ → ℕ → Under → List ℕ → List ℕ → List ℕ → ℕ → List ℕ → List ℕ
-drawnAs width long x y r g Nothing font text page n ws = drawn Black (cut width long (placed r n g x y (bars ws))) page
-drawnAs width long x y r g (Line place) font text page n ws =
-    let wide = max n (lineWide font text) in drawn Black (cut width long (placed r wide (g + down font 1) x y (lined place wide g ws font text))) page
+use Rattle.lined.specs.Lined.{lineOf, linedDrawn, barsWith}
+use Rattle.lined.specs.ByWidths.{drawnAs}
 
 module _
     (width long x y r e f g : ℕ) (font s v page : List ℕ) (limits : inLimits e f g ≡ true) (fits : fit Code128 s ≡ true) (shortest : Shortest s v) where

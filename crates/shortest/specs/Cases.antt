@@ -1,4 +1,4 @@
--- Rulings on paper 02, §9, and rows of digits about letters, computed.
+-- Paper 02, §9: writings with as many symbols, and rows of digits about letters, computed.
 -- Assumes nothing.
 use mathlib.Core.Path.{_≡_, refl}
 use mathlib.Core.List.{[], _∷_}

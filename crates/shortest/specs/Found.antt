@@ -52,6 +52,6 @@ started r = cond (ltb (length (r .inC)) (length (r .inB))) (105 ∷ r .inC) (104
 unfoldable pub ourWriting : List ℕ → List ℕ
 ourWriting s = cond (fit Code128 s) (started (best s)) []
 
--- the start, and at most one symbol for each of 128 bytes
+-- for the code's lists: the start, and at most one symbol for each of 128 bytes
 abbrev pub mostSymbols : ℕ
 mostSymbols = 129

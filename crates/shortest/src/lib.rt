@@ -30,6 +30,7 @@ pub enum Set {
     C,
 }
 
+// Asked for by `write` alone, whose data is fit.
 fn start(s: &[u8], out: &mut [u8]) -> usize
     requires { ⌜ fit Kind.Code128 (now s) ≡ true ⌝ }
     ensures { λ r. ⌜ (r ≡ length (started (best (now (s .entry))))) × (now (out .exit) ≡ sets (now (out .entry)) 0 (started (best (now (s .entry))))) ⌝ }
