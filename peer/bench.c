@@ -12,9 +12,9 @@
 #include "station.h"
 
 #ifdef SELF
-static const struct station the_station = {peer_open, peer_command, peer_label, peer_fits};
+static const struct station the_station = {peer_open, peer_command, peer_label, peer_fits, peer_clock};
 #else
-static const struct station the_station = {station_open, station_command, station_label, station_fits};
+static const struct station the_station = {station_open, station_command, station_label, station_fits, station_clock};
 #endif
 
 enum { ROUNDS = 20 };
@@ -90,6 +90,7 @@ static void copy_work(struct work *to, const struct work *from)
     put_on_desk(&to->desk, FONT, font, font_length);
     put_on_desk(&to->desk, INPUT, from->desk.bytes[INPUT], from->length[INPUT]);
     to->desk.question = from->desk.question;
+    to->desk.seconds = from->desk.seconds;
 }
 
 /* A picture of so many dots, each line two runs of five bytes and then single bytes, sent as GM. */
@@ -197,6 +198,12 @@ static double time_same(const struct station *s, const struct work *from, unsign
 static double time_questions(const struct station *s, const struct work *from, unsigned count)
 {
     return time_calls(s, from, FITS, count);
+}
+
+/* A thousand each, because one takes too little time to be told. */
+static double time_moves(const struct station *s, const struct work *from, unsigned count)
+{
+    return time_calls(s, from, CLOCK, 1000 * count);
 }
 
 static void measure(const char *what, const struct work *from, unsigned count,
@@ -410,6 +417,39 @@ static void small_labels(void)
     clear_away(&w.desk);
 }
 
+static void label_of(const char *what, const char *const *lines, unsigned count)
+{
+    struct work w;
+
+    open_work(&w, 40, 16, 4);
+    fill(&w, "TS6,15,2,14,35,0\n");
+    fill(&w, "FS\"D\"\n");
+    for (unsigned i = 0; i < count; i++)
+        fill(&w, lines[i]);
+    fill(&w, "FE\n");
+    fill(&w, "FR\"D\"\n");
+    fill(&w, "P60000\n");
+    measure(what, &w, 1000, time_labels);
+    clear_away(&w.desk);
+}
+
+/* Moves of one second, and of a day, which ends one each time. A label of dates and times, and beside it the same label of texts. */
+static void dates(void)
+{
+    static const char *const texts[] = {"A0,0,0,1,1,N,\"Date: 15-JUN-2002 14:35:00\"\n", "A0,14,0,1,1,N,\"06/15/02\"\n", "B300,0,0,1,1,3,24,N,\"14:35:00\"\n"};
+    static const char *const moments[] = {"A0,0,0,1,1,N,\"Date: \"TD\" \"TT\n", "TDmn/dd/y2\n", "A0,14,0,1,1,N,TD\n", "B300,0,0,1,1,3,24,N,TT\n"};
+    struct work w;
+
+    open_work(&w, 1, 1, 1);
+    w.desk.seconds = 1;
+    measure("a thousand moves of the clock by a second", &w, 30, time_moves);
+    w.desk.seconds = 86400;
+    measure("a thousand moves of the clock by a day", &w, 30, time_moves);
+    clear_away(&w.desk);
+    label_of("a label of two texts and bars", texts, 3);
+    label_of("the same label of TD and TT", moments, 4);
+}
+
 int main(void)
 {
     make_font();
@@ -420,5 +460,6 @@ int main(void)
     questions();
     slanted_lines();
     shortest_symbols();
+    dates();
     return 0;
 }

@@ -11,15 +11,19 @@
  * that the question whether it fits changes nothing and has the answer of the FS or GM that is sent right behind it on a copy of the memory, if that
  * is sound. And that a slanted line drawn on the background inks, in some of the rows, just the dots that the paper's sentence names, that it gives the same page with its ends
  * exchanged, and that LSE of it twice gives back the page. And that the bars of each symbol of type 1 drawn on the background or a label read back as its data, in the writing that its rows of
- * digits ask for, and so do those on the background itself, where they stand whole in a row that was white. The first difference is told with
+ * digits ask for, and so do those on the background itself, where they stand whole in a row that was white. And that the clock is changed by opening, TS and its own call
+ * alone and the formats by opening, TD and TT outside recording alone, each to what a second telling has, and that every TD and TT drawn shows what strftime writes. The first difference is told with
  * the seed of its session and ends the run. At the end: how often each call gave each answer, and of the answers that point how
  * many places they were seen to point to, how many of these more than nine times, and how often to the LF; and how many slanted lines were drawn, by their
  * ends and by whether the page has them whole; and how many symbols of type 1, by their start and how often their set changes. With -DSELF the station
  * is the peer again, which tries the generator and this program alone. */
+#include <ctype.h>
 #include <inttypes.h>
 #include <stdio.h>
 #include <stdlib.h>
 #include <string.h>
+#include <strings.h>
+#include <time.h>
 
 #include "desk.h"
 #include "generate.h"
@@ -28,12 +32,12 @@
 #include "station.h"
 
 #ifdef SELF
-static const struct station the_station = {peer_open, peer_command, peer_label, peer_fits};
+static const struct station the_station = {peer_open, peer_command, peer_label, peer_fits, peer_clock};
 #else
-static const struct station the_station = {station_open, station_command, station_label, station_fits};
+static const struct station the_station = {station_open, station_command, station_label, station_fits, station_clock};
 #endif
 
-static const char *const call_names[CALLS] = {"open", "command", "label", "question"};
+static const char *const call_names[CALLS] = {"open", "command", "label", "question", "move of the clock"};
 
 /* before: the peer's memory as it was before the call. What a question asks about is then sent there. */
 struct pair {
@@ -75,6 +79,8 @@ static void tell_difference(const struct generator *g, const struct event *e, ui
     putchar('\n');
     if (e->call == FITS)
         printf("kind %u, size %" PRIu64 ", name ", e->question.kind, e->question.size);
+    if (e->call == CLOCK)
+        printf("seconds %" PRIu64 "\n", e->seconds);
     if (e->call == COMMAND)
         printf("input: ");
     if (e->call == COMMAND || e->call == FITS)
@@ -122,6 +128,7 @@ static int may_change(const struct event *e, unsigned answer, enum slice s)
     case OPEN: return s == SESSION || (answer == 0 && s != OUTPUT && s != COUNTS);
     case COMMAND: return s == COUNTS ? e->length[COUNTS] == 3 : answer == 0 && s != PAGE;
     case FITS: return 0;
+    case CLOCK: return answer == 0 && s == SESSION;
     default: return answer == 0 && (s == SESSION || s == PAGE);
     }
 }
@@ -580,32 +587,203 @@ static void check_slanted(struct pair *p, const struct generator *g, const struc
     }
 }
 
+/* ---- the date, written by the station ---- */
+
+enum { SAME_DAY, NEXT_DAY, NEXT_MONTH, NEXT_YEAR, AT_THE_END, MOVES };
+
+static uint64_t shown_moments[DRAWN_BY][2], moves[MOVES];
+
+/* Days from 1 March 2000, the year counted from there so that a leap day is its last. */
+static long day_of(long year, long month, long day)
+{
+    long y = year - (month < 3), m = (month + 9) % 12;
+
+    return 365 * y + (y + 4) / 4 - 1 + (153 * m + 2) / 5 + day - 1;
+}
+
+/* The day that has this number, found by trying. */
+static void date_of(long number, uint8_t date[3])
+{
+    for (long year = 0; year <= 99; year++)
+        for (long month = 1; month <= 12; month++) {
+            long first = day_of(year, month, 1), after = month == 12 ? day_of(year + 1, 1, 1) : day_of(year, month + 1, 1);
+            if (number >= first && number < after) {
+                const uint8_t found[] = {(uint8_t)year, (uint8_t)month, (uint8_t)(number - first + 1)};
+                memcpy(date, found, 3);
+            }
+        }
+}
+
+static bool is_moment(const uint8_t c[6])
+{
+    uint8_t date[3] = {255};
+
+    if (c[0] > 99 || c[1] < 1 || c[1] > 12 || c[2] < 1 || c[3] > 23 || c[4] > 59 || c[5] > 59)
+        return false;
+    date_of(day_of(c[0], c[1], c[2]), date);
+    return memcmp(date, c, 3) == 0;
+}
+
+/* "past the end of 2099 it stands at the last second" */
+static void moved_by(const uint8_t c[6], uint64_t seconds, uint8_t to[6])
+{
+    long long end = (day_of(99, 12, 31) + 1) * 86400ll - 1, at = day_of(c[0], c[1], c[2]) * 86400ll + c[3] * 3600 + c[4] * 60 + c[5] + (long long)seconds;
+    long day;
+
+    at = at > end ? end : at;
+    day = (long)((at + 86400 * 60) / 86400) - 60;  /* January and February of 2000 have numbers below 0 */
+    date_of(day, to);
+    at -= day * 86400ll;
+    to[3] = (uint8_t)(at / 3600);
+    to[4] = (uint8_t)(at / 60 % 60);
+    to[5] = (uint8_t)(at % 60);
+    moves[at == 86399 && day == day_of(99, 12, 31) ? AT_THE_END : to[0] != c[0] ? NEXT_YEAR : to[1] != c[1] ? NEXT_MONTH : to[2] != c[2] ? NEXT_DAY : SAME_DAY]++;
+}
+
+/* A format told from the line that gives it, which was taken. */
+static void format_of(const uint8_t *line, unsigned length, uint8_t format[FORMAT])
+{
+    static const char *const dates[] = {"", "y2", "y4", "me", "mn", "dd"}, *const times[] = {"", "h", "m", "s"};
+    bool date = line[1] == 'D';
+    unsigned step = date ? 3 : 2;
+
+    memset(format, 0, FORMAT);
+    for (unsigned i = 0; 2 + i * step < length; i++) {
+        const char *field = (const char *)line + 2 + i * step;
+        for (unsigned k = 1; k < (date ? 6 : 4); k++)
+            if (strncasecmp(field, date ? dates[k] : times[k], step - 1) == 0)
+                format[2 * i] = (uint8_t)k;
+        if (i > 0)
+            format[2 * i - 1] = (uint8_t)field[-1];
+    }
+}
+
+static bool is_format(const uint8_t *line, size_t length)
+{
+    return length > 2 && line[0] == 'T' && (line[1] == 'D' || line[1] == 'T');
+}
+
+/* A line of a form, or one sent outside of it, if it gives a format. */
+static void note_format(const uint8_t *line, unsigned length, struct formats *f)
+{
+    if (is_format(line, length))
+        format_of(line, length, line[1] == 'D' ? f->date : f->time);
+}
+
+/* What strftime has for such a format. */
+static unsigned written_moment(const uint8_t format[FORMAT], bool date, const struct clock *c, char *out)
+{
+    static const char *const dates[] = {"", "%y", "%Y", "%b", "%m", "%d"}, *const times[] = {"", "%H", "%M", "%S"};
+    struct tm t = {.tm_year = 100 + c->year, .tm_mon = c->month - 1, .tm_mday = c->day, .tm_hour = c->hour, .tm_min = c->minute, .tm_sec = c->second};
+    unsigned length = 0;
+
+    for (unsigned i = 0; i < FORMAT && (i == 0 || format[i] != 0); i += 2) {
+        if (i > 0)
+            out[length++] = (char)format[i - 1];
+        unsigned from = length;
+        length += (unsigned)strftime(out + length, 8, date ? dates[format[i]] : times[format[i]], &t);
+        for (; from < length; from++)
+            out[from] = (char)toupper((unsigned char)out[from]);
+    }
+    return length;
+}
+
+/* Every element TD and TT of a line shows what strftime writes. */
+static bool moments_so(unsigned by, const struct command *c, const struct source *from)
+{
+    for (unsigned i = 0; i < c->elements; i++) {
+        bool date = c->element[i].kind == 'D';
+        struct command alone = {.elements = 1, .element = {c->element[i]}};
+        uint8_t shown[MOST_DATA];
+        char told[32];
+        if (!date && c->element[i].kind != 'T')
+            continue;
+        shown_moments[by][date]++;
+        unsigned length = show_data(&alone, from, shown);
+        if (written_moment(date ? from->formats.date : from->formats.time, date, &from->clock, told) != length || memcmp(told, shown, length) != 0)
+            return false;
+    }
+    return true;
+}
+
+/* "1 (image length), 3 (clock's six numbers are no date and time; nothing else is judged), 7 (above 86,400), in that order"; taken, nothing but the clock moves. */
+static bool move_so(const struct pair *p, const struct event *e, unsigned answer)
+{
+    const uint8_t *before = p->before.bytes[SESSION], *after = p->peer.bytes[SESSION];
+    uint8_t to[6] = {0};
+
+    if (e->length[SESSION] != IMAGE)
+        return answer == BAD_LENGTH;
+    if (!is_moment(before + CLOCK_AT))
+        return answer == NOT_SOUND;
+    if (e->seconds > 86400)
+        return answer == OUTSIDE_LIMITS;
+    moved_by(before + CLOCK_AT, e->seconds, to);
+    return answer == TAKEN && memcmp(after + CLOCK_AT, to, 6) == 0 && memcmp(after, before, CLOCK_AT) == 0
+        && memcmp(after + DATE_FORMAT_AT, before + DATE_FORMAT_AT, IMAGE - DATE_FORMAT_AT) == 0;
+}
+
+/* What clock and formats are after a taken call: "TS, TD, TT and the clock call change nothing else; nothing else changes them." */
+static bool moment_kept(const struct pair *p, const struct event *e)
+{
+    static const uint8_t opened[] = {0, 1, 1, 0, 0, 0, DD, '-', ME, '-', Y4, HOUR, ':', MINUTE, ':', SECOND};
+    const uint8_t *after = p->peer.bytes[SESSION] + CLOCK_AT;
+    static const unsigned order[] = {1, 2, 0, 3, 4, 5};  /* of the numbers of TS in the image */
+    uint8_t told[IMAGE - CLOCK_AT];
+
+    memcpy(told, p->before.bytes[SESSION] + CLOCK_AT, sizeof told);
+    if (e->call == OPEN)
+        memcpy(told, opened, sizeof told);
+    if (e->call == COMMAND && !kind_before(p, e, RECORDING)) {
+        const char *at = (const char *)e->bytes + 1;
+        for (unsigned i = 0; i < 6 && e->count > 2 && memcmp(e->bytes, "TS", 2) == 0; i++)
+            told[order[i]] = (uint8_t)strtoul(at + 1, (char **)&at, 10);
+        if (is_format(e->bytes, e->count))
+            format_of(e->bytes, (unsigned)((const uint8_t *)memchr(e->bytes, '\n', e->count) - e->bytes), told + (e->bytes[1] == 'D' ? 6 : 11));
+    }
+    return memcmp(after, told, sizeof told) == 0;
+}
+
+static void check_moment(const struct pair *p, const struct generator *g, const struct event *e, unsigned answer, uint64_t calls)
+{
+    if (e->call == CLOCK ? move_so(p, e, answer) : answer != TAKEN || e->call == FITS || moment_kept(p, e))
+        return;
+    tell_difference(g, e, calls);
+    printf("the peer answered %u, and the clock or the formats are not what they must be then\n", answer);
+    exit(1);
+}
+
 /* ---- Code 128 as short as it can be ---- */
 
 enum { NO_CHANGE, ONE_CHANGE, MORE_CHANGES, CHANGES };
 
 static uint64_t written[DRAWN_BY][2][CHANGES], across_elements, read_on_page;
 
-/* A line of type 1 and what it shows. */
-struct type_1 {
+/* A line A or B and what it shows. */
+struct data_line {
     struct command command;
     uint8_t data[MOST_DATA];
     unsigned length;
 };
 
-/* False if the line is no B of type 1. It was taken, so it has its written form. */
-static bool type_1_at(const uint8_t *line, unsigned length, const struct declarations *d, const uint8_t *values, const struct session *s, struct type_1 *t)
+/* False if the line has no data. It was taken, so it has its written form. */
+static bool data_line_at(const uint8_t *line, unsigned length, const struct source *from, struct data_line *t)
 {
     struct normal_line normal;
 
-    if (length == 0 || line[0] != 'B' || read_line(line, length, MOST_ROWS, &t->command, &normal).answer != TAKEN || t->command.type != CODE_128)
+    if (length == 0 || (line[0] != 'A' && line[0] != 'B') || read_line(line, length, MOST_ROWS, &t->command, &normal).answer != TAKEN)
         return false;
-    t->length = show_data(&t->command, d, values, s->counters, t->data);
+    t->length = show_data(&t->command, from, t->data);
     return true;
 }
 
+static bool is_type_1(const struct data_line *t)
+{
+    return t->command.word == W_B && t->command.type == CODE_128;
+}
+
 /* The bars as the peer has them, read back: the data, and the writing that its rows of digits ask for. */
-static bool written_so(unsigned by, const struct type_1 *t)
+static bool written_so(unsigned by, const struct data_line *t)
 {
     uint8_t widths[MOST_BARS], values[MOST_DATA + 1];
     unsigned count = bar_widths(CODE_128, 1, 2, t->data, t->length, widths), changes;
@@ -620,7 +798,7 @@ static bool written_so(unsigned by, const struct type_1 *t)
 }
 
 /* A symbol whose first row was white before it and is whole on the page: its bars are read from there. */
-static bool read_from_page(const struct pair *p, const struct type_1 *t, const struct session *s)
+static bool read_from_page(const struct pair *p, const struct data_line *t, const struct session *s)
 {
     unsigned narrow = t->command.n[3], y = t->command.n[1] + s->origin_y, first, count;
     size_t at = (size_t)y * ROW_BYTES;
@@ -638,24 +816,26 @@ static bool read_from_page(const struct pair *p, const struct type_1 *t, const s
     return read_bars(widths, count, narrow, &r) && r.length == t->length && memcmp(r.data, t->data, t->length) == 0;
 }
 
-/* The symbols of type 1 that a label has drawn, with the values and counters it had. */
+/* The data that a label has drawn, with the values, counters and clock it had, and the formats that its lines before them give. */
 static bool label_written_so(const struct pair *p, const struct event *e, const struct declarations *d)
 {
     uint8_t *const *b = p->before.bytes;
     struct memory m = {b[BACKGROUND], 0, b[STORE], (uint16_t *)(void *)b[LINKS], (unsigned)e->length[LINKS], b[DIRECTORY],
                        (unsigned)(e->length[DIRECTORY] / ENTRY), b[VALUE]};
     uint8_t room[MOST_LINE + 1];
-    static struct type_1 t;
+    static struct data_line t;
     struct session s;
     unsigned length;
 
     read_image(b[SESSION], &s);
     if (s.active == NO_FORM)
         return true;
+    struct source from = {d, b[VALUE], s.counters, s.clock, example_formats};
     for (struct cursor at = start_of(&m, entry_at(&m, s.active)); at.left > 0;) {
         const uint8_t *line = next_line(&at, room, &length);
-        if (type_1_at(line, length, d, b[VALUE], &s, &t) && !written_so(BY_LABEL, &t))
+        if (data_line_at(line, length, &from, &t) && !(moments_so(BY_LABEL, &t.command, &from) && (!is_type_1(&t) || written_so(BY_LABEL, &t))))
             return false;
+        note_format(line, length, &from.formats);
     }
     return true;
 }
@@ -664,13 +844,14 @@ static bool command_written_so(const struct pair *p, const struct event *e)
 {
     static const struct declarations nothing;
     const uint8_t *lf = memchr(e->bytes, '\n', e->count);
-    static struct type_1 t;
+    static struct data_line t;
     struct session s;
 
     read_image(p->before.bytes[SESSION], &s);
-    if (kind_before(p, e, RECORDING) || !type_1_at(e->bytes, (unsigned)(lf - e->bytes), &nothing, p->before.bytes[VALUE], &s, &t))
+    struct source from = {&nothing, p->before.bytes[VALUE], s.counters, s.clock, s.formats};
+    if (kind_before(p, e, RECORDING) || !data_line_at(e->bytes, (unsigned)(lf - e->bytes), &from, &t))
         return true;
-    return written_so(BY_COMMAND, &t) && read_from_page(p, &t, &s);
+    return moments_so(BY_COMMAND, &t.command, &from) && (!is_type_1(&t) || (written_so(BY_COMMAND, &t) && read_from_page(p, &t, &s)));
 }
 
 static void check_written(const struct pair *p, const struct generator *g, const struct event *e, unsigned answer, const struct declarations *d, uint64_t calls)
@@ -679,7 +860,7 @@ static void check_written(const struct pair *p, const struct generator *g, const
         return;
     if (!(e->call == LABEL ? label_written_so(p, e, d) : command_written_so(p, e))) {
         tell_difference(g, e, calls);
-        printf("the bars of a symbol of type 1 do not read back as its data, or another writing was asked for\n");
+        printf("the bars of a symbol of type 1 do not read back as its data, or another writing was asked for, or date or time is shown otherwise\n");
         exit(1);
     }
 }
@@ -728,6 +909,7 @@ static void make_call(struct pair *p, struct generator *g, const struct event *e
     put_on_desk(&p->station, INPUT, e->bytes, e->count);
     put_on_desk(&p->peer, INPUT, e->bytes, e->count);
     p->station.question = p->peer.question = e->question;
+    p->station.seconds = p->peer.seconds = e->seconds;
     ours = call_station(&the_station, &p->station, e->call, e->length);
     theirs = call_station(&peer_station, &p->peer, e->call, e->length);
     if (ours != theirs || !slices_same(p)) {
@@ -738,9 +920,10 @@ static void make_call(struct pair *p, struct generator *g, const struct event *e
         exit(1);
     }
     check_unchanged(p, g, e, theirs, calls);
+    check_moment(p, g, e, theirs, calls);
     if (e->call == FITS)
         check_question(p, g, e, theirs, calls);
-    else {
+    else if (e->call != CLOCK) {
         check_promises(p, g, e, theirs, calls);
         check_slanted(p, g, e, theirs, calls);
     }
@@ -768,10 +951,10 @@ static void both_fonts(struct pair *p, const struct event *e)
 
 static void tell_reached(uint64_t calls)
 {
-    printf("%" PRIu64 " calls, no difference\nanswer      open   command     label      fits\n", calls);
+    printf("%" PRIu64 " calls, no difference\nanswer      open   command     label      fits     clock\n", calls);
     for (int a = 0; a < ANSWERS; a++)
-        printf("%6d %9" PRIu64 " %9" PRIu64 " %9" PRIu64 " %9" PRIu64 "\n", a, reached[OPEN][a], reached[COMMAND][a], reached[LABEL][a],
-               reached[FITS][a]);
+        printf("%6d %9" PRIu64 " %9" PRIu64 " %9" PRIu64 " %9" PRIu64 " %9" PRIu64 "\n", a, reached[OPEN][a], reached[COMMAND][a], reached[LABEL][a],
+               reached[FITS][a], reached[CLOCK][a]);
     if (other)
         printf("other answers: %" PRIu64 "\n", other);
 }
@@ -814,6 +997,14 @@ static void tell_written(void)
     printf("of several elements, set C in use: %" PRIu64 "; read from the page: %" PRIu64 "\n", across_elements, read_on_page);
 }
 
+static void tell_moments(void)
+{
+    printf("TD and TT shown on the background %" PRIu64 " and %" PRIu64 ", on labels %" PRIu64 " and %" PRIu64 "\n", shown_moments[BY_COMMAND][1],
+           shown_moments[BY_COMMAND][0], shown_moments[BY_LABEL][1], shown_moments[BY_LABEL][0]);
+    printf("moves within a day %" PRIu64 ", to the next day %" PRIu64 ", month %" PRIu64 ", year %" PRIu64 ", at the end of 2099 %" PRIu64 "\n", moves[SAME_DAY], moves[NEXT_DAY],
+           moves[NEXT_MONTH], moves[NEXT_YEAR], moves[AT_THE_END]);
+}
+
 int main(int argc, char **argv)
 {
     uint64_t wanted = argc > 1 ? strtoull(argv[1], NULL, 10) : 10000, calls = 0;
@@ -842,6 +1033,7 @@ int main(int argc, char **argv)
     printf("asked and then sent: %" PRIu64 " FS, %" PRIu64 " GM\n", sent_forms, sent_pictures);
     tell_slanted();
     tell_written();
+    tell_moments();
     clear_away(&p.station);
     clear_away(&p.peer);
     clear_away(&p.before);

@@ -47,9 +47,24 @@ static unsigned reach(const struct element *e)
     return e->modifier == 'M' ? e->place + e->n - 1 : e->n;
 }
 
+static bool names_value(const struct element *e)
+{
+    return e->kind == 'V' || e->kind == 'C';
+}
+
 static bool reaches_past(const struct element *e, const struct declarations *d)
 {
-    return e->kind != '"' && e->modifier != 0 && reach(e) > declared_length(e, d);
+    return names_value(e) && e->modifier != 0 && reach(e) > declared_length(e, d);
+}
+
+/* ---- date and time ---- */
+
+enum { MOST_MOMENT = 11 };
+
+/* What TD or TT shows. */
+static unsigned show_moment(const struct element *e, const struct formats *f, const struct clock *c, uint8_t *out)
+{
+    return e->kind == 'D' ? show_date(f->date, c, out) : show_time(f->time, c, out);
 }
 
 /* ---- fit for each permitted set of values ---- */
@@ -66,25 +81,46 @@ static bool in_code_39(uint8_t byte)
     return (byte >= '0' && byte <= '9') || (byte >= 'A' && byte <= 'Z') || (byte != 0 && strchr("-. $/+%", byte));
 }
 
-static struct extent extent_of(const struct element *e, const struct declarations *d)
+/* Of bytes that are always shown. */
+static struct extent extent_of_bytes(const uint8_t *bytes, unsigned length)
 {
-    struct extent x = {0, 0, true, true};
+    struct extent x = {length, length, true, true};
 
-    if (e->kind == '"') {
-        x.least = x.most = e->length;
-        for (unsigned i = 0; i < e->length; i++) {
-            x.digits &= e->text[i] >= '0' && e->text[i] <= '9';
-            x.code_39 &= in_code_39(e->text[i]);
-        }
-        return x;
+    for (unsigned i = 0; i < length; i++) {
+        x.digits &= bytes[i] >= '0' && bytes[i] <= '9';
+        x.code_39 &= in_code_39(bytes[i]);
     }
-    x.least = x.most = e->modifier ? e->n : declared_length(e, d);
+    return x;
+}
+
+/* "Unfit data is judged over all clock values": a field shows as many bytes at any time, and either digits at all times or capitals at all times. So
+ * one moment stands for all. */
+static struct extent extent_of_moment(const struct element *e, const struct formats *f)
+{
+    static const struct clock any = {0, 1, 1, 0, 0, 0};
+    uint8_t shown[MOST_MOMENT];
+
+    return extent_of_bytes(shown, show_moment(e, f, &any, shown));
+}
+
+static struct extent extent_of_value(const struct element *e, const struct declarations *d)
+{
+    unsigned length = e->modifier ? e->n : declared_length(e, d);
+    struct extent x = {length, length, true, true};
+
     if (e->kind == 'V') {
         x.digits = x.code_39 = d->v[e->number].justify == 'Z';
         if (d->v[e->number].justify == 'N')
             x.least = 0;
     }
     return x;
+}
+
+static struct extent extent_of(const struct element *e, const struct declarations *d)
+{
+    if (e->kind == '"')
+        return extent_of_bytes(e->text, e->length);
+    return names_value(e) ? extent_of_value(e, d) : extent_of_moment(e, &d->formats);
 }
 
 /* All lengths reach their greatest together, when every value is as long as it may be, and their least when every value
@@ -127,6 +163,13 @@ static struct verdict judge_data(const struct command *c, const struct declarati
     return data_fits(c, d) ? taken : (struct verdict){UNFIT_DATA, c->element[0].at};
 }
 
+struct declarations nothing_declared(const struct formats *f)
+{
+    struct declarations d = {.formats = *f};
+
+    return d;
+}
+
 static struct verdict declare_variable(const struct command *c, struct declarations *d)
 {
     struct variable *v = &d->v[c->n[0]];
@@ -158,6 +201,8 @@ struct verdict judge_line(const struct command *c, struct declarations *d)
     case W_C: return declare_counter(c, d);
     case W_A:
     case W_B: return judge_data(c, d);
+    case W_TD: memcpy(d->formats.date, c->format, FORMAT); return taken;
+    case W_TT: memcpy(d->formats.time, c->format, FORMAT); return taken;
     default: return taken;
     }
 }
@@ -251,18 +296,19 @@ static unsigned show_counter(const struct element *e, unsigned digits, uint32_t 
     return show_piece(e, written, digits, out);
 }
 
-unsigned show_data(const struct command *c, const struct declarations *d, const uint8_t *values,
-                   const struct counter *counters, uint8_t *out)
+unsigned show_data(const struct command *c, const struct source *from, uint8_t *out)
 {
     unsigned length = 0;
 
     for (unsigned i = 0; i < c->elements; i++) {
         const struct element *e = &c->element[i];
+        unsigned n = e->number;
 
         switch (e->kind) {
-        case 'V': length += show_variable(e, values + e->number * FIELD, out + length); break;
-        case 'C': length += show_counter(e, d->c[e->number].digits, counters[e->number].value, out + length); break;
-        default: length += show_text(e, out + length); break;
+        case 'V': length += show_variable(e, from->values + n * FIELD, out + length); break;
+        case 'C': length += show_counter(e, from->declared->c[n].digits, from->counters[n].value, out + length); break;
+        case '"': length += show_text(e, out + length); break;
+        default: length += show_moment(e, &from->formats, &from->clock, out + length); break;
         }
     }
     return length;

@@ -16,18 +16,19 @@ struct question {
 };
 
 /* bytes[s] is the slice, room[s] the bytes there are, which may be more than a call is lent. Of FONT and INPUT the last byte
- * is the last of its block, so that reading too far is seen by a checker of memory. For FITS the name is INPUT. */
+ * is the last of its block, so that reading too far is seen by a checker of memory. For FITS the name is INPUT; for CLOCK seconds are given. */
 struct desk {
     uint8_t *bytes[SLICES];
     size_t room[SLICES];
     uint8_t *block[SLICES];
     size_t block_size[SLICES];
     struct question question;
+    uint64_t seconds;
 };
 
-enum call_kind { OPEN, COMMAND, LABEL, FITS, CALLS };
+enum call_kind { OPEN, COMMAND, LABEL, FITS, CLOCK, CALLS };
 
-/* A station: station.h's four calls, or the peer's. */
+/* A station: station.h's five calls, or the peer's. */
 struct station {
     uint8_t (*open)(uint8_t *, size_t, uint8_t *, size_t, uint8_t *, size_t, uint8_t *, size_t, uint16_t *, size_t, uint8_t *,
                     size_t, uint8_t *, size_t);
@@ -37,6 +38,7 @@ struct station {
                      size_t, const uint16_t *, size_t, const uint8_t *, size_t, const uint8_t *, size_t);
     uint8_t (*fits)(const uint8_t *, size_t, const uint16_t *, size_t, const uint8_t *, size_t, uint8_t, const uint8_t *, size_t,
                     uint64_t);
+    uint8_t (*clock)(uint8_t *, size_t, uint64_t);
 };
 
 extern const struct station peer_station;

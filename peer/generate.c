@@ -39,11 +39,13 @@ static bool rarely(struct generator *g, unsigned in_thousand)
 
 /* ---- what stands on the desk ---- */
 
+/* The formats as the image has them. */
 struct declared {
     bool v[10], c[10];
     unsigned m[10], w[10];
     char justify[10];
     int step[10];
+    uint8_t date[FORMAT], time[FORMAT];
 };
 
 struct view {
@@ -84,6 +86,27 @@ static size_t form_bytes(const struct generator *g, unsigned i, uint8_t *out, si
     return done;
 }
 
+/* The format in a line of a form, which is written as it should be: `TD` or `TT`, fields of two letters or one, and a byte between them. */
+static void note_format(struct declared *d, const char *line)
+{
+    static const char *const fields[] = {"Y2", "Y4", "ME", "MN", "DD"};
+    bool date = line[1] == 'D';
+    uint8_t *format = date ? d->date : d->time;
+    const char *at = line + 2;
+
+    memset(format, 0, FORMAT);
+    for (unsigned i = 0; i < FORMAT && *at; i += 2) {
+        if (i > 0)
+            format[i - 1] = (uint8_t)*at++;
+        for (unsigned k = 0; date && k < 5; k++)
+            if (at[0] && (at[0] & 95) == fields[k][0] && (at[1] == fields[k][1] || (at[1] & 95) == fields[k][1]))
+                format[i] = (uint8_t)(k + 1);
+        if (!date)
+            format[i] = (at[0] & 95) == 'H' ? HOUR : (at[0] & 95) == 'M' ? MINUTE : SECOND;
+        at += date && at[0] && at[1] ? 2 : at[0] != 0;
+    }
+}
+
 static void note_declaration(struct declared *d, const char *line)
 {
     unsigned n, m;
@@ -100,6 +123,24 @@ static void note_declaration(struct declared *d, const char *line)
         d->w[n] = m;
         d->step[n] = step;
     }
+    if (line[0] == 'T' && (line[1] == 'D' || line[1] == 'T'))
+        note_format(d, line);
+}
+
+/* Nothing declared, and the formats with which a form begins. */
+static struct declared nothing_yet(void)
+{
+    return (struct declared){.date = {DD, '-', ME, '-', Y4}, .time = {HOUR, ':', MINUTE, ':', SECOND}};
+}
+
+/* Nothing declared, and the formats of commands outside forms. */
+static struct declared nothing_outside(const struct generator *g)
+{
+    struct declared d = {0};
+
+    memcpy(d.date, g->desk->bytes[SESSION] + DATE_FORMAT_AT, FORMAT);
+    memcpy(d.time, g->desk->bytes[SESSION] + TIME_FORMAT_AT, FORMAT);
+    return d;
 }
 
 static void declared_in(const struct generator *g, unsigned i, struct declared *d)
@@ -126,6 +167,7 @@ static void look(const struct generator *g, struct view *v)
     const uint8_t *session = g->desk->bytes[SESSION];
 
     memset(v, 0, sizeof *v);
+    v->of_recording = v->of_active = nothing_yet();
     v->recording = 65535;
     v->active = low_first(session + 9);
     v->owed = low_first(session + 11);
@@ -319,6 +361,15 @@ static void put_number(struct generator *g, unsigned least, unsigned most, unsig
         put_digits(g, chance(g, 92) ? between(g, least, usual) : between(g, least, most));
 }
 
+/* This number, or one outside its limits. */
+static void put_chosen(struct generator *g, unsigned least, unsigned most, unsigned number)
+{
+    if (spoilt(g))
+        put_outside(g, least, most);
+    else
+        put_digits(g, number);
+}
+
 static void put_x(struct generator *g)
 {
     put_number(g, 0, 2047, chance(g, 80) ? 100 : 620);
@@ -398,6 +449,209 @@ static void put_prompt(struct generator *g)
     put(g, '"');
 }
 
+/* ---- date and time ---- */
+
+/* Not in small sessions: those that are stored make the calls that they made. */
+static bool moment_due(struct generator *g, unsigned in_hundred)
+{
+    return !g->small && chance(g, in_hundred);
+}
+
+/* Either case, the small letters likelier. */
+static void put_letter(struct generator *g, char letter)
+{
+    put(g, (uint8_t)(letter >= 'A' && chance(g, 60) ? letter + 32 : letter));
+}
+
+/* Any that may stand there, those of Code 39, digits, commas and letters that begin fields a little likelier. */
+static uint8_t some_separator(struct generator *g)
+{
+    static const char likely[] = "-./:,0123456789-/ymdhsYMDHS2Ee+%$A!~";
+    uint8_t byte = (uint8_t)between(g, 33, 126);
+
+    return chance(g, 75) ? (uint8_t)likely[below(g, sizeof likely - 1)] : byte == '"' ? '#' : byte;
+}
+
+/* What may not: space, quote, bytes outside 33 to 126. */
+static uint8_t bad_separator(struct generator *g)
+{
+    static const uint8_t bad[] = {' ', '"', 1, 31, 127, 128, 255, '\r', '\t', 0};
+
+    return bad[below(g, sizeof bad)];
+}
+
+/* One of three: how a date's year, month or day, or a time's hour, minute or second is written. */
+static const char *field_word(struct generator *g, bool date, unsigned unit)
+{
+    static const char *const dates[][2] = {{"Y2", "Y4"}, {"ME", "MN"}, {"DD", "DD"}}, *const times[] = {"H", "M", "S"};
+
+    return date ? dates[unit][below(g, 2)] : times[unit];
+}
+
+static void put_field(struct generator *g, bool date, unsigned unit)
+{
+    for (const char *at = field_word(g, date, unit); *at; at++) {
+        put_letter(g, *at);
+        may_end(g, 8);
+    }
+}
+
+/* What looks like a field and is none. */
+static void put_wrong_field(struct generator *g)
+{
+    static const char *const wrong[] = {"", "y", "Y3", "yy", "y ", "m", "mm", "mY", "d", "dx", "D2", "d\"", "x", "2", "4", "e", "n", "hh", "\"", " ", "-", ",", "s ", "\x01", "\x80", "dD", "h", "S", "mE"};
+
+    put_words(g, wrong[below(g, sizeof wrong / sizeof wrong[0])]);
+    may_end(g, 40);
+}
+
+/* TD or TT with one to three fields in any order. In a faulty line fields come again, lack, are four, or a separator is wrong, doubled or missing. */
+static void put_format(struct generator *g)
+{
+    bool date = chance(g, 60), faulty = g->faulty && chance(g, 80);
+    unsigned order[] = {0, 1, 2, below(g, 3)}, fields = chance(g, 25) ? 1 : between(g, 2, 3), digits = chance(g, 35);
+
+    for (unsigned i = 0; i < 2; i++) {
+        unsigned k = between(g, i, 2), unit = order[i];
+        order[i] = order[k];
+        order[k] = unit;
+    }
+    if (faulty && chance(g, 45))
+        order[below(g, 3)] = order[below(g, 3)];
+    if (faulty && chance(g, 15))
+        fields = 4;
+    put_words(g, date ? "TD" : "TT");
+    may_end(g, 6);
+    for (unsigned i = 0; i < fields; i++) {
+        unsigned wrong = faulty && chance(g, 35) ? below(g, 6) : 6;
+        if (i > 0 && wrong != 0)
+            put(g, wrong == 1 ? bad_separator(g) : digits ? (uint8_t)('0' + below(g, 10)) : some_separator(g));
+        if (i > 0 && wrong == 2)
+            put(g, some_separator(g));
+        may_end(g, 5);
+        if (wrong >= 3 && wrong < 6)
+            put_wrong_field(g);
+        else
+            put_field(g, date, order[i]);
+    }
+}
+
+struct moment {
+    unsigned year, month, day, hour, minute, second;
+};
+
+static unsigned days_in(unsigned year, unsigned month)
+{
+    return month == 2 ? 28 + (year % 4 == 0) : 30 + (month + month / 8) % 2;
+}
+
+/* Any, or near the end of a day, a month, February, a year, or all of them. */
+static struct moment some_moment(struct generator *g)
+{
+    unsigned k = below(g, 100), leap[] = {0, 4, 96, 4 * below(g, 25)};
+    struct moment m = {below(g, 100), between(g, 1, 12), 0, below(g, 24), below(g, 60), below(g, 60)};
+
+    if (k < 25)
+        m.month = 2;
+    if (k < 15 || (k >= 25 && k < 30))
+        m.year = leap[below(g, 4)];
+    if (k >= 40 && k < 55)
+        m.month = 12;
+    if (k >= 50 && k < 60) {
+        m.month = 12;
+        m.year = 99;
+    }
+    m.day = k < 70 ? days_in(m.year, m.month) - (chance(g, 75) ? 0 : below(g, 3)) : between(g, 1, days_in(m.year, m.month));
+    if (chance(g, 40)) {
+        m.hour = 23;
+        m.minute = 59;
+        m.second = chance(g, 60) ? 59 : below(g, 60);
+    } else if (chance(g, 20))
+        m.hour = m.minute = m.second = 0;
+    return m;
+}
+
+/* One number of the moment just outside its limits. */
+static void pass_limit(struct generator *g, struct moment *m)
+{
+    switch (below(g, 6)) {
+    case 0: m->month = chance(g, 50) ? 0 : 13; break;
+    case 1: m->day = chance(g, 70) ? 0 : 32; break;
+    case 2: m->year = 100; break;
+    case 3: m->hour = 24; break;
+    case 4: m->minute = 60; break;
+    default: m->second = 60; break;
+    }
+}
+
+/* TS of such a moment; now and then of a day that its month has not, by one or up to 32, and with a number outside its limits, or both. */
+static void put_set_clock(struct generator *g)
+{
+    struct moment m = some_moment(g);
+
+    if (chance(g, 15))
+        m.day = days_in(m.year, m.month) + 1 < 31 && chance(g, 80) ? days_in(m.year, m.month) + 1 : between(g, 28, 32);
+    if (chance(g, 15))
+        pass_limit(g, &m);
+    put_words(g, "TS");
+    may_end(g, 3);
+    put_chosen(g, 1, 12, m.month);
+    put_comma(g);
+    put_chosen(g, 1, 31, m.day);
+    put_comma(g);
+    put_chosen(g, 0, 99, m.year);
+    put_comma(g);
+    put_chosen(g, 0, 23, m.hour);
+    put_comma(g);
+    put_chosen(g, 0, 59, m.minute);
+    put_comma(g);
+    put_chosen(g, 0, 59, m.second);
+}
+
+/* It is still the day on which a session opens, so that all dates would be the same. */
+static bool as_opened(const struct generator *g)
+{
+    return memcmp(g->desk->bytes[SESSION] + CLOCK_AT, (const uint8_t[]){0, 1, 1}, 3) == 0;
+}
+
+/* Of the three commands the formats come oftener, and while a form is recorded nearly always. */
+static void put_moment_line(struct generator *g, bool recording)
+{
+    if (chance(g, recording ? 4 : 35))
+        put_set_clock(g);
+    else
+        put_format(g);
+}
+
+static bool in_set(uint8_t byte, const char *set)
+{
+    return byte != 0 && strchr(set, byte) != NULL;
+}
+
+/* How many bytes a format shows, and whether all of them are digits, or of Code 39. */
+struct shown {
+    unsigned length;
+    bool digits, code_39;
+};
+
+static struct shown shown_by(const uint8_t format[FORMAT], bool date)
+{
+    struct shown s = {0, true, true};
+
+    for (unsigned i = 0; i < FORMAT; i += 2) {
+        if (format[i] == 0)
+            break;
+        s.length += date && format[i] == Y4 ? 4 : date && format[i] == ME ? 3 : 2;
+        s.digits &= !date || format[i] != ME;
+        if (i == 0)
+            continue;
+        s.length++;
+        s.digits &= in_set(format[i - 1], "0123456789");
+        s.code_39 &= in_set(format[i - 1], "0123456789ABCDEFGHIJKLMNOPQRSTUVWXYZ-.$/+%");
+    }
+    return s;
+}
+
 /* ---- data ---- */
 
 /* At most one modifier of a value of so many bytes; gives what it shows. */
@@ -468,9 +722,27 @@ static void put_from(struct generator *g, const char *bytes, unsigned length)
     put(g, '"');
 }
 
+/* TD or TT, if digits or bytes of Code 39 are asked for mostly one that shows such; gives how many bytes it shows, or 0 if none is put. */
+static unsigned put_moment(struct generator *g, const struct declared *d, char type)
+{
+    bool date = chance(g, 55);
+    struct shown s = shown_by(date ? d->date : d->time, date), other = shown_by(date ? d->time : d->date, !date);
+    bool fit = type == '1' || (type == '3' ? s.code_39 : s.digits), other_fit = type == '3' ? other.code_39 : other.digits;
+
+    if (!fit && other_fit) {
+        date = !date;
+        s = other;
+    } else if (!fit && !chance(g, 12))
+        return 0;
+    put_words(g, date ? "TD" : "TT");
+    return s.length;
+}
+
 static void put_any_element(struct generator *g, const struct declared *d)
 {
-    if (chance(g, 45) || put_value(g, d, false) == 0)
+    if (moment_due(g, 30))
+        put_moment(g, d, '1');
+    else if (chance(g, 45) || put_value(g, d, false) == 0)
         put_quoted(g, !chance(g, 4) ? below(g, 10) : chance(g, 40) ? between(g, 126, 130) : between(g, 60, 135));
 }
 
@@ -488,8 +760,12 @@ static void put_wrong_element(struct generator *g)
                                         "C0Mx.1", "V0L1234567890", "C0M1.0000000001", "V0M1234567890.1", "C0R12345678901", "V01", "C0L1R1",
                                         "V0l1", "C0L1.2", "V0M1.2.3", "v0", "c1", "L1", "R", ",", " ", "\"", "x", ".", "1", "-", "\x01", "\x80",
                                         "\"\x1f\"", "\"a\x7f\"", "\"ab\xff", "V\"0\"", "C0L\"1\""};
+    static const char *const moments[] = {"T", "TD1", "TDL2", "TTR1", "TDM1.1", "TD-1", "TD+V0", "Tx", "td", "Td", "tT", "TS", "T\"", "TT,", "TD ", "T,", "TTT", "TDT", "TV0", "T1"};
 
-    put_words(g, wrong[below(g, sizeof wrong / sizeof wrong[0])]);
+    if (moment_due(g, 35))
+        put_words(g, moments[below(g, sizeof moments / sizeof moments[0])]);
+    else
+        put_words(g, wrong[below(g, sizeof wrong / sizeof wrong[0])]);
     may_end(g, 40);
 }
 
@@ -511,6 +787,16 @@ static void put_faulty_data(struct generator *g, const struct declared *d)
     }
 }
 
+/* So many that the data shows about as many bytes as it may, and a text that makes up for what lacks. A damaged format may show none. */
+static void put_many_moments(struct generator *g, const struct declared *d)
+{
+    unsigned to = between(g, MOST_DATA - 3, MOST_DATA + 3), total = 0;
+
+    for (unsigned i = 0; i < MOST_DATA / 2 && total + 11 < to; i++)
+        total += put_moment(g, d, '1');
+    put_from(g, "0A", to - total);
+}
+
 static void put_any_data(struct generator *g, const struct declared *d)
 {
     unsigned count = between(g, 1, chance(g, 10) ? 9 : 3);
@@ -524,6 +810,8 @@ static void put_any_data(struct generator *g, const struct declared *d)
         put_any_element(g, d);
     if (chance(g, 3))
         put_stray(g);
+    if (moment_due(g, 4))
+        put_many_moments(g, d);
 }
 
 /* ---- rows of digits, for type 1 ---- */
@@ -645,7 +933,7 @@ static void put_digit_data(struct generator *g, const struct declared *d, char t
         return;
     }
     while (tries-- && total < 12)
-        total += put_value(g, d, true);
+        total += moment_due(g, 45) ? put_moment(g, d, type) : put_value(g, d, true);
     fill = usual_fill(g, type, total);
     if (chance(g, 10))
         fill += below(g, 3);
@@ -696,15 +984,6 @@ static void put_frame(struct generator *g)
 struct segment {
     unsigned a, b, c, d, e;
 };
-
-/* This number, or one outside its limits. */
-static void put_chosen(struct generator *g, unsigned least, unsigned most, unsigned number)
-{
-    if (spoilt(g))
-        put_outside(g, least, most);
-    else
-        put_digits(g, number);
-}
 
 /* A column or row of a page of this size: anywhere on it, about its edges, or anywhere in the limits. The origin is added to it later, so it is
  * mostly taken off before. */
@@ -1352,7 +1631,7 @@ static void put_named(struct generator *g, const char *word, uint8_t kind, unsig
     put_name(g, kind, stored);
 }
 
-/* Of 6: there is no such command, or it belongs to the manual and is not built. */
+/* Mostly of 6: there is no such command, or it belongs to the manual and is not built, or it is written otherwise. */
 static void put_strange(struct generator *g)
 {
     static const char *const words[] = {"D6", "S4", "I1", "j1", "M", "FA", "GW0,0,1,1", "TS1,1,1,1,1,1", "U", "FI\"A\"", "PC", "P2,3",
@@ -1362,9 +1641,20 @@ static void put_strange(struct generator *g)
     static const char *const slanted[] = {"LS", "LSE", "LSW", "LSx", "LSEx", "LSO0,0,1,5,5", "LSS0,0,1,5,5", "LSEE0,0,1,5,5", "LSEW0,0,1,5,5", "LSe0,0,1,5,5", "LS,0,1,5,5",
                                           "LSW,0,1,5,5", "LES0,0,1,5,5", "LS 0,0,1,5,5", "LS0,0,1,5", "LSE0,0,1,5", "LS0,0,1,5,", "LSW0,0,1,5,5,", "LS0,0,1,5,5,5",
                                           "LSE0,0,1,5,5E", "LO0,0,1,5,5", "LS1,2,3,4"};
+    static const char *const moments[] = {"T", "TX", "Td", "tD", "TD", "TT", "TS", "TDy", "TDm", "TDd", "TDy2-", "TDme-m", "TDdd-d", "TDy2-y", "TDy2-y4", "TDdd-dd", "TDme-MN", "TDy2-me-dd-", "TDdd-me-y4x",
+                                          "TDd\"", "TDy2\"", "TDy2 me", "TDy2m", "TDy2me", "TDy2--me", "TDy3", "TDyy", "TDmm", "TDdd-mm", "TDMm.dd", "TDde", "TDdd-me-m", "TDdd-me-y", "TDdd-me-d", "TDdd-me-", "TDY4YYYMN", "TD,", "TD y2", "TD\"y2\"",
+                                          "TTh", "TThms", "TThm", "TThmm", "TTh:h", "TTh:H", "TTh:", "TTh:m:s:", "TTh:m:s ", "TThh", "TTx", "TTh m", "TT:h", "TTsss", "TTs-m-H", "TSx", "TS1", "TS1,",
+                                          "TS1,1,1,1,1", "TS1,1,1,1,1,", "TS1,1,1,1,1,1,", "TS1,1,1,1,1,1x", "TS,1,1,1,1,1", "TS1,,1,1,1,1", "TS+1,1,1,1,1,1", "TS0,1,1,1,1,1", "TS13,32,100,24,60,60",
+                                          "TS2,29,1,0,0,0", "TS2,29,0,0,0,0", "TS2,30,0,0,0,0", "TS2,30,100,0,0,0", "TS2,31,1,24,0,0", "TS13,31,0,0,0,0", "TS4,31,0,0,0,60", "TS2,29,1,0,0,x",
+                                          "TS2,28,2000,0,0,0", "TDy2\x7f" "dd", "TTh\x7fm", "TDdd\x80me", "TDdd-me\x1fy2", "TTh:m\"s", "A0,0,0,1,1,N,tD", "A0,0,0,1,1,N,tT", "A0,0,0,1,1,N,Td", "A0,0,0,1,1,N,TS", "A0,0,0,1,1,N,TDL2",
+                                          "A0,0,0,1,1,N,TTR1", "A0,0,0,1,1,N,T", "A0,0,0,1,1,N,TX", "A0,0,0,1,1,N,\"\"TDT", "B0,0,0,1,1,2,24,B,T", "B0,0,0,1,1,2,24,B,C,tD", "TS12,31,99,23,59,59", "TS0000000001,1,1,1,1,1", "TS000000012,000000031,000000099,000000023,000000059,000000059"};
 
     if (slanted_due(g, 15)) {
         put_words(g, slanted[below(g, sizeof slanted / sizeof slanted[0])]);
+        return;
+    }
+    if (moment_due(g, 50)) {
+        put_words(g, moments[below(g, sizeof moments / sizeof moments[0])]);
         return;
     }
     if (chance(g, 95)) {
@@ -1423,6 +1713,10 @@ static void put_recording_line(struct generator *g, const struct view *v)
     }
     if (nearly_full(v) && chance(g, 3)) {
         put_named_or_load(g, v, 30);  /* which has no place now */
+        return;
+    }
+    if (moment_due(g, 14)) {
+        put_moment_line(g, true);
         return;
     }
     if (k < 12)
@@ -1492,10 +1786,22 @@ static bool put_leading_line(struct generator *g, const struct view *v)
     return true;
 }
 
+/* TS, TD or TT, and rather TS while no date has been set; false if none is put. */
+static bool put_idle_moment(struct generator *g)
+{
+    if (!moment_due(g, as_opened(g) ? 18 : 9))
+        return false;
+    if (as_opened(g) && chance(g, 60))
+        put_set_clock(g);
+    else
+        put_moment_line(g, false);
+    return true;
+}
+
 /* Nothing recorded, nothing owed: near a full memory often what would fill it, or an erasure; then what leads to a label, else anything. */
 static void put_idle_line(struct generator *g, const struct view *v)
 {
-    static const struct declared nothing;
+    const struct declared nothing = nothing_outside(g);
     unsigned k = below(g, 100);
 
     if (nearly_full(v) && chance(g, 25)) {
@@ -1505,7 +1811,7 @@ static void put_idle_line(struct generator *g, const struct view *v)
             put_erasure(g);
         return;
     }
-    if (put_leading_line(g, v))
+    if (put_idle_moment(g) || put_leading_line(g, v))
         return;
     if (k < 18)
         put_named(g, "FS", FORM, 8);
@@ -1535,11 +1841,6 @@ static void put_idle_line(struct generator *g, const struct view *v)
 
 /* ---- faults of form ---- */
 
-static bool in_set(uint8_t byte, const char *set)
-{
-    return byte != 0 && strchr(set, byte) != NULL;
-}
-
 /* The next place from there on, round the end, with a byte of the set; or that place itself. */
 static size_t next_of(const struct generator *g, size_t from, const char *set)
 {
@@ -1561,10 +1862,10 @@ static size_t some_place(struct generator *g)
 
 static char strange_byte(struct generator *g)
 {
-    static const char likely[] = ",,\"\"0129LRMVCN +-.;EAB*3ZTxSW";  /* the last two of slanted lines */
+    static const char likely[] = ",,\"\"0129LRMVCN +-.;EAB*3ZTxSWDTymdhs4";  /* from S on of slanted lines and of date and time */
 
     if (chance(g, 85))
-        return likely[below(g, sizeof likely - (g->small ? 3 : 1))];
+        return likely[below(g, sizeof likely - (g->small ? 11 : 1))];
     return (char)(chance(g, 40) ? below(g, 32) : chance(g, 50) ? between(g, 127, 255) : random_number(g));
 }
 
@@ -1631,6 +1932,10 @@ static void put_any_line(struct generator *g, const struct view *v)
 
     if (slanted_due(g, 15)) {
         put_slanted(g);
+        return;
+    }
+    if (moment_due(g, 25)) {
+        put_moment_line(g, false);
         return;
     }
     switch (below(g, 16)) {
@@ -1903,8 +2208,66 @@ static void damage_session(struct generator *g)
         poke_number(g, SESSION, 15 + 5 * n, below(g, 3), 1);
         poke_number(g, SESSION, 16 + 5 * n, some_of(g, c, 11), 4);
         break;
-    default: damage_byte(g, SESSION, below(g, IMAGE)); break;
+    default: damage_byte(g, SESSION, below(g, g->small ? CLOCK_AT : IMAGE)); break;
     }
+}
+
+/* ---- damage to clock and formats ---- */
+
+static void poke_clock(struct generator *g, struct moment m)
+{
+    const unsigned six[] = {m.year, m.month, m.day, m.hour, m.minute, m.second};
+
+    for (unsigned i = 0; i < 6; i++)
+        poke_number(g, SESSION, CLOCK_AT + i, six[i], 1);
+}
+
+/* Each number at and past its limits, the day at and past its month's; all else as it was or such a moment. */
+static void damage_clock(struct generator *g)
+{
+    static const unsigned edges[6][6] = {{0, 99, 100, 255, 4, 96}, {0, 1, 2, 12, 13, 255}, {0, 1, 28, 29, 32, 255}, {0, 23, 24, 25, 128, 255}, {0, 59, 60, 61, 128, 255}, {0, 59, 60, 61, 128, 255}};
+    struct moment m = some_moment(g);
+    unsigned i = below(g, 6);
+
+    if (chance(g, 60))
+        poke_clock(g, m);
+    if (chance(g, 45))
+        poke_number(g, SESSION, CLOCK_AT + 2, days_in(m.year, m.month) + (chance(g, 80) ? 1 : below(g, 4)), 1);
+    else if (chance(g, 75))
+        poke_number(g, SESSION, CLOCK_AT + i, some_of(g, edges[i], 6), 1);
+    else
+        damage_byte(g, SESSION, CLOCK_AT + i);
+}
+
+/* Fields and separators of a format: right ones, absent ones, those at and past the limits, a field that comes again. Mostly one byte is changed, a separator that is there a
+ * little likelier, now and then all. */
+static void damage_format(struct generator *g)
+{
+    bool date = chance(g, 55);
+    unsigned from = date ? DATE_FORMAT_AT : TIME_FORMAT_AT, most = date ? DD : SECOND, at = below(g, FORMAT);
+    const uint8_t *now = g->desk->bytes[SESSION] + from;
+    unsigned separators[] = {' ', '"', 127, ' ', '"', 127, '!', '~', '#', 0, 255, some_separator(g)};
+    bool all = chance(g, 25);
+
+    if (now[1] != 0 && chance(g, 40))
+        at = now[3] != 0 && chance(g, 50) ? 3 : 1;
+
+    for (unsigned i = 0; i < FORMAT; i++) {
+        unsigned fields[] = {0, most + 1, most + 1, most + 1, 255, now[i > 2 ? 0 : i + 2], between(g, 1, most), between(g, 1, most)};
+        if (all || i == at)
+            poke_number(g, SESSION, from + i, i % 2 ? some_of(g, separators, 12) : some_of(g, fields, 8), 1);
+    }
+    if (chance(g, 25))  /* the last fields are absent, their separators too or not */
+        for (unsigned i = chance(g, 50) ? 1 : 3; i < FORMAT; i++)
+            poke_number(g, SESSION, from + i, rarely(g, 60) ? between(g, 1, 3) : 0, 1);
+}
+
+static void damage_moment(struct generator *g)
+{
+    if (chance(g, 45))
+        damage_clock(g);
+    else
+        damage_format(g);
 }
 
 static void damage_links(struct generator *g)
@@ -1964,13 +2327,13 @@ static void damage_store(struct generator *g)
 /* A digit or letter in a form changed for one that may be in its place: often another legal form. */
 static void damage_form_slightly(struct generator *g)
 {
-    static const char bytes[] = "00123456789NRLCZVBEOGMX,,\".+-a *;\nSW";  /* the last two of slanted lines */
+    static const char bytes[] = "00123456789NRLCZVBEOGMX,,\".+-a *;\nSWTDYymdhs:";  /* from S on of slanted lines and of date and time */
     unsigned i = below(g, g->entries);
     const uint8_t *e = entry(g, i);
     unsigned portion = entry_first(e), size = entry_size(e);
 
     if ((e[0] == FORM || e[0] == RECORDING) && size > 0 && portion < g->portions)
-        add_poke(g, STORE, portion * 256 + below(g, size < 256 ? size : 256), (uint8_t)bytes[below(g, sizeof bytes - (g->small ? 3 : 1))]);
+        add_poke(g, STORE, portion * 256 + below(g, size < 256 ? size : 256), (uint8_t)bytes[below(g, sizeof bytes - (g->small ? 12 : 1))]);
     else
         damage_store(g);
 }
@@ -1985,6 +2348,12 @@ static void forged_line(struct generator *g, const struct declared *d)
 
     g->line.length = 0;
     g->spoil = chance(g, 2) ? 1u << below(g, 6) : 0;
+    if (moment_due(g, 16)) {
+        g->faulty = chance(g, 6);
+        put_moment_line(g, chance(g, 50));
+        g->faulty = false;
+        return;
+    }
     if (k < 6)
         put_words(g, strange[below(g, sizeof strange / sizeof strange[0])]);
     else if (k < 22)
@@ -1997,11 +2366,10 @@ static void forged_line(struct generator *g, const struct declared *d)
 
 static size_t forged_content(struct generator *g, uint8_t *content, size_t room)
 {
-    struct declared d;
+    struct declared d = nothing_yet();
     size_t size = 0;
     unsigned lines = below(g, 6);
 
-    memset(&d, 0, sizeof d);
     g->plain = true;
     g->faulty = false;
     while (lines--) {
@@ -2151,6 +2519,21 @@ static size_t place_in_store(const struct generator *g, unsigned i, size_t at)
     return 256u * portion + at;
 }
 
+/* A byte of a format in a form, for one that may be there: the data behind it may be fit no more, or the field come again, or the line be another. */
+static void damage_recorded_format(struct generator *g)
+{
+    static const char bytes[] = "yYmMdD24eEnNhHsS-:0,\" TSDTX";
+    static uint8_t text[8192];
+    unsigned i = below(g, g->entries);
+    size_t length = entry(g, i)[0] == FORM || entry(g, i)[0] == RECORDING ? form_bytes(g, i, text, sizeof text) : 0;
+
+    for (size_t at = 0; at + 4 < length; at++) {
+        bool format = (at == 0 || text[at - 1] == '\n') && text[at] == 'T';
+        if (format && chance(g, 60))
+            add_poke(g, STORE, place_in_store(g, i, at + below(g, text[at + 1] == 'D' ? 10 : 7)), (uint8_t)bytes[below(g, sizeof bytes - 1)]);
+    }
+}
+
 /* Another width, sign or first digit of the step where the active form declares the counter: `Cn,w,+s`. */
 static void damage_declaration(struct generator *g, const struct view *v, unsigned n)
 {
@@ -2201,6 +2584,14 @@ static void damage_something(struct generator *g)
 {
     unsigned k = below(g, 100);
 
+    if (moment_due(g, 22)) {
+        damage_moment(g);
+        return;
+    }
+    if (moment_due(g, 10)) {
+        damage_recorded_format(g);
+        return;
+    }
     if (k < 14)
         damage_session(g);
     else if (k < 22)
@@ -2266,6 +2657,16 @@ static void repair(struct generator *g)
 
 /* ---- lengths ---- */
 
+/* An image's length before the last of paper 02's requests that lengthened it, or about that. */
+static unsigned former_image(struct generator *g)
+{
+    bool exactly = chance(g, 60);
+
+    if (g->small)
+        return exactly ? 65 : between(g, 64, 69);
+    return exactly ? CLOCK_AT : chance(g, 50) ? between(g, 64, 69) : between(g, IMAGE - 5, IMAGE + 2);
+}
+
 /* A lent length that is not the session's: wrong, or right for another memory. Never more than there is room for. */
 static void other_length(struct generator *g, struct event *e, enum slice s)
 {
@@ -2280,7 +2681,7 @@ static void other_length(struct generator *g, struct event *e, enum slice s)
     case 2: n = n >= units[s] ? n - units[s] : 0; break;
     case 3: n += 1; break;
     case 4: n = n >= 1 ? n - 1 : 0; break;
-    default: n = s == SESSION && chance(g, 80) ? (chance(g, 60) ? 65 : between(g, 64, 69)) : below(g, (unsigned)most + 1); break;
+    default: n = s == SESSION && chance(g, 80) ? former_image(g) : below(g, (unsigned)most + 1); break;
     }
     e->length[s] = n < most ? n : most;
     if (s == STORE && chance(g, 50))
@@ -2569,10 +2970,27 @@ static void damage_for_questions(struct generator *g)
         }
 }
 
-/* Before some calls. Where damage is under way already the questions are asked of that; of memory that is great mostly as it stands. */
+/* A moment near an end for moves that cross it, or a clock that is none; other damage says nothing to them. */
+static void damage_for_moves(struct generator *g)
+{
+    g->poke_count = g->poke_next = 0;
+    g->passing = true;
+    if (chance(g, 65))
+        poke_clock(g, some_moment(g));
+    else if (chance(g, 75))
+        damage_clock(g);
+    else if (chance(g, 50))
+        damage_format(g);
+    else
+        damage_session(g);
+}
+
+/* Before some calls. Where damage is under way already the questions are asked of that; of memory that is great mostly as it stands. Moves of the clock come
+ * oftener where the damage is the clock's. */
 static void plan_questions(struct generator *g)
 {
     unsigned most = g->portions + g->entries > 300 ? 30 : 45;
+    bool clock_damaged = g->damaged && g->undo_count > 0 && g->undo[0].slice == SESSION && g->undo[0].at >= CLOCK_AT;
 
     g->call_due = true;
     change_chances(g);
@@ -2581,6 +2999,10 @@ static void plan_questions(struct generator *g)
         g->questions_left = between(g, 1, g->small ? 2 : 4);
         if (!g->damaged && chance(g, most))
             damage_for_questions(g);
+    } else if (moment_due(g, clock_damaged ? 70 : 8)) {
+        g->moves_left = between(g, 1, 3);
+        if (!g->damaged && chance(g, 60))
+            damage_for_moves(g);
     }
     change_chances(g);
 }
@@ -2661,10 +3083,55 @@ static void question_event(struct generator *g, struct event *e)
     change_chances(g);
 }
 
-/* The call that is due, with questions before it and what belongs to them. */
+/* Seconds of the day so far. */
+static unsigned second_now(const struct generator *g)
+{
+    const uint8_t *clock = g->desk->bytes[SESSION] + CLOCK_AT;
+
+    return clock[3] * 3600u + clock[4] * 60u + clock[5];
+}
+
+/* None, a few, as many as end a minute, an hour or the day, one more or fewer, a whole day; and more than there may be, such as 32 bits make another of. */
+static uint64_t some_seconds(struct generator *g)
+{
+    static const uint64_t edges[] = {0, 1, 59, 60, 61, 3599, 3600, 3601, 86398, 86399, 86400, 86400, 86401, 86402, 86460, 172800, 65535, 65536, 131072, 0x100000000, 0x100000001, 0x100015180,
+                                     0x8000000000000000, 0xffffffffffffffff};
+    unsigned now = second_now(g), unit[] = {60, 3600, 86400}, k = below(g, 3);
+
+    if (chance(g, 35))
+        return (uint64_t)(unit[k] - now % unit[k]) + below(g, 3) - (now % unit[k] == unit[k] - 1 ? 0 : below(g, 2));
+    if (chance(g, 45))
+        return edges[below(g, sizeof edges / sizeof edges[0])];
+    return chance(g, 95) ? between(g, 0, chance(g, 40) ? 100 : 86400) : random_number(g);
+}
+
+static void move_event(struct generator *g, struct event *e)
+{
+    change_chances(g);
+    e->kind = CALL;
+    e->call = g->last_call = CLOCK;
+    e->seconds = some_seconds(g);
+    memcpy(e->length, g->length, sizeof e->length);
+    if (chance(g, 5))
+        other_length(g, e, SESSION);
+    g->moves_left--;
+    change_chances(g);
+}
+
+/* What a move has made of the clock stays when pokes are put back: half of it might be no clock. */
+static void keep_moved_clock(struct generator *g)
+{
+    unsigned count = g->passing ? g->poke_count : g->undo_count;
+
+    for (unsigned i = 0; i < count; i++)
+        if (g->undo[i].slice == SESSION && g->undo[i].at >= CLOCK_AT && g->undo[i].at < DATE_FORMAT_AT)
+            g->undo[i].byte = g->desk->bytes[SESSION][g->undo[i].at];
+}
+
+/* The call that is due, with questions or moves of the clock before it and what belongs to them. */
 static void due_event(struct generator *g, struct event *e)
 {
-    if (g->poke_next == g->poke_count && g->questions_left == 0 && g->passing) {
+    if (g->poke_next == g->poke_count && g->questions_left + g->moves_left == 0 && g->passing) {
         put_back(g, g->poke_count);
         g->passing = false;
     }
@@ -2673,6 +3140,8 @@ static void due_event(struct generator *g, struct event *e)
         e->passing = true;
     } else if (g->questions_left > 0)
         question_event(g, e);
+    else if (g->moves_left > 0)
+        move_event(g, e);
     else {
         g->call_due = false;
         call_event(g, e);
@@ -2731,7 +3200,9 @@ void next_event(struct generator *g, struct event *e)
 
 void tell_answer(struct generator *g, unsigned answer)
 {
-    if (g->last_call == FITS)
+    if (g->last_call == CLOCK && answer == 0)
+        keep_moved_clock(g);
+    if (g->last_call == FITS || g->last_call == CLOCK)
         return;
     if (g->calls_to_repair > 0)
         g->calls_to_repair--;

@@ -12,7 +12,8 @@
 enum event_kind { SET_UP, NEW_FONT, POKE, CALL };
 
 /* SET_UP: room and fill of all slices. NEW_FONT: bytes, count. POKE: one byte of a slice; a passing one is put back before the next call that
- * is no question. CALL: the call, its lengths, for COMMAND the input in bytes, count, and for FITS the name there and the question. */
+ * is no question and no move of the clock. CALL: the call, its lengths, for COMMAND the input in bytes, count, for FITS the name there and the question,
+ * and for CLOCK the seconds. */
 struct event {
     enum event_kind kind;
     size_t room[SLICES];
@@ -26,6 +27,7 @@ struct event {
     const uint8_t *bytes;
     size_t count;
     struct question question;
+    uint64_t seconds;
 };
 
 enum { MOST_POKES = 5000, MOST_INPUT = 70000, MOST_FONT = 30000 };
@@ -73,10 +75,10 @@ struct generator {
     unsigned number_before;          /* the number of free portions before the last call */
     unsigned portions_before;        /* how many portions were lent before the damage */
 
-    /* Questions whether it fits come before a call that is due, by chances of their own: the other calls are the same without them. */
+    /* Questions whether it fits and moves of the clock come before a call that is due, by chances of their own. */
     uint64_t asking_state;
-    bool call_due, passing;          /* passing: the pokes are put back when the questions are asked */
-    unsigned questions_left;
+    bool call_due, passing;          /* passing: the pokes are put back when the questions are asked and the moves made */
+    unsigned questions_left, moves_left;
     struct line asked;               /* the name that most of them ask for */
 };
 

@@ -12,8 +12,8 @@
  * some well-formed line starts with all the bytes passed so far: a piece that is begun rightly can be ended (a number by
  * no more digits, a text by its quote, a word or modifier by its rest), and after each piece the others can follow. So a
  * fault with bytes left means that no well-formed line starts so, and the piece is at fault; a fault with none left means
- * that one does, and the place is the LF's. Two things must not be passed for this to hold: a tenth digit, and the C after
- * `B,` as a place when no comma stands behind it.
+ * that one does, and the place is the LF's. Three things must not be passed for this to hold: a tenth digit, the C after
+ * `B,` as a place when no comma stands behind it, and the first letter of a format's field that tells what an earlier one told.
  */
 #include <string.h>
 
@@ -230,17 +230,24 @@ static void element(struct reader *r, struct element *e)
 
     begin(r);
     e->at = r->place;
-    if (byte == '"') {
+    switch (byte) {
+    case '"':
         e->kind = '"';
         e->text = quoted(r, &e->length);
-    } else if (byte == 'V' || byte == 'C') {
+        break;
+    case 'V':
+    case 'C':
         e->kind = (char)byte;
         pass(r);
         e->number = (uint8_t)(next(r) - '0');
         letter(r, "0123456789");
         modifier(r, e);
-    } else {
-        fault(r);
+        break;
+    case 'T':  /* "These two elements take no modifier" */
+        pass(r);
+        e->kind = letter(r, "DT");
+        break;
+    default: fault(r); break;
     }
 }
 
@@ -281,6 +288,82 @@ static void bar_type(struct reader *r, struct command *c)
     case '1': c->type = CODE_128; break;
     }
     expect(r, ',');
+}
+
+/* ---- formats ---- */
+
+/* One of certain capitals or its small letter, else [6]; gives the capital. Inside the piece at hand, and copied as it is written. */
+static char either_case(struct reader *r, const char *allowed)
+{
+    int byte = next(r);
+    char found = byte > 0 ? (char)capital((uint8_t)byte) : 0;
+
+    if (found == 0 || !strchr(allowed, found)) {
+        fault(r);
+        return 0;
+    }
+    pass(r);
+    return found;
+}
+
+/* The first letter of a field: one of those left. It alone says what the field tells, so it is taken from them. */
+static char field_letter(struct reader *r, char *left)
+{
+    char found;
+
+    begin(r);
+    found = either_case(r, left);
+    if (found != 0) {
+        char *at = strchr(left, found);
+        memmove(at, at + 1, strlen(at));
+    }
+    return found;
+}
+
+/* Y2, Y4, ME, MN or DD. */
+static uint8_t date_field(struct reader *r, char *left)
+{
+    switch (field_letter(r, left)) {
+    case 'Y': return either_case(r, "24") == '2' ? Y2 : Y4;
+    case 'M': return either_case(r, "EN") == 'E' ? ME : MN;
+    case 'D': either_case(r, "D"); return DD;
+    default: return 0;
+    }
+}
+
+static uint8_t time_field(struct reader *r, char *left)
+{
+    switch (field_letter(r, left)) {
+    case 'H': return HOUR;
+    case 'M': return MINUTE;
+    case 'S': return SECOND;
+    default: return 0;
+    }
+}
+
+/* "one separator byte between fields", "neither space nor quote": any other, so also a letter, a digit or a comma. */
+static uint8_t separator(struct reader *r)
+{
+    int byte = next(r);
+
+    begin(r);
+    if (byte <= ' ' || byte > '~' || byte == '"') {
+        fault(r);
+        return 0;
+    }
+    pass(r);
+    return (uint8_t)byte;
+}
+
+/* "one to three fields", of which the letters left tell which there are. Behind the third nothing may stand. */
+static void format(struct reader *r, struct command *c, char left[4], uint8_t (*field)(struct reader *, char *))
+{
+    memset(c->format, 0, FORMAT);
+    c->format[0] = field(r, left);
+    for (unsigned i = 1; i < FORMAT && r->place < r->length; i += 2) {
+        c->format[i] = separator(r);
+        c->format[i + 1] = field(r, left);
+    }
 }
 
 /* ---- one function for each group of commands ---- */
@@ -453,6 +536,33 @@ static void line_word(struct reader *r, struct command *c)
     }
 }
 
+/* `TSm,d,y,h,m,s`. "d is judged against month and year only when these are in their limits; then the day is at fault." Of the fields read by then
+ * none is outside its limits, so the day is the leftmost that may be. */
+static void clock_line(struct reader *r, struct command *c)
+{
+    static const uint32_t date[3][2] = {{1, 12}, {1, 31}, {0, 99}}, time[3][2] = {{0, 23}, {0, 59}, {0, 59}};
+    unsigned day_at = 0;
+
+    c->word = W_TS;
+    for (unsigned i = 0; i < 3; i++) {
+        c->n[i] = number(r, date[i][0], date[i][1]);
+        comma(r);
+        day_at = i == 0 ? r->place : day_at;
+    }
+    if (r->verdict.answer == TAKEN && c->n[1] > days_of(c->n[2], c->n[0]))
+        r->verdict = (struct verdict){OUTSIDE_LIMITS, day_at};
+    numbers(r, c->n + 3, 3, time);
+}
+
+static void time_word(struct reader *r, struct command *c)
+{
+    switch (letter(r, "SDT")) {
+    case 'S': clock_line(r, c); break;
+    case 'D': c->word = W_TD; format(r, c, (char[]){"YMD"}, date_field); break;
+    case 'T': c->word = W_TT; format(r, c, (char[]){"HMS"}, time_field); break;
+    }
+}
+
 static void variable_word(struct reader *r, struct command *c)
 {
     if (next(r) == 'C') {
@@ -489,7 +599,7 @@ static void one_number(struct reader *r, struct command *c, enum word word, uint
  * letters are the longest that match": after V a C is VC, so what follows it is past the last field. */
 static void whole_line(struct reader *r, struct command *c, unsigned rows)
 {
-    switch (letter(r, "QqNRZLXABFGVC?P")) {
+    switch (letter(r, "QqNRZLXABFGVC?PT")) {
     case 'Q': length_line(r, c, rows); break;
     case 'q': one_number(r, c, W_q, 80, 608); break;
     case 'N': c->word = W_N; break;
@@ -505,6 +615,7 @@ static void whole_line(struct reader *r, struct command *c, unsigned rows)
     case 'C': counter_line(r, c); break;
     case '?': ask_line(r, c); break;
     case 'P': one_number(r, c, W_P, 1, 65535); break;
+    case 'T': time_word(r, c); break;
     }
 }
 

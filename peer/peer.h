@@ -1,9 +1,10 @@
 /* peer.h: the independent station, written in C from the papers alone, and what its parts say to one another.
  *
- * It stands beside the proved station so that both can be run on the same calls. The four calls at the end are
- * station.h's under the names peer_open, peer_command, peer_label and peer_fits. Numbers in square brackets are answers.
+ * It stands beside the proved station so that both can be run on the same calls. The five calls at the end are
+ * station.h's under the names peer_open, peer_command, peer_label, peer_fits and peer_clock. Numbers in square brackets are answers.
  *
  *   lines.c    the written form of a line, its limits, its normal form, the place of a fault
+ *   clock.c    date and time: the clock, how it is moved, formats and what they show
  *   data.c     elements, declarations, fit data, the bytes that data shows, how counters go on
  *   store.c    portions, links, chains, directory entries, names, listings
  *   picture.c  legal pictures and their drawing
@@ -30,7 +31,7 @@ enum answer {
 
 enum {
     ROW_BYTES = 76, MOST_ROWS = 4000, PORTION = 256, MOST_PORTIONS = 2024, ENTRY = 16, MOST_ENTRIES = 512,
-    FIELD = 34, VALUE_FIELDS = 10, VALUES = 340, IMAGE = 67, CHAIN_END = 65534, FREE = 65535, NO_FORM = 65535,
+    FIELD = 34, VALUE_FIELDS = 10, VALUES = 340, IMAGE = 83, CHAIN_END = 65534, FREE = 65535, NO_FORM = 65535,
     MOST_LINE = 255, MOST_DATA = 128, MOST_PICTURE = 32768, LEAST_PICTURE = 129, PICTURE_HEAD = 128,
     ANSWERS = 24
 };
@@ -42,12 +43,28 @@ struct counter {
     uint32_t value;
 };
 
+/* Year 0 to 99 is 2000 to 2099; all six as they are written, a month and a day from 1. */
+struct clock {
+    uint8_t year, month, day, hour, minute, second;
+};
+
+/* Field, separator, field, separator, field; what is absent is 0, and only the last two or the last four may be. */
+enum { FORMAT = 5 };
+enum { Y2 = 1, Y4, ME, MN, DD };   /* fields of a date */
+enum { HOUR = 1, MINUTE, SECOND }; /* fields of a time */
+
+struct formats {
+    uint8_t date[FORMAT], time[FORMAT];
+};
+
 struct session {
     uint16_t width, length;
     uint8_t turn;
     uint16_t origin_x, origin_y, active, owed, drawn;
     struct counter counters[10];
     uint16_t free_portions;  /* of the store that is lent */
+    struct clock clock;
+    struct formats formats;  /* of commands outside forms */
 };
 
 /* A label call lends these to be read only; it casts and never writes. */
@@ -73,7 +90,7 @@ struct verdict {
 
 enum word {
     W_Q, W_q, W_N, W_R, W_Z, W_LO, W_LW, W_LE, W_LS, W_LSW, W_LSE, W_X, W_A, W_B, W_GG, W_FS, W_FE, W_FR, W_FK, W_FI, W_FP, W_GM, W_GK, W_GI,
-    W_V, W_C, W_ASK_V, W_ASK_C, W_VC, W_P
+    W_V, W_C, W_ASK_V, W_ASK_C, W_VC, W_P, W_TS, W_TD, W_TT
 };
 
 enum bar_type { CODE_39, INTERLEAVED, EAN_13, CODE_128 };
@@ -81,7 +98,7 @@ enum bar_type { CODE_39, INTERLEAVED, EAN_13, CODE_128 };
 /* One element of data. text: a quoted part of the line; otherwise what names a variable or counter and its modifier. */
 struct element {
     unsigned at;         /* its first byte in the line */
-    char kind;           /* '"', 'V' or 'C' */
+    char kind;           /* '"', 'V' or 'C'; 'D' of TD and 'T' of TT */
     uint8_t number;      /* which variable or counter */
     char modifier;       /* 0, 'L', 'R' or 'M' */
     uint32_t place, n;   /* of the modifier; place only for M */
@@ -106,6 +123,7 @@ struct command {
     bool every;          /* "*" after FK or GK */
     const uint8_t *text; /* the text of ?V: a part of the line */
     unsigned text_length;
+    uint8_t format[FORMAT]; /* of TD and TT */
     unsigned elements;
     struct element element[128]; /* an element takes two bytes of a line or more */
 };
@@ -117,6 +135,23 @@ struct normal_line {
 
 /* Reads a line without its LF: 0, [6] or [7]. rows is the N of Q's limit. With [7] all numbers are there too. */
 struct verdict read_line(const uint8_t *line, unsigned length, unsigned rows, struct command *c, struct normal_line *normal);
+
+/* ---- clock.c ---- */
+
+extern const struct formats example_formats;  /* `dd-me-y4` and `h:m:s` */
+
+unsigned days_of(unsigned year, unsigned month);
+bool legal_clock(const struct clock *c);
+bool legal_formats(const struct formats *f);
+
+/* The bytes that a format shows, at most 11 of a date and 8 of a time. */
+unsigned show_date(const uint8_t format[FORMAT], const struct clock *c, uint8_t *out);
+unsigned show_time(const uint8_t format[FORMAT], const struct clock *c, uint8_t *out);
+
+/* The clock's six bytes, as the image has them. */
+struct clock read_clock(const uint8_t *bytes);
+void write_clock(const struct clock *c, uint8_t *bytes);
+enum { CLOCK_AT = 67, DATE_FORMAT_AT = 73, TIME_FORMAT_AT = 78 };  /* in the image */
 
 /* ---- data.c ---- */
 
@@ -132,10 +167,15 @@ struct declared_counter {
     int32_t step;
 };
 
+/* What holds behind the lines so far. */
 struct declarations {
     struct variable v[10];
     struct declared_counter c[10];
+    struct formats formats;
 };
+
+/* Nothing declared, and these formats. */
+struct declarations nothing_declared(const struct formats *f);
 
 /* Where a counter stands so many moves after a value, in its range or not. */
 int64_t counter_after(const struct declared_counter *d, uint32_t value, unsigned moves);
@@ -143,16 +183,24 @@ int64_t counter_after(const struct declared_counter *d, uint32_t value, unsigned
 /* "0 to 10^w-1" */
 bool in_range(const struct declared_counter *d, int64_t number);
 
-/* What 12 to 15 say of a line of a form, with d the declarations before it; a taken V or C is added to d. */
+/* What 12 to 15 say of a line of a form, with d the declarations before it; a taken V or C is added to d, and TD and TT put their format there. */
 struct verdict judge_line(const struct command *c, struct declarations *d);
 
 bool text_fits(const struct variable *v, const uint8_t *text, unsigned length);
 bool stored_value_fits(const struct variable *v, const uint8_t *field);
 void store_value(const struct variable *v, const uint8_t *text, unsigned length, uint8_t *field);
 
+/* What data is shown from. */
+struct source {
+    const struct declarations *declared;
+    const uint8_t *values;
+    const struct counter *counters;
+    struct clock clock;
+    struct formats formats;
+};
+
 /* The bytes that data shows, at most 128 of them. */
-unsigned show_data(const struct command *c, const struct declarations *d, const uint8_t *values,
-                   const struct counter *counters, uint8_t *out);
+unsigned show_data(const struct command *c, const struct source *from, uint8_t *out);
 
 /* ---- store.c ---- */
 
@@ -318,5 +366,9 @@ uint8_t peer_fits(const uint8_t *session, size_t session_len,
                   uint8_t kind,
                   const uint8_t *name, size_t name_len,
                   uint64_t size);
+
+/* ---- clock.c: the fifth ---- */
+
+uint8_t peer_clock(uint8_t *session, size_t session_len, uint64_t seconds);
 
 #endif

@@ -12,6 +12,7 @@
  * are many; a reader that says "too soon" there fails. */
 #include "pointing.h"
 
+#include <ctype.h>
 #include <regex.h>
 #include <stdio.h>
 #include <stdlib.h>
@@ -25,7 +26,8 @@ static const char *const samples[] = {
     "A0,0,0,1,1,R,\"a\"C0\"b\"", "B0,0,0,E30,2,3,50,N,\"123456789012\"", "B0,0,0,3,2,3,50,B,C0", "B0,0,0,3,2,3,50,B,C,C0",
     "B0,0,0,3,2,3,50,B,R,\"R,\"", "B0,0,0,1,2,3,50,B,V0M1.2", "B0,0,0,2,2,3,50,N,C0R1", "GG0,0,\"Name\"", "FS\"Test\"", "FE", "FR\"Test\"", "FK\"*\"",
     "FP\"Test\"", "FI", "GI", "GK\"Name\"", "GM\"Name\",300", "V0,5,L,\"Name\"", "C0,02,+1,\"NO\"", "C0,2,-99999,\"\"", "C1,123456789,1,\"\"",
-    "?V0,\"ABCDE\"", "?C0,99", "VC", "P2"};
+    "?V0,\"ABCDE\"", "?C0,99", "VC", "P2", "TS6,15,2,14,35,0", "TDme-dd-y4", "TDY2,MN,DD", "TDdd.y4/mN", "TDMe", "TDy4-dd", "TDme-dd", "TTh:m:s", "TTSmH", "TTs-h",
+    "A0,0,0,1,1,N,\"Date: \"TD\" \"TT", "B0,0,0,2,2,3,50,B,TD"};
 
 enum { SAMPLES = sizeof samples / sizeof samples[0] };
 
@@ -33,7 +35,12 @@ enum { SAMPLES = sizeof samples / sizeof samples[0] };
 
 #define NUMBER "[0-9]{1,9}"
 #define TEXT "\"[ !#-~]*\""
-#define DATA "(" TEXT "|[VC][0-9]([LR]" NUMBER "|M" NUMBER "[.]" NUMBER ")?)+"
+#define DATA "(" TEXT "|[VC][0-9]([LR]" NUMBER "|M" NUMBER "[.]" NUMBER ")?|T[DT])+"
+
+/* One, two or three of a, b and c, each at most once, in every order, with one separator between two. */
+#define BETWEEN "[!#-~]"
+#define LEADS(a, b, c) a "(" BETWEEN "(" b "(" BETWEEN c ")?|" c "(" BETWEEN b ")?))?"
+#define FORMATS(a, b, c) "(" LEADS(a, b, c) "|" LEADS(b, c, a) "|" LEADS(c, a, b) ")"
 
 static bool well_formed(const uint8_t *line, unsigned length)
 {
@@ -41,7 +48,8 @@ static bool well_formed(const uint8_t *line, unsigned length)
         "^(Q" NUMBER "," NUMBER "|q" NUMBER "|N|R" NUMBER "," NUMBER "|Z[TB]|L[OEW]" NUMBER "(," NUMBER "){3}|(X|LS[EW]?)" NUMBER "(," NUMBER "){4}"
         "|A" NUMBER "(," NUMBER "){4},[NR]," DATA "|B" NUMBER "(," NUMBER "){2},(3|2|E30|1)(," NUMBER "){3},(N|B|B,C|B,R)," DATA
         "|GG" NUMBER "," NUMBER "," TEXT "|F[SRKP]" TEXT "|F[EI]|GM" TEXT "," NUMBER "|GK" TEXT "|GI|V" NUMBER "," NUMBER ",[LRCNZ]," TEXT
-        "|C" NUMBER "," NUMBER ",[+-]?" NUMBER "," TEXT "|[?]V" NUMBER "," TEXT "|[?]C" NUMBER "," NUMBER "|VC|P" NUMBER ")$";
+        "|C" NUMBER "," NUMBER ",[+-]?" NUMBER "," TEXT "|[?]V" NUMBER "," TEXT "|[?]C" NUMBER "," NUMBER "|VC|P" NUMBER
+        "|TS" NUMBER "(," NUMBER "){5}|TD" FORMATS("[Yy][24]", "[Mm][EeNn]", "[Dd][Dd]") "|TT" FORMATS("[Hh]", "[Mm]", "[Ss]") ")$";
     static regex_t compiled;
     static bool ready;
     char text[MOST_LINE + 1];
@@ -162,6 +170,10 @@ static bool pass_element(struct rest *r)
 
     if (byte_at(r, 0) == '"')
         return pass_text(r);
+    if (byte_at(r, 0) == 'T' && (byte_at(r, 1) == 'D' || byte_at(r, 1) == 'T')) {
+        r->at += 2;
+        return true;
+    }
     if ((byte_at(r, 0) != 'V' && byte_at(r, 0) != 'C') || byte_at(r, 1) < '0' || byte_at(r, 1) > '9')
         return false;
     switch (byte_at(r, 2)) {
@@ -200,6 +212,38 @@ static bool pass_line_word(struct rest *r)
     return true;
 }
 
+/* Which of these words, all of so many letters, stands here in either case. */
+static const char *word_here(const struct rest *r, const char *words, unsigned letters)
+{
+    for (; *words; words += letters) {
+        unsigned same = 0;
+        while (same < letters && byte_at(r, same) > 0 && toupper(byte_at(r, same)) == words[same])
+            same++;
+        if (same == letters)
+            return words;
+    }
+    return NULL;
+}
+
+/* Three fields at most, none of which begins as one before it, and a separator between two. */
+static bool pass_format(struct rest *r, const char *words, unsigned letters)
+{
+    char seen[4] = "";
+
+    for (unsigned count = 0; count < 3 && (count == 0 || r->at < r->length); count++) {
+        const char *word;
+        if (count > 0 && (byte_at(r, 0) < 33 || byte_at(r, 0) > 126 || byte_at(r, 0) == '"'))
+            return false;
+        r->at += count > 0;
+        word = word_here(r, words, letters);
+        if (!word || strchr(seen, *word))
+            return false;
+        seen[count] = *word;
+        r->at += letters;
+    }
+    return true;
+}
+
 static bool pass_piece(struct rest *r, char piece)
 {
     switch (piece) {
@@ -211,6 +255,8 @@ static bool pass_piece(struct rest *r, char piece)
     case 'b': return pass_line_word(r);
     case 'q': return pass_text(r);
     case 'd': return pass_data(r);
+    case 'f': return pass_format(r, "Y2Y4MEMNDD", 2);
+    case 'g': return pass_format(r, "HMS", 1);
     default: return byte_at(r, 0) == (uint8_t)piece && ++r->at;
     }
 }
@@ -222,7 +268,7 @@ static unsigned first_at_fault(const uint8_t *line, unsigned length)
         {"LSE", "n,n,n,n,n"}, {"LSW", "n,n,n,n,n"}, {"LS", "n,n,n,n,n"}, {"VC", ""}, {"?V", "n,q"}, {"?C", "n,n"}, {"LO", "n,n,n,n"}, {"LE", "n,n,n,n"},
         {"LW", "n,n,n,n"}, {"GG", "n,n,q"}, {"GM", "q,n"}, {"GK", "q"}, {"GI", ""}, {"FS", "q"}, {"FE", ""}, {"FR", "q"}, {"FK", "q"}, {"FI", ""}, {"FP", "q"}, {"ZT", ""}, {"ZB", ""},
         {"Q", "n,n"}, {"q", "n"}, {"N", ""}, {"R", "n,n"}, {"X", "n,n,n,n,n"}, {"A", "n,n,n,n,n,m,d"}, {"B", "n,n,n,t,n,n,n,b,d"},
-        {"V", "n,n,j,q"}, {"C", "n,n,s,q"}, {"P", "n"}};
+        {"V", "n,n,j,q"}, {"C", "n,n,s,q"}, {"P", "n"}, {"TS", "n,n,n,n,n,n"}, {"TD", "f"}, {"TT", "g"}};
 
     for (unsigned i = 0; i < sizeof commands / sizeof commands[0]; i++) {  /* the longest letters first */
         struct rest r = {line, length, (unsigned)strlen(commands[i][0])};
@@ -258,7 +304,7 @@ static void tell(struct told *t, const uint8_t *line, unsigned length)
 
 static void change_sample(struct told *t, const char *sample, unsigned length, unsigned place)
 {
-    static const char put_in[] = ",\"0LRMVCN +-.EB3xSW";
+    static const char put_in[] = ",\"0LRMVCN +-.EB3xSWTDymdhs24";
     uint8_t line[MOST_LINE];
 
     memcpy(line, sample, length);
@@ -303,7 +349,9 @@ struct told short_tails(void)
     } tails[] = {{"", "QNLOVC?FGSIZT1,\"", 3}, {"L", "SEWO1,x", 5}, {"LS1,2,3,4,", "E0,x9", 4},
                  {"B0,0,0,", "E320,1N\x01", 5}, {"B0,0,0,3,2,3,50,", "NBCR,0\"V", 5}, {"A0,0,0,1,1,N,", "VC1LRM.\",", 5},
                  {"A0,0,0,1,1,", "NR,\"V0", 5}, {"C0,1,", "+-1,\"x", 5}, {"V0,1,", "LZ,\"1 ", 5}, {"GM", "\",1a", 6}, {"R12345678", "9,0x", 6},
-                 {"FK", "\"*a\x7f", 5}, {"A0,0,0,1,1,N,V0M12345678", "9.12", 5}, {"C0,1,-12345678", "9,\"", 5}, {"?C0,12345678", "90,", 4}};
+                 {"FK", "\"*a\x7f", 5}, {"A0,0,0,1,1,N,V0M12345678", "9.12", 5}, {"C0,1,-12345678", "9,\"", 5}, {"?C0,12345678", "90,", 4}, {"T", "SDTydh2 ", 4},
+                 {"TD", "yY24mMeNdD-", 5}, {"TDdd", "-\"m e1y2", 5}, {"TDme-", "mMdDyY24, ", 5}, {"TDy2.mn", "/dDyM4\" ", 5}, {"TT", "hHmMsS: \"", 5}, {"TTh:m", "hms:- x", 5}, {"A0,0,0,1,1,N,", "TDVt0L\"", 5},
+                 {"TS1,2,", "1,x", 7}, {"TS1,2,3,4,5,12345678", "9,0", 4}};
     struct told t = {0, 0, 0};
     uint8_t line[MOST_LINE];
 

@@ -31,6 +31,15 @@ static unsigned next_number(void)
     return low | next_byte() << 8;
 }
 
+static uint64_t next_long_number(void)
+{
+    uint64_t number = 0;
+
+    for (unsigned i = 0; i < 64; i += 8)
+        number |= (uint64_t)next_byte() << i;
+    return number;
+}
+
 static const uint8_t *next_bytes_of(size_t count)
 {
     const uint8_t *at = bytes + place;
@@ -73,16 +82,16 @@ static void make_call(struct desk *d, enum call_kind kind, size_t font_length)
         length[told[i]] = next_number();
     if (kind == FITS) {
         d->question.kind = (uint8_t)next_byte();
-        d->question.size = 0;
-        for (unsigned i = 0; i < 64; i += 8)
-            d->question.size |= (uint64_t)next_byte() << i;
+        d->question.size = next_long_number();
     }
+    if (kind == CLOCK)
+        d->seconds = next_long_number();
     if (kind == COMMAND || kind == FITS) {
         length[INPUT] = next_number();
         put_on_desk(d, INPUT, next_bytes_of(length[INPUT]), length[INPUT]);
     }
     answer = call_station(&peer_station, d, kind, length);
-    if (kind != FITS)
+    if (kind != FITS && kind != CLOCK)
         memcpy(counts, d->bytes[COUNTS], sizeof counts);
     printf("%u %u %" PRIu64 " %" PRIu64 " %" PRIu64 " %08" PRIx32 "\n", ++calls, answer, counts[0], counts[1], counts[2],
            digest_of(d));
@@ -112,6 +121,7 @@ int main(int argc, char **argv)
         case 'C': make_call(&d, COMMAND, font_length); break;
         case 'L': make_call(&d, LABEL, font_length); break;
         case 'W': make_call(&d, FITS, font_length); break;
+        case 'T': make_call(&d, CLOCK, font_length); break;
         default: fprintf(stderr, "no such record at %zu\n", place - 1); return 1;
         }
     }

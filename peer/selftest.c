@@ -1,15 +1,18 @@
 /* selftest.c: paper 01's sample session, as paper 02 changed it, and its ten proof cases, as far as the calls show them,
  * paper 02's line under the bars, places of refusals, counters that run out, two kinds of full, the number of free portions, the
- * question whether it fits, slanted lines and the shortest Code 128, and drawing dot by dot.
+ * question whether it fits, slanted lines, the shortest Code 128, clock and formats and what they show, and drawing dot by dot.
  *
  *   selftest                   runs all of them
  *   selftest bars TYPE W DATA  writes the modules of one symbol, narrow 1 and wide W, as 1 (bar) and 0, for zint-check
  *   selftest bars TYPE W       the same of each line of standard input
  *   selftest label             reads standard input as the sample session's program does
  */
+#define _DEFAULT_SOURCE  /* for timegm */
+#include <ctype.h>
 #include <stdio.h>
 #include <stdlib.h>
 #include <string.h>
+#include <time.h>
 
 #include "desk.h"
 #include "peer.h"
@@ -1590,7 +1593,7 @@ static void number_at_opening(void)
     b.length[VALUE]--;
     well = call_station(&peer_station, &b.desk, OPEN, b.length) == 1 && memcmp(image, zeros, IMAGE) == 0 && image[IMAGE] == 0xa5;
     b.length[VALUE]++;
-    check("a refused opening leaves 67 zeros, which are not sound", well && is_refused(&b));
+    check("a refused opening leaves 83 zeros, which are not sound", well && is_refused(&b));
     clear_away(&b.desk);
 }
 
@@ -1608,7 +1611,7 @@ static void image_lengths(struct bench *b)
         wrong += digest_of(b) != before;
     }
     b->length[SESSION] = IMAGE;
-    check("an image of another length than 67 is 1, 65 too", wrong == 0 && leaves(b, "FS\"F\"", 2));
+    check("an image of another length than 83 is 1, 65 and 67 too", wrong == 0 && leaves(b, "FS\"F\"", 2));
 }
 
 /* Each line from each size of its portion that there can be: one portion less exactly where the line does not end in it. */
@@ -2043,7 +2046,7 @@ static void put_link(struct bench *b, unsigned i, unsigned link)
     b->desk.bytes[LINKS][2 * i + 1] = (uint8_t)(link >> 8);
 }
 
-/* All lengths that there is room for: 69 bytes, 2,026 links, 514 entries. */
+/* All lengths that there is room for: 85 bytes, 2,026 links, 514 entries. */
 static void asked_lengths(struct bench *b)
 {
     unsigned wrong = 0;
@@ -2054,7 +2057,7 @@ static void asked_lengths(struct bench *b)
     before = digest_of(b);
     for (b->length[SESSION] = 0; b->length[SESSION] <= IMAGE + 2; b->length[SESSION]++)
         wrong += question(b, FORM, 0, "A", 1) != (b->length[SESSION] == IMAGE ? 0 : 1);
-    check("1: an image of another length than 67", wrong == 0);
+    check("1: an image of another length than 83", wrong == 0);
     b->length[SESSION] = IMAGE;
     for (b->length[LINKS] = 0; b->length[LINKS] <= 2026; b->length[LINKS]++)
         wrong += question(b, PICTURE, 256, "A", 1) != (b->length[LINKS] >= 1 && b->length[LINKS] <= 2024 ? 0 : 1);
@@ -3225,6 +3228,530 @@ static void shortest_cases(void)
     fit_as_before();
 }
 
+/* ---- the date, written by the station ---- */
+
+static unsigned move(struct bench *b, uint64_t seconds)
+{
+    b->desk.seconds = seconds;
+    return call_station(&peer_station, &b->desk, CLOCK, b->length);
+}
+
+static void put_clock(struct bench *b, const char *six)
+{
+    memcpy(b->desk.bytes[SESSION] + CLOCK_AT, six, 6);
+}
+
+static int clock_is(const struct bench *b, const char *six)
+{
+    return memcmp(b->desk.bytes[SESSION] + CLOCK_AT, six, 6) == 0;
+}
+
+/* Whether the background shows these bytes in the telling font after the line, and nothing else in its first row. */
+static int shows(struct bench *b, const char *line, const char *bytes)
+{
+    memset(b->desk.bytes[BACKGROUND], 0, b->length[BACKGROUND]);
+    return send(b, line) == 0 && row_is(b, BACKGROUND, 0, bytes, (unsigned)strlen(bytes));
+}
+
+static void moment_at_opening(struct bench *b)
+{
+    static const uint8_t opened[] = {0, 1, 1, 0, 0, 0, 5, '-', 3, '-', 2, 1, ':', 2, ':', 3};
+
+    check("opening: 1 January 2000, midnight, dd-me-y4 and h:m:s", memcmp(b->desk.bytes[SESSION] + 67, opened, 16) == 0 && b->desk.bytes[SESSION][83] == 0xa5);
+    check("and shown so", shows(b, "A0,0,0,1,1,N,TD\" \"TT", "01-JAN-2000 00:00:00"));
+    check("the manual's example of TS and TD", send(b, "TS04,2,04,14,10,12") == 0 && clock_is(b, "\4\4\2\16\12\14") && shows(b, "A0,0,0,1,1,N,TD", "02-APR-2004"));
+    check("the manual's example of TT", send(b, "TS1,1,1,15,30,20") == 0 && shows(b, "A0,0,0,1,1,N,TT", "15:30:20"));
+}
+
+/* Of 7 June 2009, 5:04:08. */
+static void formats_by_hand(struct bench *b)
+{
+    static const struct {
+        const char *format, *shown;
+    } told[] = {{"TDy2", "09"}, {"TDY4", "2009"}, {"TDmE", "JUN"}, {"TDMn", "06"}, {"TDdD", "07"}, {"TDy4-me-dd", "2009-JUN-07"}, {"TDdd-me-y4", "07-JUN-2009"}, {"TDME.DD.Y2", "JUN.07.09"}, {"TDmn/y2", "06/09"},
+                {"TDy2ydd", "09y07"}, {"TDdd1mn2y4", "0710622009"}, {"TDdd,me", "07,JUN"}, {"TDy4YmEMDd", "2009YJUNM07"}, {"TDdddmn", "07d06"}, {"TDy2!mn~dd", "09!06~07"}, {"TDy2;mn", "09;06"},
+                {"TTh", "05"}, {"TTM", "04"}, {"TTs", "08"}, {"TTh:m:s", "05:04:08"}, {"TTS.h", "08.05"}, {"TThms", "05m08"}, {"TTmhs", "04h08"}, {"TTHsM", "05s04"}, {"TTs,m,h", "08,04,05"}, {"TTh1m2s", "05104208"},
+                {"TTmMs", "04M08"}};
+    unsigned wrong = 0;
+
+    send(b, "TS6,7,9,5,4,8");
+    for (unsigned i = 0; i < sizeof told / sizeof told[0]; i++)
+        wrong += send(b, told[i].format) != 0 || !shows(b, told[i].format[1] == 'D' ? "A0,0,0,1,1,N,TD" : "A0,0,0,1,1,N,TT", told[i].shown);
+    check("formats of one, two and three fields, by hand", wrong == 0);
+}
+
+static void months_by_hand(struct bench *b)
+{
+    static const char *const names[] = {"JAN", "FEB", "MAR", "APR", "MAY", "JUN", "JUL", "AUG", "SEP", "OCT", "NOV", "DEC"};
+    unsigned wrong = send(b, "TDme") != 0;
+
+    for (unsigned i = 0; i < 12; i++)
+        wrong += send_number(b, "TS%lld,1,0,0,0,0", i + 1) != 0 || !shows(b, "A0,0,0,1,1,N,TD", names[i]);
+    check("the twelve names", wrong == 0);
+}
+
+/* ---- places of TS, TD, TT and their elements ---- */
+
+static void clock_places(struct bench *b)
+{
+    static const struct pointed limits[] = {
+        {"TS0,1,1,1,1,1", 7, 2}, {"TS13,1,1,1,1,1", 7, 2}, {"TS1,0,1,1,1,1", 7, 4}, {"TS1,32,1,1,1,1", 7, 4}, {"TS1,1,100,1,1,1", 7, 6}, {"TS1,1,1,24,1,1", 7, 8}, {"TS1,1,1,1,60,1", 7, 10}, {"TS1,1,1,1,1,60", 7, 12},
+        {"TS2,29,1,1,1,1", 7, 4}, {"TS002,0030,4,1,1,1", 7, 6}, {"TS4,31,0,24,60,60", 7, 4}, {"TS2,30,100,1,1,1", 7, 7}, {"TS2,32,100,1,1,1", 7, 4}, {"TS13,31,0,0,0,0", 7, 2}, {"TS0,32,100,0,0,0", 7, 2},
+        {"TS2,30,99,99,0,0", 7, 4}, {"TS12,31,99,23,59,59", 0, 0}, {"TS1,1,0,0,0,0", 0, 0}, {"TS2,29,96,0,0,0", 0, 0}, {"TS000000012,000000031,000000099,000000023,000000059,000000059", 0, 0}};
+    static const struct pointed form[] = {
+        {"T", 6, 1}, {"TX", 6, 0}, {"Ts1,1,1,1,1,1", 6, 0}, {"tS", 6, 0}, {"T ", 6, 0}, {"TS", 6, 2}, {"TSx", 6, 2}, {"TS,", 6, 2}, {"TS1", 6, 3}, {"TS1,", 6, 4}, {"TS1,1,1,1,1", 6, 11}, {"TS1,1,1,1,1,", 6, 12},
+        {"TS1,1,1,1,1,1,", 6, 13}, {"TS1,1,1,1,1,1 ", 6, 13}, {"TS+1,1,1,1,1,1", 6, 2}, {"TS1,1,-1,1,1,1", 6, 6}, {"TS1234567890,1,1,1,1,1", 6, 2}, {"TS1,1,1,1,1,0000000000", 6, 12}, {"TS1;1,1,1,1,1", 6, 3},
+        {"TS2,30,0,0,0,x", 6, 13}, {"TS13,30,0,0,0,0,0", 6, 15}, {"TS2,30,0,0,0", 6, 12}};
+
+    check("TS: each number in its limits, the day in its month", POINT_SO(b, limits));
+    check("TS: written so, and too soon", POINT_SO(b, form));
+}
+
+static void date_places(struct bench *b)
+{
+    static const struct pointed soon[] = {{"TD", 6, 2}, {"TDy", 6, 3}, {"TDM", 6, 3}, {"TDd", 6, 3}, {"TDy2-", 6, 5}, {"TDy2m", 6, 5}, {"TDy2-m", 6, 6}, {"TDme-y", 6, 6}, {"TDdd-me-", 6, 8}, {"TDdd-me-y", 6, 9}, {"TDmnyD", 6, 6}, {"TDy2dd", 6, 6}};
+    static const struct pointed fields[] = {
+        {"TDx", 6, 2}, {"TD2", 6, 2}, {"TD-", 6, 2}, {"TD y2", 6, 2}, {"TD\"y2\"", 6, 2}, {"TDy3", 6, 2}, {"TDyy", 6, 2}, {"TDy ", 6, 2}, {"TDd\"", 6, 2}, {"TDmm", 6, 2}, {"TDm2", 6, 2}, {"TDd2", 6, 2}, {"TDy2-x", 6, 5},
+        {"TDy2--dd", 6, 5}, {"TDy2de", 6, 5}, {"TDy2-md", 6, 5}, {"TDy2-me-d2", 6, 8}, {"TDddddy2", 6, 5}, {"TDh", 6, 2}};
+    static const struct pointed again[] = {
+        {"TDme-m", 6, 5}, {"TDme-mn", 6, 5}, {"TDME-me", 6, 5}, {"TDy2-y", 6, 5}, {"TDy2-y4", 6, 5}, {"TDY4-y4", 6, 5}, {"TDdd-d", 6, 5}, {"TDdd-DD", 6, 5}, {"TDdd-me-m", 6, 8}, {"TDdd-me-D", 6, 8}, {"TDdd-me-dd", 6, 8},
+        {"TDy2-me-y4", 6, 8}, {"TDme-dd-mn", 6, 8}, {"TDy2-y4 x", 6, 5}};
+    static const struct pointed separators[] = {
+        {"TDy2 dd", 6, 4}, {"TDy2\"dd", 6, 4}, {"TDy2 ", 6, 4}, {"TDy2\"", 6, 4}, {"TDy2\x7f" "dd", 6, 4}, {"TDy2\x1f", 6, 4}, {"TDy2\x80" "dd", 6, 4}, {"TDy2-me dd", 6, 7}, {"TDy2-me\"", 6, 7}, {"TDy2-me-dd-", 6, 10},
+        {"TDdd-me-y4x", 6, 10}, {"TDdd-me-y4 ", 6, 10}, {"TDdd-me-y4\"", 6, 10}, {"TDdd-me-y4-h", 6, 10}};
+
+    check("TD ends too soon where some TD begins so", POINT_SO(b, soon));
+    check("TD: a wrong field points to its first byte", POINT_SO(b, fields));
+    check("a field that comes again points to itself, cut or whole", POINT_SO(b, again));
+    check("a wrong separator and bytes past the third field", POINT_SO(b, separators));
+}
+
+static void time_places(struct bench *b)
+{
+    static const struct pointed lines[] = {
+        {"TT", 6, 2}, {"TTh:", 6, 4}, {"TThm", 6, 4}, {"TTh:m:", 6, 6}, {"TTh:mh", 6, 6}, {"TTx", 6, 2}, {"TT:", 6, 2}, {"TT1", 6, 2}, {"TTy2", 6, 2}, {"TTh:h", 6, 4}, {"TTh:H", 6, 4}, {"TThh", 6, 4}, {"TThhh", 6, 4},
+        {"TThmm", 0, 0}, {"TTh::", 6, 4}, {"TTh:m:h", 6, 6}, {"TTh:m:m", 6, 6}, {"TTh m", 6, 3}, {"TTh\"", 6, 3}, {"TTh:m\x01", 6, 5}, {"TTh:m:s:", 6, 7}, {"TTh:m:s ", 6, 7}, {"TTh:m:ss", 6, 7}, {"TThms", 0, 0}, {"TTh:m:s", 0, 0}};
+
+    check("TT: too soon, wrong, again, past the third", POINT_SO(b, lines));
+}
+
+static void moment_elements(struct bench *b)
+{
+    static const struct pointed lines[] = {
+        {"A0,0,0,1,1,N,T", 6, 14}, {"A0,0,0,1,1,N,\"\"T", 6, 16}, {"A0,0,0,1,1,N,Tx", 6, 13}, {"A0,0,0,1,1,N,Td", 6, 13}, {"A0,0,0,1,1,N,td", 6, 13}, {"A0,0,0,1,1,N,TS", 6, 13}, {"A0,0,0,1,1,N,T\"\"", 6, 13}, {"A0,0,0,1,1,N,TDL2", 6, 15},
+        {"A0,0,0,1,1,N,TT1", 6, 15}, {"A0,0,0,1,1,N,TDM1.1", 6, 15}, {"A0,0,0,1,1,N,TD+1", 6, 15}, {"A0,0,0,1,1,N,TDT", 6, 16}, {"A0,0,0,1,1,N,TTT", 6, 16}, {"A0,0,0,1,1,N,TTTT", 0, 0}, {"A0,0,0,1,1,N,TDTT", 0, 0}, {"A0,0,0,1,1,N,TD,", 6, 15},
+        {"A0,0,0,1,1,N,TDV0", 13, 15}, {"A0,0,0,1,1,N,TDV0L0", 7, 15}, {"A0,0,0,1,1,N,TD \"\"", 6, 15}, {"B0,0,0,1,1,2,24,B,TD", 0, 0}, {"B0,0,0,1,1,2,24,B,C,TD", 0, 0}, {"B0,0,0,1,1,2,24,B,T", 6, 19}, {"B0,0,0,1,1,2,24,TD", 6, 16}};
+
+    send(b, "TDy2");
+    send(b, "TTh");
+    check("TD and TT in data: whole, in capitals, no modifier", POINT_SO(b, lines));
+}
+
+/* ---- the calendar, against the C library ---- */
+
+static struct tm as_tm(const uint8_t *six)
+{
+    return (struct tm){.tm_year = 100 + six[0], .tm_mon = six[1] - 1, .tm_mday = six[2], .tm_hour = six[3], .tm_min = six[4], .tm_sec = six[5]};
+}
+
+static void from_seconds(time_t at, uint8_t six[6])
+{
+    struct tm t;
+
+    gmtime_r(&at, &t);
+    memcpy(six, (const uint8_t[]){(uint8_t)(t.tm_year - 100), (uint8_t)(t.tm_mon + 1), (uint8_t)t.tm_mday, (uint8_t)t.tm_hour, (uint8_t)t.tm_min, (uint8_t)t.tm_sec}, 6);
+}
+
+/* A date is one if the library gives it back as it is. */
+static bool is_date(unsigned year, unsigned month, unsigned day)
+{
+    const uint8_t six[] = {(uint8_t)year, (uint8_t)month, (uint8_t)day, 0, 0, 0};
+    struct tm t = as_tm(six);
+    uint8_t back[6];
+
+    from_seconds(timegm(&t), back);
+    return memcmp(back, six, 6) == 0;
+}
+
+static void every_date_set(struct bench *b)
+{
+    unsigned wrong = 0, taken = 0;
+    char line[64];
+
+    for (unsigned year = 0; year < 100; year++)
+        for (unsigned month = 1; month <= 12; month++)
+            for (unsigned day = 0; day <= 32; day++) {
+                bool right = day >= 1 && day <= 31 && is_date(year, month, day);
+                snprintf(line, sizeof line, "TS%u,%u,%u,1,2,3", month, day, year);
+                wrong += send(b, line) != (right ? 0 : 7) || (!right && count(b, 2) != (month < 10 ? 4 : 5));
+                taken += right;
+                wrong += right && !clock_is(b, (const char[]){(char)year, (char)month, (char)day, 1, 2, 3});
+            }
+    check("TS takes the 36,525 dates and no other day", wrong == 0 && taken == 36525);
+}
+
+/* Each byte of the clock from 0 to 255, at moments where each may decide: 3 for commands, labels and moves alike, or for none. */
+static void every_clock_judged(struct bench *b)
+{
+    static const char *const moments[] = {"\0\2\35\0\0\0", "\1\2\34\27\73\73", "\143\14\37\27\73\73", "\4\4\36\14\36\36", "\77\7\1\0\0\0"};
+    unsigned wrong = 0;
+
+    for (unsigned i = 0; i < sizeof moments / sizeof moments[0]; i++)
+        for (unsigned at = 0; at < 6; at++)
+            for (unsigned byte = 0; byte < 256; byte++) {
+                const uint8_t *c = b->desk.bytes[SESSION] + CLOCK_AT;
+                put_clock(b, moments[i]);
+                put_image(b, CLOCK_AT + at, byte, 1);
+                bool right = c[0] <= 99 && c[1] >= 1 && c[1] <= 12 && c[2] >= 1 && c[3] <= 23 && c[4] <= 59 && c[5] <= 59 && is_date(c[0], c[1], c[2]);
+                wrong += send(b, ";") != (right ? 0 : 3) || label(b) != (right ? 21 : 3) || move(b, 86401) != (right ? 7 : 3) || move(b, 0) != (right ? 0 : 3);
+            }
+    put_clock(b, moments[0]);
+    check("each byte of the clock: sound and moved, or 3", wrong == 0);
+}
+
+/* ---- the call that moves the clock ---- */
+
+static void moves_by_hand(struct bench *b)
+{
+    static const struct {
+        const char *from;
+        unsigned seconds;
+        const char *to;
+    } told[] = {{"\0\1\1\0\0\0", 0, "\0\1\1\0\0\0"}, {"\0\1\1\0\0\0", 1, "\0\1\1\0\0\1"}, {"\0\1\1\0\0\73", 1, "\0\1\1\0\1\0"}, {"\0\1\1\0\73\73", 1, "\0\1\1\1\0\0"}, {"\0\1\1\27\73\73", 1, "\0\1\2\0\0\0"},
+                {"\0\1\1\0\0\0", 86399, "\0\1\1\27\73\73"}, {"\0\1\1\0\0\0", 86400, "\0\1\2\0\0\0"}, {"\0\1\1\0\0\1", 86400, "\0\1\2\0\0\1"}, {"\0\2\34\27\73\73", 1, "\0\2\35\0\0\0"}, {"\0\2\35\27\73\73", 1, "\0\3\1\0\0\0"},
+                {"\1\2\34\27\73\73", 1, "\1\3\1\0\0\0"}, {"\4\2\34\0\0\0", 86400, "\4\2\35\0\0\0"}, {"\140\2\34\27\73\73", 1, "\140\2\35\0\0\0"}, {"\143\2\34\27\73\73", 86400, "\143\3\1\27\73\73"}, {"\7\4\36\27\73\73", 1, "\7\5\1\0\0\0"},
+                {"\7\7\37\27\73\73", 1, "\7\10\1\0\0\0"}, {"\7\10\37\0\0\0", 86400, "\7\11\1\0\0\0"}, {"\7\14\37\27\73\73", 1, "\10\1\1\0\0\0"}, {"\7\14\37\27\73\73", 86400, "\10\1\1\27\73\73"}, {"\143\14\37\27\73\72", 1, "\143\14\37\27\73\73"},
+                {"\143\14\37\27\73\73", 0, "\143\14\37\27\73\73"}, {"\143\14\37\27\73\73", 1, "\143\14\37\27\73\73"}, {"\143\14\37\27\73\73", 86400, "\143\14\37\27\73\73"}, {"\143\14\37\0\0\0", 86400, "\143\14\37\27\73\73"},
+                {"\143\14\37\14\0\0", 43200, "\143\14\37\27\73\73"}, {"\143\14\36\27\73\73", 86400, "\143\14\37\27\73\73"}, {"\143\14\36\0\0\0", 86400, "\143\14\37\0\0\0"}};
+    unsigned wrong = 0;
+
+    for (unsigned i = 0; i < sizeof told / sizeof told[0]; i++) {
+        put_clock(b, told[i].from);
+        wrong += move(b, told[i].seconds) != 0 || !clock_is(b, told[i].to);
+    }
+    check("moves over ends of days, months and years, by hand", wrong == 0);
+}
+
+static void moves_refused(struct bench *b)
+{
+    static const uint64_t many[] = {86401, 86402, 1u << 17, 1ull << 32, (1ull << 32) + 5, (1ull << 32) + 86400, 1ull << 63, UINT64_MAX};
+    unsigned wrong = 0;
+    uint64_t before;
+
+    put_clock(b, "\1\2\3\4\5\6");
+    before = digest_of(b);
+    for (unsigned i = 0; i < sizeof many / sizeof many[0]; i++)
+        wrong += move(b, many[i]) != 7 || digest_of(b) != before;
+    check("more than 86,400 seconds are 7, of 64 bits too", wrong == 0);
+    for (b->length[SESSION] = 0; b->length[SESSION] <= IMAGE + 2; b->length[SESSION]++)
+        wrong += b->length[SESSION] != IMAGE && (move(b, 1) != 1 || move(b, 86401) != 1 || digest_of(b) != before);
+    b->length[SESSION] = IMAGE;
+    put_clock(b, "\1\2\35\4\5\6");
+    before = digest_of(b);
+    check("1 before 3 before 7, and nothing is changed", wrong == 0 && move(b, 86401) == 3 && move(b, 1) == 3 && digest_of(b) == before);
+    memset(b->desk.bytes[SESSION], 0xff, IMAGE);
+    put_clock(b, "\1\2\34\27\73\73");
+    wrong += move(b, 1) != 0 || !clock_is(b, "\1\3\1\0\0\0");
+    for (unsigned i = 0; i < IMAGE; i++)
+        wrong += (i < CLOCK_AT || i >= DATE_FORMAT_AT) && b->desk.bytes[SESSION][i] != 0xff;
+    check("it looks at the clock alone, and changes it alone", wrong == 0);
+    call_station(&peer_station, &b->desk, OPEN, b->length);
+}
+
+/* Second by second, and day by day at one second before midnight and at noon. */
+static void moves_told_again(void)
+{
+    static const unsigned from_day[] = {0, 1155, 36525 - 130};  /* 2000, the end of February 2003, the last months of 2099 */
+    uint8_t image[IMAGE] = {0}, told[6], days[6];
+    time_t start = 946684800, end = start + 36525 * 86400ll - 1;
+    uint64_t wrong = 0;
+
+    for (unsigned i = 0; i < 3; i++) {
+        from_seconds(start + from_day[i] * 86400ll, image + CLOCK_AT);
+        for (time_t at = start + from_day[i] * 86400ll, last = at + 130 * 86400; at <= last; at++) {
+            from_seconds(at < end ? at : end, told);
+            wrong += memcmp(told, image + CLOCK_AT, 6) != 0 || peer_clock(image, IMAGE, 1) != 0;
+        }
+    }
+    check("told again: 390 days second by second", wrong == 0);
+    for (unsigned day = 0; day <= 36525; day++) {
+        time_t midnight = start + day * 86400ll - 1;
+        from_seconds(midnight < start ? start : midnight, image + CLOCK_AT);
+        wrong += peer_clock(image, IMAGE, midnight < start ? 0 : 1) != 0;
+        from_seconds(midnight + 1 < end ? midnight + 1 : end, told);
+        wrong += memcmp(told, image + CLOCK_AT, 6) != 0;
+        memcpy(days, image + CLOCK_AT, 6);
+        wrong += peer_clock(image, IMAGE, 86400) != 0;
+        from_seconds(midnight + 86401 < end ? midnight + 86401 : end, told);
+        wrong += memcmp(told, image + CLOCK_AT, 6) != 0 || (day < 36524 && memcmp(days + 3, image + CLOCK_AT + 3, 3) != 0);
+    }
+    check("told again: each midnight of the hundred years", wrong == 0);
+}
+
+static void moves_by_chance(void)
+{
+    uint8_t one[IMAGE] = {0}, two[IMAGE] = {0}, told[6];
+    time_t start = 946684800, end = start + 36525 * 86400ll - 1;
+    unsigned wrong = 0, stood = 0;
+
+    for (unsigned i = 0; i < 1000000; i++) {
+        time_t at = i % 8 == 0 ? end - (time_t)(chance_number() % 172800) : start + (time_t)(chance_number() % (36525ull * 86400));
+        uint64_t seconds = chance_number() % 86401, part = chance_number() % (seconds + 1);
+        from_seconds(at, one + CLOCK_AT);
+        from_seconds(at, two + CLOCK_AT);
+        from_seconds(at + (time_t)seconds < end ? at + (time_t)seconds : end, told);
+        stood += at + (time_t)seconds > end;
+        wrong += peer_clock(one, IMAGE, seconds) != 0 || memcmp(one + CLOCK_AT, told, 6) != 0;
+        wrong += peer_clock(two, IMAGE, part) != 0 || peer_clock(two, IMAGE, seconds - part) != 0 || memcmp(one, two, IMAGE) != 0;
+    }
+    check("told again: a million moves, two are one of their sum", wrong == 0 && stood > 10000);
+}
+
+/* ---- what a format shows, against the C library, and which formats are sound ---- */
+
+static unsigned told_by_library(const uint8_t format[FORMAT], bool date, const uint8_t *six, char *out)
+{
+    static const char *const dates[] = {"", "%y", "%Y", "%b", "%m", "%d"}, *const times[] = {"", "%H", "%M", "%S"};
+    struct tm t = as_tm(six);
+    unsigned length = 0;
+
+    for (unsigned i = 0; i < FORMAT && (i == 0 || format[i] != 0); i += 2) {
+        unsigned from = length;
+        length += (unsigned)strftime(out + length, 8, date ? dates[format[i]] : times[format[i]], &t);
+        for (; from < length; from++)
+            out[from] = (char)toupper(out[from]);
+        if (i < 4 && format[i + 1] != 0)
+            out[length++] = (char)format[i + 1];
+    }
+    return length;
+}
+
+/* The line that gives a format of these five bytes, if one does: fields by their names, separators as they are. */
+static bool line_of_format(const uint8_t format[FORMAT], bool date, char *line)
+{
+    static const char *const dates[] = {NULL, "Y2", "y4", "Me", "mN", "dd"}, *const times[] = {NULL, "h", "M", "s"};
+    unsigned fields = format[3] || format[4] ? 3 : format[1] || format[2] ? 2 : 1, length = 2;
+
+    memcpy(line, date ? "TD" : "TT", 2);
+    for (unsigned i = 0; i < fields; i++) {
+        uint8_t field = format[2 * i];
+        if (field == 0 || field > (date ? 5 : 3) || (i > 0 && (format[2 * i - 1] == 0 || format[2 * i - 1] == '\n')))
+            return false;
+        if (i > 0)
+            line[length++] = (char)format[2 * i - 1];
+        length += (unsigned)sprintf(line + length, "%s", date ? dates[field] : times[field]);
+    }
+    line[length] = 0;
+    return true;
+}
+
+/* "Sound covers clock and formats": a format is sound exactly when some TD or TT gives it. All of these fields and separators, in every mixture. */
+static void formats_told_again(struct bench *b, bool date)
+{
+    static const uint8_t fields[] = {0, 1, 2, 3, 4, 5, 6, 255}, separators[] = {0, ' ', '!', '"', '-', '~', 127, 200, '1', 'y'};
+    unsigned wrong = 0, sound_ones = 0, at = date ? DATE_FORMAT_AT : TIME_FORMAT_AT;
+    char line[32], text[80];
+    uint8_t f[FORMAT], kept[IMAGE];
+
+    memcpy(kept, b->desk.bytes[SESSION], IMAGE);
+    for (unsigned i = 0; i < 8 * 10 * 8 * 10 * 8; i++) {
+        memcpy(f, (const uint8_t[]){fields[i % 8], separators[i / 8 % 10], fields[i / 80 % 8], separators[i / 640 % 10], fields[i / 6400]}, FORMAT);
+        memcpy(b->desk.bytes[SESSION], kept, IMAGE);
+        bool given = line_of_format(f, date, line) && send(b, line) == 0 && memcmp(b->desk.bytes[SESSION] + at, f, FORMAT) == 0;
+        memcpy(b->desk.bytes[SESSION] + at, f, FORMAT);
+        wrong += send(b, ";") != (given ? 0 : 3) || label(b) != (given ? 21 : 3);
+        sound_ones += given;
+    }
+    memcpy(b->desk.bytes[SESSION], kept, IMAGE);
+    snprintf(text, sizeof text, "told again: 51,200 %s formats, sound if %s gives them", date ? "date" : "time", date ? "TD" : "TT");
+    check(text, wrong == 0 && sound_ones == (date ? 5 + 5 * 16 + 25 * 24 : 3 + 5 * 6 + 25 * 6));
+}
+
+/* ---- fit data over all clocks ---- */
+
+/* What the elements TD and TT of a line of bars show at every date or every time, judged byte by byte by 01's sentences. */
+struct every_moment {
+    bool digits, code_39;
+    unsigned least, most;
+};
+
+static void judge_shown(struct every_moment *m, const char *bytes, unsigned length)
+{
+    for (unsigned i = 0; i < length; i++) {
+        m->digits &= isdigit(bytes[i]) != 0;
+        m->code_39 &= bytes[i] != 0 && strchr("0123456789ABCDEFGHIJKLMNOPQRSTUVWXYZ-. $/+%", bytes[i]) != NULL;
+    }
+    m->least = length < m->least ? length : m->least;
+    m->most = length > m->most ? length : m->most;
+}
+
+static struct every_moment over_all_clocks(const uint8_t format[FORMAT], bool date)
+{
+    struct every_moment m = {true, true, 255, 0};
+    char shown[32];
+    uint8_t six[6];
+
+    for (unsigned i = 0; i < (date ? 36525 : 86400); i++) {
+        from_seconds(946684800 + (date ? 86400ll * i : i), six);
+        judge_shown(&m, shown, told_by_library(format, date, six, shown));
+    }
+    return m;
+}
+
+/* With so many digits of text beside it: type 2, E30, 3 and 1, and A with as much text as makes 128 or one more. */
+static unsigned fits_over_all(struct bench *b, const struct every_moment *m, const char *element)
+{
+    static const char digits[] = "00000000000000000000000000000000000000000000000000000000000000000000000000000000000000000000000000000000000000000000000000000000";
+    unsigned wrong = 0;
+    char line[300];
+
+    for (unsigned text = 0; text <= 12; text++) {
+        unsigned all = m->most + text;
+        snprintf(line, sizeof line, "B0,0,0,2,1,2,24,N,%s\"%.*s\"", element, (int)text, digits);
+        wrong += send(b, line) != (m->least == m->most && m->digits && all % 2 == 0 && all >= 2 ? 0 : 15);
+        snprintf(line, sizeof line, "B0,0,0,E30,1,2,24,N,\"%.*s\"%s", (int)text, digits, element);
+        wrong += send(b, line) != (m->least == m->most && m->digits && all == 12 ? 0 : 15);
+    }
+    snprintf(line, sizeof line, "B0,0,0,3,1,2,24,N,%s", element);
+    wrong += send(b, line) != (m->code_39 ? 0 : 15);
+    snprintf(line, sizeof line, "B0,0,0,1,1,2,24,N,%s", element);
+    wrong += send(b, line) != 0;
+    for (unsigned more = 0; more < 2; more++) {
+        snprintf(line, sizeof line, "A0,0,0,1,1,N,\"%.*s\"%s", (int)(128 - m->most + more), digits, element);
+        wrong += send(b, line) != (more ? 15 : 0);
+    }
+    return wrong;
+}
+
+/* Every order and kind of fields, with some separators between them. */
+static void fit_told_again(struct bench *b, bool date)
+{
+    static const uint8_t separators[][2] = {{'0', '9'}, {'-', '/'}, {'-', ':'}, {'A', 'z'}, {'%', '5'}, {'7', '$'}};
+    unsigned wrong = 0, formats = 0, most = date ? 5 : 3;
+    char line[32], text[80];
+
+    for (unsigned i = 0; i < (most + 1) * (most + 1) * most; i++)
+        for (unsigned k = 0; k < 6; k++) {
+            uint8_t second = (uint8_t)(i / most % (most + 1)), third = (uint8_t)(i / most / (most + 1));
+            uint8_t f[] = {(uint8_t)(1 + i % most), second ? separators[k][0] : 0, second, third ? separators[k][1] : 0, third};
+            if (!line_of_format(f, date, line) || send(b, line) != 0 || (k > 0 && second == 0))
+                continue;
+            struct every_moment m = over_all_clocks(f, date);
+            wrong += fits_over_all(b, &m, date ? "TD" : "TT");
+            formats++;
+        }
+    snprintf(text, sizeof text, "told again: fit over all %s, %u formats", date ? "dates" : "times", formats);
+    check(text, wrong == 0);
+}
+
+static void fit_by_hand(struct bench *b)
+{
+    static const struct pointed lines[] = {
+        {"TDy4", 0, 0}, {"TTh1m1s", 0, 0}, {"B0,0,0,2,1,2,24,N,TD", 0, 0}, {"B0,0,0,E30,1,2,24,N,TDTT", 0, 0}, {"B0,0,0,E30,1,2,24,N,TT\"000\"", 15, 20}, {"B0,0,0,2,1,2,24,B,C,\"1\"TD", 15, 20}, {"TDmn1dd", 0, 0},
+        {"B0,0,0,2,1,2,24,N,TD", 15, 18}, {"B0,0,0,2,1,2,24,N,TD\"1\"", 0, 0}, {"B0,0,0,2,1,2,24,N,TDTD", 0, 0}, {"TDme", 0, 0}, {"B0,0,0,2,1,2,24,N,TD\"1\"", 15, 18}, {"B0,0,0,3,1,2,24,N,TD", 0, 0}, {"TDdd-me-y4", 0, 0},
+        {"B0,0,0,3,1,2,24,N,TD", 0, 0}, {"TTh:m:s", 0, 0}, {"B0,0,0,3,1,2,24,N,TT", 15, 18}, {"TTh/m", 0, 0}, {"B0,0,0,3,1,2,24,N,TT", 0, 0}, {"TThym", 0, 0}, {"B0,0,0,3,1,2,24,N,TT", 15, 18}, {"TThYm", 0, 0}, {"B0,0,0,3,1,2,24,N,TT", 0, 0},
+        {"TDy4-me-dd", 0, 0}, {"A0,0,0,1,1,N,TDTDTDTDTDTDTDTDTDTDTD\"1234567\"", 0, 0}, {"A0,0,0,1,1,N,\"12345678\"TDTDTDTDTDTDTDTDTDTDTD", 15, 13}, {"B0,0,0,1,1,2,24,N,TDTDTDTDTDTDTDTDTDTDTDTD", 15, 18}};
+
+    check("fit data with TD and TT, by hand", POINT_SO(b, lines));
+}
+
+/* ---- formats in forms ---- */
+
+/* A label whose first row shows these twenty bytes: the date at its edge, from byte 12 on another format of it, and from 18 on the time. */
+static int label_shows(struct bench *b, const char *bytes)
+{
+    return label(b) == 0 && row_is(b, PAGE, 0, bytes, 20);
+}
+
+static void formats_recorded(struct bench *b)
+{
+    static const char *const lines[] = {"A0,0,0,1,1,N,TD", "TDY2.mN", "A96,0,0,1,1,N,TD", "TTs", "A144,0,0,1,1,N,TT", "TDdd"};
+    static const char listed[] = "A0,0,0,1,1,N,TD\nTDY2.mN\nA96,0,0,1,1,N,TD\nTTs\nA144,0,0,1,1,N,TT\nTDdd\n";
+    uint8_t before[10];
+    int well;
+
+    send(b, "TDy4");
+    send(b, "TTm");
+    send(b, "TS2,28,4,23,59,58");
+    memcpy(before, b->desk.bytes[SESSION] + DATE_FORMAT_AT, 10);
+    well = form_of(b, lines, 6) && memcmp(before, b->desk.bytes[SESSION] + DATE_FORMAT_AT, 10) == 0;
+    check("TD and TT are recorded and leave the session's formats", well);
+    check("and their letters are as they were written", send(b, "FP\"F\"") == 0 && count(b, 1) == strlen(listed) && memcmp(b->desk.bytes[OUTPUT], listed, strlen(listed)) == 0);
+    send(b, "N");
+    check("each holds from its line on", send(b, "FR\"F\"") == 0 && send(b, "P3") == 0 && label_shows(b, "28-FEB-2004\0" "04.02\0" "58"));
+    check("and each label starts from the example formats", label_shows(b, "28-FEB-2004\0" "04.02\0" "58"));
+    check("the clock moves between owed labels", move(b, 2) == 0 && owed(b) == 1 && label_shows(b, "29-FEB-2004\0" "04.02\0" "00"));
+    check("outside the form the session's formats are as they were", shows(b, "A0,0,0,1,1,N,TD\"-\"TT", "2004-00"));
+    send(b, "N");
+}
+
+/* The check of a form starts from the example formats too, and goes by its own lines: 15 or not, whatever the session's formats are. */
+static void formats_judged(struct bench *b)
+{
+    static const struct pointed recorded[] = {
+        {"B0,0,0,2,1,2,24,N,TD", 15, 18}, {"B0,0,0,3,1,2,24,N,TD", 0, 0}, {"TDy4", 0, 0}, {"B0,0,0,2,1,2,24,N,TD", 0, 0}, {"TDy2-", 6, 5}, {"TDme-mn", 6, 5}, {"B0,0,0,2,1,2,24,N,TD", 0, 0}, {"TS1,1,1,1,1,1", 9, 0},
+        {"TS1,32,1,1,1,1", 7, 4}, {"TTh", 0, 0}, {"B0,0,0,E30,1,2,24,N,TDTDTTTT", 0, 0}, {"TDdd.me", 0, 0}, {"B0,0,0,2,1,2,24,N,TD", 15, 18}, {"FE", 0, 0}, {"B0,0,0,2,1,2,24,N,TD", 0, 0}, {"FS\"G\"", 0, 0}, {"B0,0,0,2,1,2,24,N,TD", 15, 18},
+        {"B0,0,0,3,1,2,24,N,TT", 15, 18}, {"FE", 0, 0}, {"FR\"F\"", 0, 0}, {"P1", 0, 0}, {"TS1,1,1,1,1,1", 8, 0}, {"TDdd", 8, 0}, {"TTh", 8, 0}, {"TDdx", 6, 2}, {"TS1,32,1,1,1,1", 7, 4}};
+
+    send(b, "FK\"*\"");
+    send(b, "TDy4");
+    send(b, "TTh");
+    send(b, "FS\"F\"");
+    check("a form's formats are its own when it is checked", POINT_SO(b, recorded));
+    check("nothing of that moved the session's formats", label(b) == 0 && memcmp(b->desk.bytes[SESSION] + DATE_FORMAT_AT, "\2\0\0\0\0\1\0\0\0\0", 10) == 0);
+}
+
+static void formats_sound(struct bench *b)
+{
+    static const char *const sound_lines[] = {"TDY4\nB0,0,0,2,1,2,24,N,TD\n", "TDdd\n", "TTh:m:s\nTTH\nTTs-m\n", "A0,0,0,1,1,N,TDTT\n", "B0,0,0,3,1,2,24,N,TD\n", "TTh0m0s\nB0,0,0,E30,1,2,24,N,TT\"1234\"\n"};
+    static const char *const others[] = {
+        "B0,0,0,2,1,2,24,N,TD\n", "TDme\nB0,0,0,2,1,2,24,N,TD\"1\"\n", "B0,0,0,3,1,2,24,N,TT\n", "TDy4\nTDme\nB0,0,0,2,1,2,24,N,TD\n", "TS1,1,1,1,1,1\n", "TD\n", "TDy2-y4\n", "TDy2-\n", "TDdd \n", "TTh:h\n", "TTh:m:s:\n", "TDdd",
+        "A0,0,0,1,1,N,Td\n", "B0,0,0,2,1,2,24,N,TD\nTDy4\n", "TTh0m0s\nB0,0,0,E30,1,2,24,N,TT\"123\"\n"};
+    unsigned wrong = 0;
+
+    for (unsigned i = 0; i < sizeof sound_lines / sizeof sound_lines[0]; i++)
+        wrong += sound_with(b, sound_lines[i]) != 0;
+    check("forms with TD and TT are sound", wrong == 0);
+    wrong = 0;
+    for (unsigned i = 0; i < sizeof others / sizeof others[0]; i++)
+        wrong += sound_with(b, others[i]) != 3;
+    check("and 3 if recording would not take them", wrong == 0);
+}
+
+static void dated_cases(void)
+{
+    struct bench b, small;
+    uint8_t font[1024];
+    size_t length = telling_font(font);
+
+    open_bench(&b, 40, font, length);
+    moment_at_opening(&b);
+    formats_by_hand(&b);
+    months_by_hand(&b);
+    clock_places(&b);
+    date_places(&b);
+    time_places(&b);
+    moment_elements(&b);
+    formats_recorded(&b);
+    formats_judged(&b);
+    moves_refused(&b);
+    lay_out(&small, 40, 4, 2, 64);
+    begin(&small, 1, 1, 0);
+    every_date_set(&small);
+    every_clock_judged(&small);
+    moves_by_hand(&small);
+    moves_told_again();
+    moves_by_chance();
+    formats_told_again(&small, true);
+    formats_told_again(&small, false);
+    fit_by_hand(&small);
+    fit_told_again(&small, true);
+    fit_told_again(&small, false);
+    formats_sound(&small);
+    clear_away(&b.desk);
+    clear_away(&small.desk);
+}
+
 /* ---- the modules of one symbol ---- */
 
 static int write_modules(const char *type, int wide, const char *data)
@@ -3288,6 +3815,7 @@ int main(int argc, char **argv)
     fits_cases();
     slanted_cases();
     shortest_cases();
+    dated_cases();
     rectangle_cases();
     picture_case();
     return failures != 0;

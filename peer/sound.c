@@ -32,6 +32,9 @@ void read_image(const uint8_t *image, struct session *s)
         s->counters[i].value = low_first(at + 1) | (uint32_t)low_first(at + 3) << 16;
     }
     s->free_portions = low_first(image + 65);
+    s->clock = read_clock(image + CLOCK_AT);
+    memcpy(s->formats.date, image + DATE_FORMAT_AT, FORMAT);
+    memcpy(s->formats.time, image + TIME_FORMAT_AT, FORMAT);
 }
 
 void write_image(const struct session *s, uint8_t *image)
@@ -49,6 +52,9 @@ void write_image(const struct session *s, uint8_t *image)
         put_low_first(image + 16 + 5 * i, s->counters[i].value, 4);
     }
     put_low_first(image + 65, s->free_portions, 2);
+    write_clock(&s->clock, image + CLOCK_AT);
+    memcpy(image + DATE_FORMAT_AT, s->formats.date, FORMAT);
+    memcpy(image + TIME_FORMAT_AT, s->formats.time, FORMAT);
 }
 
 /* ---- small rules ---- */
@@ -58,11 +64,12 @@ static bool all_zero(const uint8_t *bytes, size_t count)
     return count == 0 || (bytes[0] == 0 && memcmp(bytes, bytes + 1, count - 1) == 0);
 }
 
-/* "these numbers in their ranges; length at most N"; "owed plus drawn at most 65,535" */
+/* "these numbers in their ranges; length at most N"; "owed plus drawn at most 65,535"; and since paper 02 "Sound covers clock and formats." */
 static bool numbers_in_range(const struct session *s, unsigned rows)
 {
     return s->width >= 80 && s->width <= 608 && s->length >= 1 && s->length <= rows && s->turn <= 1
-        && s->origin_x <= 2048 && s->origin_y <= 4096 && (unsigned)s->owed + s->drawn <= 65535;
+        && s->origin_x <= 2048 && s->origin_y <= 4096 && (unsigned)s->owed + s->drawn <= 65535
+        && legal_clock(&s->clock) && legal_formats(&s->formats);
 }
 
 /* "no background dot outside width by length" */
@@ -149,7 +156,7 @@ static bool may_be_recorded(enum word word)
 {
     switch (word) {
     case W_R: case W_V: case W_C: case W_A: case W_B: case W_LO: case W_LE: case W_LW: case W_LS: case W_LSE: case W_LSW: case W_X:
-    case W_GG: return true;
+    case W_GG: case W_TD: case W_TT: return true;
     default: return false;
     }
 }
@@ -185,7 +192,7 @@ static bool sound_form(const struct memory *m, const uint8_t *entry, struct decl
 static bool sound_content(const struct memory *m, const struct session *s, unsigned i, struct facts *f)
 {
     const uint8_t *entry = entry_at(m, i);
-    struct declarations d = {0};
+    struct declarations d = nothing_declared(&example_formats);
 
     switch (entry[0]) {
     case PICTURE: return legal_picture_chain(start_of(m, entry));
@@ -278,6 +285,7 @@ bool sound(const struct memory *m, const struct session *s, struct facts *f)
 
     memset(f, 0, sizeof *f);
     f->recording = NOT_THERE;
+    f->of_recording = f->of_active = nothing_declared(&example_formats);  /* "and so does the check of each form" */
     f->pictures_exist = true;
     if (!numbers_in_range(s, m->rows) || !background_inside(m, s) || !active_is_stored(m, s))
         return false;

@@ -41,26 +41,27 @@ uint8_t peer_open(uint8_t *session, size_t session_len, uint8_t *page, size_t pa
     s.length = (uint16_t)(background_len / ROW_BYTES);
     s.active = NO_FORM;
     s.free_portions = (uint16_t)links_len;
+    s.clock = (struct clock){0, 1, 1, 0, 0, 0};  /* "1 January 2000 at midnight" */
+    s.formats = example_formats;
     write_image(&s, session);
     return TAKEN;
 }
 
 /* ---- running a line of drawing ---- */
 
-/* What a line may draw on and from. The origin is the session's, or the label's own copy of it. */
+/* What a line may draw on and from. Origin and formats are the session's, or the label's own. */
 struct run {
     const struct memory *memory;
     struct paper paper;
     unsigned origin_x, origin_y;
     const struct font *font;
-    const struct declarations *declared;
-    const struct counter *counters;
+    struct source source;
 };
 
 static void run_text(struct run *r, const struct command *c, struct turned corner)
 {
     uint8_t shown[MOST_DATA];
-    unsigned length = show_data(c, r->declared, r->memory->values, r->counters, shown);
+    unsigned length = show_data(c, &r->source, shown);
 
     draw_text(&r->paper, corner, (int)c->n[3], (int)c->n[4], c->letter, r->font, shown, length);
 }
@@ -68,7 +69,7 @@ static void run_text(struct run *r, const struct command *c, struct turned corne
 static void run_bars(struct run *r, const struct command *c, struct turned corner)
 {
     uint8_t shown[MOST_DATA];
-    unsigned length = show_data(c, r->declared, r->memory->values, r->counters, shown);
+    unsigned length = show_data(c, &r->source, shown);
     struct symbol s = {c->type, (int)c->n[3], (int)c->n[4], (int)c->n[5], c->letter, r->font, shown, length};
 
     draw_symbol(&r->paper, corner, &s);
@@ -88,7 +89,7 @@ static void run_slanted(struct run *r, const struct command *c, enum ink ink)
                  (int)(r->origin_y + c->n[4]), ink);
 }
 
-/* A line that was judged and whose picture exists. V and C draw nothing. */
+/* A line that was judged and whose picture exists. V and C draw nothing; R, TD and TT hold for the lines behind them. */
 static void run_line(struct run *r, const struct command *c)
 {
     int x = (int)(r->origin_x + c->n[0]), y = (int)(r->origin_y + c->n[1]);
@@ -99,6 +100,8 @@ static void run_line(struct run *r, const struct command *c)
         r->origin_x = c->n[0];
         r->origin_y = c->n[1];
         break;
+    case W_TD: memcpy(r->source.formats.date, c->format, FORMAT); break;
+    case W_TT: memcpy(r->source.formats.time, c->format, FORMAT); break;
     case W_LO: draw_box(&r->paper, x, y, (int)c->n[2], (int)c->n[3], BLACK); break;
     case W_LW: draw_box(&r->paper, x, y, (int)c->n[2], (int)c->n[3], WHITE); break;
     case W_LE: draw_box(&r->paper, x, y, (int)c->n[2], (int)c->n[3], INVERT); break;
@@ -154,13 +157,13 @@ static void end_activity(struct call *k)
     unset_values(k);
 }
 
-/* A line of drawing sent outside a form goes to the background at once. Nothing is declared there. */
+/* A line of drawing sent outside a form goes to the background at once. Nothing is declared there, and the formats are those that were sent outside
+ * forms. */
 static enum answer draw_now(struct call *k, const struct command *c)
 {
-    static const struct declarations nothing;
-    struct declarations none = nothing;
-    struct run r = {&k->m, {k->m.background, k->s.width, k->s.length}, k->s.origin_x, k->s.origin_y, &k->font, &nothing,
-                    k->s.counters};
+    struct declarations none = nothing_declared(&k->s.formats);
+    struct run r = {&k->m, {k->m.background, k->s.width, k->s.length}, k->s.origin_x, k->s.origin_y, &k->font,
+                    {&none, k->m.values, k->s.counters, k->s.clock, k->s.formats}};
     struct verdict v;
 
     if (c->word == W_GG && find_entry(&k->m, PICTURE, &c->name) == NOT_THERE)
@@ -170,6 +173,7 @@ static enum answer draw_now(struct call *k, const struct command *c)
     run_line(&r, c);
     k->s.origin_x = (uint16_t)r.origin_x;
     k->s.origin_y = (uint16_t)r.origin_y;
+    k->s.formats = r.source.formats;
     return TAKEN;
 }
 
@@ -293,11 +297,12 @@ static enum answer owe_labels(struct call *k, const struct command *c)
 }
 
 /* "While recording only R, V, C, A, B, LO, LE, LW, X, GG and FE have a place; otherwise all but V, C and FE." And paper 02: "LS may be
- * recorded." */
+ * recorded", "TD and TT may be recorded", "TS has no place while recording". */
 static bool has_place(enum word word, bool recording)
 {
     switch (word) {
-    case W_R: case W_A: case W_B: case W_LO: case W_LE: case W_LW: case W_LS: case W_LSE: case W_LSW: case W_X: case W_GG: return true;
+    case W_R: case W_A: case W_B: case W_LO: case W_LE: case W_LW: case W_LS: case W_LSE: case W_LSW: case W_X: case W_GG:
+    case W_TD: case W_TT: return true;
     case W_V: case W_C: case W_FE: return recording;
     default: return !recording;
     }
@@ -320,6 +325,11 @@ static enum answer record(struct call *k, const struct command *c, struct normal
     return append(&k->m, &k->s.free_portions, k->f.recording, normal->bytes, normal->length + 1);
 }
 
+static struct clock clock_of(const struct command *c)
+{
+    return (struct clock){(uint8_t)c->n[2], (uint8_t)c->n[0], (uint8_t)c->n[1], (uint8_t)c->n[3], (uint8_t)c->n[4], (uint8_t)c->n[5]};
+}
+
 static enum answer obey(struct call *k, const struct command *c)
 {
     switch (c->word) {
@@ -339,6 +349,7 @@ static enum answer obey(struct call *k, const struct command *c)
     case W_ASK_C: return set_counter(k, c);
     case W_VC: memset(k->m.values, 0, VALUES); return TAKEN;
     case W_P: return owe_labels(k, c);
+    case W_TS: k->s.clock = clock_of(c); return TAKEN;
     default: return draw_now(k, c);
     }
 }
@@ -464,7 +475,8 @@ uint8_t peer_label(uint8_t *session, size_t session_len, const uint8_t *font, si
     if (s.owed == 0)
         return NONE_OWED;
 
-    struct run r = {&m, {page, s.width, s.length}, s.origin_x, s.origin_y, &letters, &f.of_active, s.counters};
+    /* "each label starts from the example formats" */
+    struct run r = {&m, {page, s.width, s.length}, s.origin_x, s.origin_y, &letters, {&f.of_active, values, s.counters, s.clock, example_formats}};
     memcpy(page, background, page_len);
     if (s.active != NO_FORM)
         run_form(&r, entry_at(&m, s.active));

@@ -6,8 +6,8 @@
  * them a seventh that is written here and draws every word of the line under the bars, an eighth of lines that are refused, in which
  * every kind of piece is once at fault, a ninth of jobs that take counters to their end, a tenth in which portions and entries
  * run out, each alone and both, an eleventh that moves the number of free portions in every way and puts wrong ones in, a twelfth
- * of questions whether it fits, with every answer of theirs and what goes before what, a thirteenth of slanted lines, and a fourteenth of
- * Code 128 in every mixture of its two sets. Together they give each of the 24 answers.
+ * of questions whether it fits, with every answer of theirs and what goes before what, a thirteenth of slanted lines, a fourteenth of
+ * Code 128 in every mixture of its two sets, and a fifteenth of clock, formats and the elements TD and TT. Together they give each of the 24 answers.
  *
  * INPUT-FILE is a row of records, all numbers low byte first. A record starts with its letter:
  *
@@ -20,13 +20,14 @@
  *   L lengths                 station_label
  *   W lengths kind size(8) length(2) name
  *                             station_fits; kind is one byte. Of the lengths it is lent those of session, links and directory
+ *   T lengths seconds(8)      station_clock. Of the lengths it is lent that of the session
  *
  * lengths is nine numbers of 2 bytes, in elements, of session, counts, page, background, store, links, directory, values,
- * output. The font is always lent whole. A desk has room for more than a call is lent: session 69, counts 4, page and
+ * output. The font is always lent whole. A desk has room for more than a call is lent: session 85, counts 4, page and
  * background 3,192 each, store 4,608, links 18, directory 96, values 374, output 256 elements.
  *
- * LINES-FILE has one line for each O, C, L and W: the number of the call from 1, the answer, the first three counts as they stand on
- * the desk (read, written, place; for W, which has none, 0 0 0), and in eight hexadecimal digits the FNV-1a digest (32 bits: start 2166136261, for each byte exclusive or, then
+ * LINES-FILE has one line for each O, C, L, W and T: the number of the call from 1, the answer, the first three counts as they stand on
+ * the desk (read, written, place; for W and T, which have none, 0 0 0), and in eight hexadecimal digits the FNV-1a digest (32 bits: start 2166136261, for each byte exclusive or, then
  * times 16777619) of all bytes of session, page, background, store, links, directory, values, output in this order, the
  * room beyond what was lent included. */
 #include <inttypes.h>
@@ -46,6 +47,12 @@ static void put_number(FILE *f, size_t n)
     putc((int)(n >> 8 & 255), f);
 }
 
+static void put_long_number(FILE *f, uint64_t n)
+{
+    for (unsigned i = 0; i < 64; i += 16)
+        put_number(f, (size_t)(n >> i));
+}
+
 static uint32_t digest_of(const struct desk *d)
 {
     uint32_t digest = 2166136261u;
@@ -61,14 +68,15 @@ static uint32_t digest_of(const struct desk *d)
 
 static void write_call(FILE *f, const struct event *e)
 {
-    putc("OCLW"[e->call], f);
+    putc("OCLWT"[e->call], f);
     for (unsigned i = 0; i < 9; i++)
         put_number(f, e->length[told[i]]);
     if (e->call == FITS) {
         putc(e->question.kind, f);
-        for (unsigned i = 0; i < 64; i += 16)
-            put_number(f, (size_t)(e->question.size >> i));
+        put_long_number(f, e->question.size);
     }
+    if (e->call == CLOCK)
+        put_long_number(f, e->seconds);
     if (e->call == COMMAND || e->call == FITS) {
         put_number(f, e->count);
         fwrite(e->bytes, 1, e->count, f);
@@ -79,7 +87,7 @@ static void write_line(FILE *f, const struct desk *d, enum call_kind call, unsig
 {
     uint64_t counts[3] = {0};
 
-    if (call != FITS)
+    if (call != FITS && call != CLOCK)
         memcpy(counts, d->bytes[COUNTS], sizeof counts);
     fprintf(f, "%u %u %" PRIu64 " %" PRIu64 " %" PRIu64 " %08" PRIx32 "\n", calls, answer, counts[0], counts[1], counts[2],
             digest_of(d));
@@ -125,6 +133,7 @@ static unsigned make_call(struct record *r, const struct event *e)
 
     put_on_desk(&r->desk, INPUT, e->bytes, e->count);
     r->desk.question = e->question;
+    r->desk.seconds = e->seconds;
     write_call(r->input, e);
     answer = call_station(&peer_station, &r->desk, e->call, e->length);
     write_line(r->lines, &r->desk, e->call, ++r->calls, answer);
@@ -552,19 +561,19 @@ static void other_stores(struct record *r, struct event *e, unsigned right)
     put_number_of_free(r, e, right);
 }
 
-/* "An image of another length is [1]": 64 to 69 bytes, of which 67 are taken. Then an opening that is refused and leaves 67 zeros. */
+/* "An image of another length is [1]": 80 to 85 bytes, of which 83 are taken. Then an opening that is refused and leaves 83 zeros. */
 static void image_lengths(struct record *r, struct event *e)
 {
     static const char *const comment[] = {";"};
 
-    for (e->length[SESSION] = 64; e->length[SESSION] <= 69; e->length[SESSION]++)
+    for (e->length[SESSION] = IMAGE - 3; e->length[SESSION] <= IMAGE + 2; e->length[SESSION]++)
         SEND_LINES(r, e, comment);
-    for (e->length[SESSION] = 65; e->length[SESSION] <= 68; e->length[SESSION]++)
+    for (e->length[SESSION] = IMAGE - 2; e->length[SESSION] <= IMAGE + 1; e->length[SESSION]++)
         if (e->length[SESSION] != IMAGE)
             draw_label(r, e);
     e->call = OPEN;
     e->count = 0;
-    e->length[SESSION] = 65;
+    e->length[SESSION] = CLOCK_AT;
     make_call(r, e);
     e->length[SESSION] = IMAGE;
     e->length[VALUE]--;
@@ -625,7 +634,7 @@ static void asked_lengths(struct record *r, struct event *e)
     static const struct {
         enum slice slice;
         size_t length;
-    } other[] = {{SESSION, 0}, {SESSION, 65}, {SESSION, 66}, {SESSION, 68}, {LINKS, 0}, {LINKS, 1}, {LINKS, 18}, {DIRECTORY, 0}, {DIRECTORY, 15}, {DIRECTORY, 16},
+    } other[] = {{SESSION, 0}, {SESSION, 67}, {SESSION, 82}, {SESSION, 84}, {LINKS, 0}, {LINKS, 1}, {LINKS, 18}, {DIRECTORY, 0}, {DIRECTORY, 15}, {DIRECTORY, 16},
                  {DIRECTORY, 17}, {DIRECTORY, 32}, {DIRECTORY, 95}, {DIRECTORY, 96}, {STORE, 0}, {COUNTS, 0}, {VALUE, 0}, {BACKGROUND, 0}};
 
     e->fill = 255;
@@ -877,6 +886,150 @@ static void shortest_session(struct record *r, struct event e)
     }
 }
 
+/* ---- the date, written by the station ---- */
+
+/* Cells of 4 by 2, which show the byte itself: its upper four bits above the lower four. */
+static void lend_letters(struct record *r, struct event *e)
+{
+    static uint8_t font[1024];
+    uint8_t *at = font;
+
+    memcpy(at, (const uint8_t[]){1, 2, 0, 4, 2}, 5);
+    at += 5;
+    for (unsigned code = 33; code <= 126; code++, at += 6)
+        memcpy(at, (const uint8_t[]){2, 3, 0, (uint8_t)code, (uint8_t)(code & 0xf0), (uint8_t)(code << 4)}, 6);
+    memcpy(at, (const uint8_t[]){255, 0, 0}, 3);
+    e->bytes = font;
+    e->count = e->length[FONT] = (size_t)(at + 3 - font);
+    new_font(r, e);
+}
+
+static void move_clock(struct record *r, struct event *e, uint64_t seconds)
+{
+    e->call = CLOCK;
+    e->count = 0;
+    e->seconds = seconds;
+    make_call(r, e);
+}
+
+/* Images of other lengths are 1, whatever the seconds are. Then moves from the first moment: none, one second, to the end of a minute and of the day, a whole day, and more than
+ * there may be, which 32 bits would make another number of. */
+static void first_moves(struct record *r, struct event *e)
+{
+    static const size_t lengths[] = {0, 65, 67, 73, 82, 84, 85};
+    static const uint64_t seconds[] = {0, 1, 58, 1, 86339, 1, 86399, 86400, 86401, 86402, 172800, 1ull << 32, (1ull << 32) + 1, 1ull << 63, UINT64_MAX, 86400};
+
+    for (unsigned i = 0; i < sizeof lengths / sizeof lengths[0]; i++) {
+        e->length[SESSION] = lengths[i];
+        move_clock(r, e, i % 2 ? 1 : 86401);
+    }
+    e->length[SESSION] = IMAGE;
+    for (unsigned i = 0; i < sizeof seconds / sizeof seconds[0]; i++)
+        move_clock(r, e, seconds[i]);
+}
+
+/* TS at the ends of months and years, each then moved over; the date is drawn behind it. */
+static void moves_over_ends(struct record *r, struct event *e)
+{
+    static const struct {
+        const char *set;
+        uint32_t seconds;
+    } ends[] = {{"TS1,31,01,23,59,59", 1}, {"TS2,28,0,23,59,59", 1}, {"TS2,29,00,12,0,0", 86400}, {"TS02,28,2,23,0,0", 3600}, {"TS2,28,96,0,0,1", 86399}, {"TS3,31,10,23,59,59", 2}, {"TS4,30,31,23,58,59", 61},
+                {"TS5,31,32,20,0,0", 14400}, {"TS6,30,33,23,59,59", 86400}, {"TS7,31,47,1,2,3", 86400}, {"TS8,31,50,23,59,59", 86400}, {"TS9,30,51,0,0,0", 86400}, {"TS10,31,52,23,59,59", 1}, {"TS11,30,53,22,0,0", 7200},
+                {"TS12,31,9,23,59,0", 60}, {"TS12,31,99,23,59,58", 1}, {"TS12,31,99,0,0,0", 86400}, {"TS12,30,99,23,59,59", 86400}};
+    static const char *const shown[] = {"A0,0,0,1,1,R,TD\" \"TT"};
+
+    for (unsigned i = 0; i < sizeof ends / sizeof ends[0]; i++) {
+        send_lines(r, e, &ends[i].set, 1);
+        move_clock(r, e, ends[i].seconds);
+        SEND_LINES(r, e, shown);
+    }
+}
+
+/* Formats of one, two and three fields, in each order and case, with separators of every kind; and data in them that is fit and unfit. */
+static const char *const formats_outside[] = {
+    "TS6,15,2,14,35,0", "TDme-dd-y4", "TTh:m:s", "A0,4,0,1,1,N,\"Date: \"TD\" \"TT", "TDY2", "TTS", "B0,8,0,2,1,2,24,N,TDTT", "B60,8,0,3,1,2,24,B,C,TD\"-\"TT", "TDY2,Y4", "TDmn0DD", "B0,8,0,2,1,2,24,N,TD",
+    "B0,8,0,2,1,2,24,N,TD\"7\"", "TTh1m1s", "B100,8,0,E30,1,2,24,N,TT\"0000\"", "B100,8,0,E30,1,2,24,N,TT\"000\"", "B200,8,0,1,1,2,24,N,TTTD", "TDDd!Me-y4", "A0,4,0,1,1,N,TD", "B0,8,0,3,1,2,24,N,TD",
+    "TDY4.me/DD", "B300,8,0,3,1,2,24,N,TD", "TDy2YMEDdD", "B0,8,0,3,1,2,24,N,TD", "TDdd~y4", "A0,6,1,2,1,N,TDTD", "TThms", "A90,0,0,1,1,N,TT", "TTMHs", "A140,0,0,1,1,N,TT", "TTs,M,h", "A190,0,0,1,1,N,TT",
+    "TDme-dd-y4", "A0,20,0,1,1,N,TDTDTDTDTDTDTDTDTDTDTD\"1234567\"", "A0,20,0,1,1,N,TDTDTDTDTDTDTDTDTDTDTD\"12345678\"", "B0,30,0,1,1,2,24,B,R,\"\"TD\"\""};
+/* Each number of TS outside its limits; days that their month has not, alone and beside others; lines that are not written so or end too soon; formats likewise. */
+static const char *const moments_refused[] = {
+    "TS0,1,1,1,1,1", "TS13,1,1,1,1,1", "TS1,0,1,1,1,1", "TS1,32,1,1,1,1", "TS1,1,100,1,1,1", "TS1,1,1,24,1,1", "TS1,1,1,1,60,1", "TS1,1,1,1,1,60", "TS2,29,1,1,1,1", "TS02,030,4,1,1,1", "TS4,31,0,24,60,60",
+    "TS2,30,100,1,1,1", "TS2,32,100,1,1,1", "TS13,31,0,0,0,0", "TS2,30,0,0,0,x", "TS2,30,0,0,0,0,", "TS", "TS1234567890,1,1,1,1,1", "T", "TX", "Td", "TD", "TDy",
+    "TDd", "TDy2-", "TDme-m", "TDy2-y", "TDy2-y4", "TDdd-d", "TDdd-dd", "TDdd-me-m", "TDdd-me-y", "TDy2-me-dd-", "TDdd-me-y4x", "TDd\"", "TDy2\"", "TDy2 dd", "TDy3", "TDmm",
+    "TDy2dd", "TDy2\x7f" "dd", "TT", "TTx", "TTh:", "TTh:h", "TThm", "TTh:m:s:", "TTh:m:s ", "TThh", "A0,0,0,1,1,N,T", "A0,0,0,1,1,N,\"\"TS", "A0,0,0,1,1,N,TDL2",
+    "A0,0,0,1,1,N,TT1", "A0,0,0,1,1,N,tD", "A0,0,0,1,1,N,TDT", "B0,0,0,2,1,2,24,B,TD"};
+/* In the form the formats begin anew, hold from their line on, and leave the session's alone; TS has no place. */
+static const char *const moments_recorded[] = {
+    "TDy4xmn", "TTh", "FS\"T\"", "B0,0,0,3,1,2,24,N,TD", "B0,4,0,2,1,2,24,N,TD", "TDy2", "B0,4,0,2,1,2,24,N,TD", "TTM.h", "B300,4,0,3,1,2,24,N,TT\"-\"TD", "TS1,1,1,1,1,1", "B60,4,0,E30,1,2,24,B,TDTD\"00000000\"", "TDMN-DD-Y4",
+    "TDme-me", "TTs-", "B200,4,0,3,1,2,24,B,C,TD", "B200,4,0,2,1,2,24,N,TD", "FE", "FP\"T\"", "N", "A0,34,0,1,1,N,TD\" \"TT", "FR\"T\"", "P4", "TS1,1,1,1,1,1", "TDdd"};
+
+/* Labels with moves between them, and the session's formats as they were; then the same form from another date. */
+static void moved_labels(struct record *r, struct event *e)
+{
+    static const char *const again[] = {"A0,36,0,1,1,N,TD\" \"TT", "TS9,9,99,9,9,9", "TDy4", "P1"};
+
+    draw_label(r, e);
+    move_clock(r, e, 59);
+    draw_label(r, e);
+    move_clock(r, e, 86400);
+    move_clock(r, e, 86401);
+    draw_label(r, e);
+    draw_label(r, e);
+    SEND_LINES(r, e, again);
+    draw_label(r, e);
+}
+
+/* Each byte of clock and formats as broken is 3 for commands, labels and, if it is the clock's, for a move; others are sound by themselves. The clock is 9 September 2099, 9:09:09, the formats
+ * y4 and h. And bytes of the form's lines: `TDy2` as `TDY2` is sound, as `TDy4` it leaves twelve digits no more, and as `TDy6` or `TSy2` it is no line; of `TTM.h` likewise. */
+static void damaged_moments(struct record *r, struct event *e)
+{
+    static const struct other_byte damage[] = {
+        {SESSION, 67, 100}, {SESSION, 67, 255}, {SESSION, 68, 0}, {SESSION, 68, 13}, {SESSION, 69, 0}, {SESSION, 69, 30}, {SESSION, 69, 31}, {SESSION, 70, 23}, {SESSION, 70, 24}, {SESSION, 71, 60}, {SESSION, 72, 59},
+        {SESSION, 72, 60}, {SESSION, 73, 0}, {SESSION, 73, 5}, {SESSION, 73, 6}, {SESSION, 74, '-'}, {SESSION, 75, 5}, {SESSION, 76, '-'}, {SESSION, 77, 5}, {SESSION, 78, 3}, {SESSION, 78, 4}, {SESSION, 79, ':'},
+        {SESSION, 80, 2}, {SESSION, 82, 2}, {STORE, 23, 'Y'}, {STORE, 24, '4'}, {STORE, 24, '6'}, {STORE, 22, 'S'}, {STORE, 49, 'm'}, {STORE, 50, '0'}, {STORE, 50, ' '}, {STORE, 51, 'm'}, {STORE, 51, 'S'}};
+    static const char *const comment[] = {";"};
+
+    for (unsigned i = 0; i < sizeof damage / sizeof damage[0]; i++) {
+        uint8_t before = r->desk.bytes[damage[i].slice][damage[i].at];
+        poke_byte(r, e, damage[i].slice, damage[i].at, damage[i].byte);
+        SEND_LINES(r, e, comment);
+        if (damage[i].slice == SESSION && (damage[i].at < 73 || i % 4 == 0))
+            move_clock(r, e, i % 3 ? 0 : 86401);
+        poke_byte(r, e, damage[i].slice, damage[i].at, before);
+    }
+}
+
+/* Two fields and three with one byte wrong: a field that comes again, no separator, one that may not stand there, a field without what must be before it. */
+static void damaged_formats(struct record *r, struct event *e)
+{
+    static const uint8_t formats[][FORMAT] = {{1, '-', 3, 0, 0}, {2, '-', 1, 0, 0}, {4, '-', 3, 0, 0}, {5, 0, 3, 0, 0}, {5, ' ', 3, 0, 0}, {5, '"', 3, 0, 0}, {5, '!', 3, '~', 1}, {5, '-', 3, 127, 1}, {5, '-', 3, '-', 5},
+                                              {5, '-', 3, '-', 0}, {5, 0, 0, '-', 1}, {0, '-', 3, '-', 1}, {5, '-', 4, '-', 2}};
+    static const char *const shown[] = {"A0,0,0,1,1,N,TD"};
+
+    for (unsigned i = 0; i < sizeof formats / sizeof formats[0]; i++) {
+        for (unsigned k = 0; k < FORMAT; k++)
+            poke_byte(r, e, SESSION, DATE_FORMAT_AT + k, formats[i][k]);
+        SEND_LINES(r, e, shown);
+    }
+}
+
+static void dated_session(struct record *r, struct event e)
+{
+    set_up(r, &e);
+    lend_letters(r, &e);
+    open_with(r, &e, 16, 4);
+    first_moves(r, &e);
+    moves_over_ends(r, &e);
+    SEND_LINES(r, &e, formats_outside);
+    SEND_LINES(r, &e, moments_refused);
+    SEND_LINES(r, &e, moments_recorded);
+    moved_labels(r, &e);
+    damaged_moments(r, &e);
+    damaged_formats(r, &e);
+    open_with(r, &e, 16, 4);
+}
+
 static void tell_places(const struct record *r)
 {
     for (unsigned a = 0; a < ANSWERS; a++) {
@@ -921,6 +1074,7 @@ int main(int argc, char **argv)
     fits_session(&r, room);
     slanted_session(&r, room);
     shortest_session(&r, room);
+    dated_session(&r, room);
     for (unsigned a = 0; a < ANSWERS; a++)
         missing += r.reached[a] == 0;
     fprintf(stderr, "%u calls, %ld bytes, %u of the %u answers not reached\n", r.calls, ftell(r.input), missing, ANSWERS);

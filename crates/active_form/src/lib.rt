@@ -8,6 +8,7 @@ ghost use Rattle.forms.specs.Form.{declaredOf, picturesStored};
 ghost use Rattle.item_drawing.specs.Draw.{setting};
 ghost use Rattle.form_drawing.specs.Draw.{formDrawn};
 ghost use Rattle.active_form.specs.Active.{activeBytes, activeCursor};
+use calendar::Clock;
 use contents::Cursor;
 use counters::Counters;
 use declarations::Declared;
@@ -57,13 +58,14 @@ pub fn draw(
     directory: &[u8],
     values: &[u8],
     counters: Counters,
+    clock: Clock,
     width: u16,
     length: u16,
     x: u16,
     y: u16,
     active: u16,
 )
-    ensures { λ _. ⌜ now (page .exit) ≡ formDrawn (setting (now (font .entry)) (now (store .entry)) (now (links .entry)) (now (directory .entry)) (now (values .entry)) counters width length) x y (activeBytes (now (store .entry)) (now (links .entry)) (now (directory .entry)) active) (now (page .entry)) ⌝ }
+    ensures { λ _. ⌜ now (page .exit) ≡ formDrawn (setting (now (font .entry)) (now (store .entry)) (now (links .entry)) (now (directory .entry)) (now (values .entry)) counters clock width length) x y (activeBytes (now (store .entry)) (now (links .entry)) (now (directory .entry)) active) (now (page .entry)) ⌝ }
 {
     let place = reader(links, directory, active);
     form_drawing::draw_form(
@@ -74,6 +76,7 @@ pub fn draw(
         directory,
         values,
         counters,
+        clock,
         width as usize,
         length as usize,
         x as usize,

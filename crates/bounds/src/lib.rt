@@ -53,6 +53,11 @@ pub fn bound_by(code: u8, rows: usize) -> Bounds
             low: 0,
             high: 999999999,
         },
+        b'u' => Bounds { low: 1, high: 12 },
+        b'w' => Bounds { low: 1, high: 31 },
+        b'x' => Bounds { low: 0, high: 99 },
+        b'y' => Bounds { low: 0, high: 23 },
+        b'z' => Bounds { low: 0, high: 59 },
         _ => Bounds { low: 0, high: 0 },
     }
 }

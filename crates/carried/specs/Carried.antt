@@ -6,7 +6,7 @@ use Rattle.declarations.specs.declared.Declared.{Declared}
 use Rattle.declarations.specs.Declarations.{nothing}
 use Rattle.grammar.specs.declared.Origin.{Origin as Place}
 use Rattle.grammar.specs.declared.Item.{Item}
-use Rattle.grammar.specs.declared.Item.the-variants.{Origin, Variable, Counter, Text, Bars, Box, Frame, Slant, Picture}
+use Rattle.grammar.specs.declared.Item.the-variants.{Origin, Variable, Counter, Text, Bars, Box, Frame, Slant, Picture, Format}
 use Rattle.recording.specs.Judged.{declares}
 use Rattle.carried.specs.declared.Carried.{Carried}
 
@@ -16,7 +16,7 @@ place x y = record { x = x; y = y }
 abbrev pub carried : Declared → Place → Carried
 carried d o = record { declared = d; origin = o }
 
--- "runs the active form from the session's origin": nothing is declared before the first line
+-- "runs the active form from the session's origin": nothing is declared before the first line. Paper 02, §10: "each label starts from the example formats"
 abbrev pub starts : ℕ → ℕ → Carried
 starts x y = carried nothing (place x y)
 
@@ -31,6 +31,7 @@ originAfter at (Box r) = at
 originAfter at (Frame f) = at
 originAfter at (Slant l) = at
 originAfter at (Picture p) = at
+originAfter at (Format f) = at
 
 -- what is left after an item
 abbrev pub carries : Carried → Item → Carried

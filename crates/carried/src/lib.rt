@@ -1,7 +1,8 @@
-// What a line of a form leaves to the next: what is declared so far, and the origin.
+// What a line of a form leaves to the next: what is declared so far, with the formats in force, and the origin.
 //
-// An R in a form "replaces the earlier one" and holds for the lines after it, and what a V or C declares holds for them too. `carry` gives what the definition
-// (specs/Carried.antt) says is left after any item. What an item draws in between stands in crate `item_drawing`, a whole form in crate `form_drawing`.
+// An R in a form "replaces the earlier one" and holds for the lines after it, what a V or C declares holds for them too, and so does a format of TD or TT
+// (paper 02, §10). `carry` gives what the definition (specs/Carried.antt) says is left after any item. What an item draws in between stands in crate
+// `item_drawing`, a whole form in crate `form_drawing`.
 ghost use mathlib.Core.Path.{_≡_};
 ghost use Rattle.carried.specs.Carried.{originAfter, carries, starts};
 use declarations::Declared;
@@ -26,6 +27,7 @@ fn origin_after(origin: Origin, item: Item) -> Origin
         Item::Frame(_) => origin,
         Item::Slant(_) => origin,
         Item::Picture(_) => origin,
+        Item::Format(_) => origin,
     }
 }
 

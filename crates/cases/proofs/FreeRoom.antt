@@ -19,6 +19,7 @@ use Rattle.cases.specs.Calls.{Stand, start, font, output}
 use Rattle.cases.specs.Table.{sample}
 use Rattle.cases.specs.FreeRoom.{freeAfter, recording, portion, links, directory, memory, filled, outgrown, given, expected}
 use Rattle.cases.proofs.Opened.{computed}
+use Rattle.sound.proofs.Times.{fresh-times}
 use Rattle.cases.proofs.Laws.{sound-from, store-from, background, frees}
 use Rattle.cases.proofs.Sample.{w0, w1, w2, w3, w4, s0, s1, s5, s7, opening, call-1, call-2, call-3, call-4, call-5, call-6, call-7, call-8, call-9}
 
@@ -54,7 +55,7 @@ store-recording = store-from (portion ++ replicate 768 0) links directory refl r
 
 pub sound-recording : sound recording memory ≡ true
 unfolding computed memory
-sound-recording = sound-from recording memory refl (background 608 1 76) store-recording refl refl refl
+sound-recording = sound-from recording memory refl fresh-times (background 608 1 76) store-recording refl refl refl
 
 fills : given filled recording memory ≡ expected filled
 unfolding computed lineTable lineBy kept freed erased header file memory

@@ -21,6 +21,7 @@ use Rattle.calls.specs.Outcomes.{after, outcome}
 use Rattle.calls.specs.Station.{commanded}
 use Rattle.cases.specs.Calls.{font, output}
 use Rattle.cases.proofs.Opened.{computed}
+use Rattle.sound.proofs.Times.{fresh-times}
 use Rattle.cases.proofs.Laws.{sound-from, store-from, background, frees, answered}
 use Rattle.cases.proofs.Sample.{legal-font}
 
@@ -42,7 +43,7 @@ store-small = store-from (portion ++ portion) links directory refl refl refl ref
 
 pub sound-small : sound (fresh 1 1) small ≡ true
 unfolding computed small
-sound-small = sound-from (fresh 1 1) small refl (background 608 1 76) store-small refl refl refl
+sound-small = sound-from (fresh 1 1) small refl fresh-times (background 608 1 76) store-small refl refl refl
 
 pub lent-small : wrongLent small ≡ false
 unfolding computed small
@@ -72,7 +73,7 @@ store-pictured = store-from drawn (endLink ∷ []) pictureEntry refl refl refl r
 
 pub sound-pictured : sound (fresh 1 0) pictured ≡ true
 unfolding computed pictured header file
-sound-pictured = sound-from (fresh 1 0) pictured refl (background 608 1 76) store-pictured refl refl refl
+sound-pictured = sound-from (fresh 1 0) pictured refl fresh-times (background 608 1 76) store-pictured refl refl refl
 
 pub lent-pictured : wrongLent pictured ≡ false
 unfolding computed pictured header file

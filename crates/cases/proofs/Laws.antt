@@ -19,7 +19,7 @@ use Rattle.font.specs.Rules.{legal}
 use Rattle.store.specs.Chain.{isFree, portion}
 use Rattle.store_sound.specs.Sound.{lentOk, kindsOk, namesOk, uniquesOk, singlesOk, chainsOk, emptiesOk, freeOk, freesOk, tailsOk, storeSound}
 use Rattle.free_number.specs.Number.{freeNumber}
-use Rattle.sound.specs.Sound.{numbersOk, backgroundOk, activeBytes, sound}
+use Rattle.sound.specs.Sound.{numbersOk, timesOk, backgroundOk, activeBytes, sound}
 use Rattle.content_check.specs.Contents.{contentsOk}
 use Rattle.activity_check.specs.Activity.{activitySound}
 use Rattle.front.specs.Front.{frontOf}
@@ -37,12 +37,12 @@ use Rattle.cases.specs.Calls.{Stand, stand, start, font, output, calls, 
 
 -- ---- soundness, clause by clause
 
-pub sound-from : (s : Session) (w : World) → numbersOk (rowsOf w) s ≡ true → backgroundOk (s .width) (s .length) (w .background) ≡ true
+pub sound-from : (s : Session) (w : World) → numbersOk (rowsOf w) s ≡ true → timesOk (s .clock) (s .formats) ≡ true → backgroundOk (s .width) (s .length) (w .background) ≡ true
     → storeSound (w .store) (w .links) (w .directory) ≡ true → freeNumber (w .links) (w .directory) (s .free) ≡ true → contentsOk (w .store) (w .links) (w .directory) ≡ true
     → activitySound s (w .directory) (activeBytes (w .store) (w .links) (w .directory) (s .active)) (w .values) ≡ true
     → sound s w ≡ true
 unfolding sound
-sound-from s w a b c d e f = rw (a, b, c, d, e, f)
+sound-from s w a t b c d e f = rw (a, t, b, c, d, e, f)
 
 pub store-from : (st ls dir : List ℕ) → lentOk st ls dir ≡ true → kindsOk dir ≡ true → namesOk dir ≡ true → uniquesOk dir ≡ true → singlesOk dir ≡ true
     → chainsOk ls dir ≡ true → emptiesOk dir ≡ true → freesOk st ls ≡ true → tailsOk st ls dir ≡ true

@@ -56,6 +56,9 @@ use Rattle.shortest.specs.Found as Found
 use Rattle.symbols.specs.Elements as Bars
 use Rattle.code128.specs.Widths as Widths
 use Rattle.bars.specs.Drawing as Drawing
+use Rattle.calendar.specs.Clock as Clocks
+use Rattle.formats.specs.Formats as Formats
+use Rattle.format_field.specs.Reading as Stamping
 use Rattle.answers.specs.Answers as Answers
 use Rattle.lent.specs.Lent as Lent
 use Rattle.calls.specs.Table as Rows
@@ -97,6 +100,11 @@ calls = true
 unfoldable pub bars : Bool
 unfolding FitBytes.between Fit.inClass Fit.fitLength Fit.fit Field.kindFrom Code128.rows128 Tables.rows39 Tables.rows25 Widths.digits Widths.each Code128.six Code128.weighed Code128.check128 Code128.elements128 Found.leavesB Found.step Found.best Found.started Found.ourWriting Bars.nine Bars.spaced Bars.elements39 Bars.five Bars.woven Bars.pairs Bars.elements25 Bars.weights Bars.checkDigit Bars.elementsIn Bars.elements Drawing.dotsOf Drawing.widths Widths.sum
 bars = true
+
+-- date and time: the calendar, and formats as they are read
+unfoldable pub times : Bool
+unfolding Clocks.leap Clocks.thirty Clocks.daysIn Clocks.legalClock Clocks.fresh Formats.unit Formats.newUnit Formats.separator Formats.legalFormat Formats.example Formats.packed Formats.unpacked Stamping.letter Stamping.unitOf Stamping.dateField Stamping.timeField Stamping.cutAt Stamping.fieldAt Stamping.furtherAt Stamping.formatAt Stamping.formatField Declarations.formatted Sound.timesOk
+times = true
 
 unfoldable pub computed : Bool
 unfolding lines memory values forms clauses calls

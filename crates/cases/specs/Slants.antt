@@ -4,6 +4,7 @@ use Prim.Native.Nat.{ℕ, _+_}
 use mathlib.Core.List.{List, [], _∷_, _++_, map}
 use lib.ListN.{getD, replicate}
 use Rattle.kinds.specs.Text.{bytes}
+use Rattle.calendar.specs.Clock.{fresh as midnight}
 use Rattle.counters.specs.Counters.{noneSet}
 use Rattle.grammar.specs.declared.Ink.{Ink}
 use Rattle.grammar.specs.declared.Item.the-variants.{Slant}
@@ -81,7 +82,7 @@ abbrev pub page : ℕ → List ℕ
 page byte = replicate 304 byte
 
 abbrev pub draws : ℕ → ℕ → List ℕ → List ℕ → List ℕ
-draws width length lines p = formDrawn (setting font [] [] [] [] noneSet width length) 0 0 lines p
+draws width length lines p = formDrawn (setting font [] [] [] [] noneSet midnight width length) 0 0 lines p
 
 abbrev pub firsts : List ℕ → List ℕ
 firsts p = getD p 0 0 ∷ getD p 76 0 ∷ getD p 152 0 ∷ getD p 228 0 ∷ []

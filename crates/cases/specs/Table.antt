@@ -20,6 +20,7 @@ use Rattle.declarations.specs.declared.Declared.{Declared}
 use Rattle.declarations.specs.Declarations.{nothing, withVariable}
 use Rattle.counters.specs.Counters.{counterValue, noneSet}
 use Rattle.stored_values.specs.Stored.{variableEntered}
+use Rattle.calendar.specs.Clock.{fresh as midnight}
 use Rattle.pieces.specs.Data.{dataOf, valuesIn}
 use Rattle.cases.specs.Calls.{Stand, start, calls, labels}
 
@@ -63,7 +64,7 @@ gives (Counter parts c) = counterValue (run parts start .session .counters) c �
 gives (Check t text) = cond (eqb t 30) (checkDigit text) (check128 (ourWriting text)) ∷ []
 gives (Wide t e f text) = sum (widths (kindFrom t) e f text) ∷ []
 gives (Framed a b c d e) = countBelow 608 (λ x. frame a b c d e x (min b e)) ∷ countBelow 4000 (λ y. frame a b c d e (min a d) y) ∷ []
-gives (Shows m value line) = dataOf line 0 (V0 m) (valuesIn (variableEntered (V0 m) 0 value (replicate 340 0) .values) noneSet)
+gives (Shows m value line) = dataOf line 0 (V0 m) (valuesIn (variableEntered (V0 m) 0 value (replicate 340 0) .values) noneSet midnight)
 
 -- ---- the table
 

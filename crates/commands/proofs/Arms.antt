@@ -6,7 +6,7 @@ use mathlib.Core.List.{List, [], _∷_}
 use Prim.Native.Nat.{ℕ}
 use lib.ListN.{length}
 use borrow.Author.Tests.{not-true, not-false}
-use Rattle.declarations.specs.Declarations.{nothing}
+use Rattle.declarations.specs.Declarations.{outsideForms}
 use Rattle.recording.specs.Judged.{declaration}
 use Rattle.grammar.specs.declared.Command.{Command}
 use Rattle.grammar.specs.declared.Item.{Item}
@@ -15,7 +15,8 @@ use Rattle.grammar.specs.declared.FormCommand.{FormCommand}
 use Rattle.grammar.specs.declared.PictureCommand.{PictureCommand}
 use Rattle.grammar.specs.declared.ValueCommand.{ValueCommand}
 use Rattle.grammar.specs.declared.ListingCommand.{ListingCommand}
-use Rattle.grammar.specs.declared.Command.the-variants.{Item as item, End, Page, Forms, Pictures, Values, Listing}
+use Rattle.grammar.specs.declared.SetClock.{SetClock}
+use Rattle.grammar.specs.declared.Command.the-variants.{Item as item, End, Page, Forms, Pictures, Values, Listing, Clock}
 use Rattle.session.specs.declared.Session.{Session}
 use Rattle.answers.specs.declared.Answer.the-variants.{Misplaced}
 use Rattle.answers.specs.Answers.{row, answerOf, isTaken, numberOf}
@@ -32,6 +33,8 @@ use Rattle.picture_commands.proofs.Around.{picture-around}
 use Rattle.value_commands.specs.Values.{valueBy}
 use Rattle.value_commands.proofs.Around.{value-around}
 use Rattle.listing_commands.specs.Listings.{listingBy}
+use Rattle.clock_commands.specs.Clocks.{clockBy}
+use Rattle.results.specs.declared.Done.{Done}
 use Rattle.listing_commands.proofs.Around.{listing-around}
 use Rattle.places.specs.Places.{placesOf}
 use Rattle.commands.specs.Rows.{groupRows}
@@ -50,6 +53,11 @@ module _ (s : Session) (font line more o : List ℕ) (w : World) where
   pub end-run : (c : Command) (x : Ran) (p : Bool) → c ≡ End → p ≡ placesOf c .otherwise → not p ≡ false → x ≡ runBy font w s line more o c
   end-run c x p f e h = absurd (true≢false (sym (not-false p h) ∙ e ∙ ap (λ (k : Command). placesOf k .otherwise) f))
 
+  -- TS is lent none of the lists
+  pub clock-run : (c : SetClock) (r : Done) → ran r (world [] [] [] [] []) [] ≡ clockBy (world [] [] [] [] []) s c → ran r w o ≡ runBy font w s line more o (Clock c)
+  unfolding answerOf isTaken numberOf
+  clock-run c r e = ap (λ (y : Ran). ran (y .done) w o) e
+
 module _ (s : Session) (font line more b st l d v o : List ℕ) (x : Ran) where
   pub item-run :
       (c : Command) (it : Item) (p : Bool) → c ≡ item it → p ≡ placesOf c .otherwise → not p ≡ false → x ≡ itemBy font (world b st l d v) s line it →
@@ -58,8 +66,8 @@ module _ (s : Session) (font line more b st l d v o : List ℕ) (x : Ran) where
   item-run c it p f e h z =
       let w : World = world b st l d v in
       let q : declaration it ≡ false = not-true (declaration it) (sym (e ∙ ap (λ (k : Command). placesOf k .otherwise) f) ∙ not-false p h) in
-      lifted (onBackground st l d v o) x (answerOf (itemRows nothing d line it [])) _ _ z
-      ∙ ap (λ (k : Bool). ranBy (answerOf (row Misplaced (not (not k)) ∷ itemRows nothing d line it [])) s w o (runs font w s line more (item it)) []) (sym q)
+      lifted (onBackground st l d v o) x (answerOf (itemRows (outsideForms (s .formats)) d line it [])) _ _ z
+      ∙ ap (λ (k : Bool). ranBy (answerOf (row Misplaced (not (not k)) ∷ itemRows (outsideForms (s .formats)) d line it [])) s w o (runs font w s line more (item it)) []) (sym q)
       ∙ ap (runBy font w s line more o) (sym f)
 
   pub page-run : (c : PageCommand) → x ≡ pageBy (world b [] [] [] v) s c → onPage st l d o x ≡ runBy font (world b st l d v) s line more o (Page c)

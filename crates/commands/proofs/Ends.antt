@@ -10,7 +10,7 @@ use denote.Enum.Declared as Enum
 use types.Run.{OneOf, miss}
 use Rattle.grammar.proofs.Command as Commands
 use Rattle.grammar.specs.declared.Command.{Command}
-use Rattle.grammar.specs.declared.Command.the-variants.{Item as item, End, Page, Forms, Pictures, Values, Listing}
+use Rattle.grammar.specs.declared.Command.the-variants.{Item as item, End, Page, Forms, Pictures, Values, Listing, Clock}
 use Rattle.read.specs.declared.Fault.{Fault}
 use Rattle.read.specs.declared.Fault.the-variants.{Form as form, Limit}
 use Rattle.read.specs.declared.Read.{Read}
@@ -61,16 +61,17 @@ fault-by (Limit p) font w s line more o = refl
 -- ---- recording: only items and FE have a place
 
 pub misplaced-by :
-    (c : Command) (s : Session) (line : List ℕ) (i : ℕ) (w : World) → OneOf (2 ∷ 3 ∷ 4 ∷ 5 ∷ 6 ∷ []) (Enum.tagOf Commands.the-type c) →
+    (c : Command) (s : Session) (line : List ℕ) (i : ℕ) (w : World) → OneOf (2 ∷ 3 ∷ 4 ∷ 5 ∷ 6 ∷ 7 ∷ []) (Enum.tagOf Commands.the-type c) →
     ran (done Misplaced s 0) w [] ≡ recordBy w s line i [] c
 unfolding answerOf isTaken numberOf
-misplaced-by (item it) s line i w h = absurd (miss (2 ∷ 3 ∷ 4 ∷ 5 ∷ 6 ∷ []) 0 tt h)
-misplaced-by End s line i w h = absurd (miss (2 ∷ 3 ∷ 4 ∷ 5 ∷ 6 ∷ []) 1 tt h)
+misplaced-by (item it) s line i w h = absurd (miss (2 ∷ 3 ∷ 4 ∷ 5 ∷ 6 ∷ 7 ∷ []) 0 tt h)
+misplaced-by End s line i w h = absurd (miss (2 ∷ 3 ∷ 4 ∷ 5 ∷ 6 ∷ 7 ∷ []) 1 tt h)
 misplaced-by (Page c) s line i w h = refl
 misplaced-by (Forms c) s line i w h = refl
 misplaced-by (Pictures c) s line i w h = refl
 misplaced-by (Values c) s line i w h = refl
 misplaced-by (Listing c) s line i w h = refl
+misplaced-by (Clock c) s line i w h = refl
 
 recorded-world :
     (c : Command) (s : Session) (line : List ℕ) (i : ℕ) (b st l d v o : List ℕ) →
@@ -84,6 +85,7 @@ recorded-world (Forms c) s line i b st l d v o = refl
 recorded-world (Pictures c) s line i b st l d v o = refl
 recorded-world (Values c) s line i b st l d v o = refl
 recorded-world (Listing c) s line i b st l d v o = refl
+recorded-world (Clock c) s line i b st l d v o = refl
 
 pub record-in :
     (c : Command) (s : Session) (line : List ℕ) (i : ℕ) (b st l d v o : List ℕ) (x : Ran) → x ≡ recordBy (world [] st l d []) s line i [] c →

@@ -7,7 +7,7 @@ use native.Mathlib.Omega.{arith}
 use lib.ListN.{length, take, drop, replicate, length-replicate}
 use lib.Seq.{sets, sets-eq}
 use Rattle.grammar.specs.declared.Command.{Command}
-use Rattle.grammar.specs.declared.Command.the-variants.{Item as item, End, Page, Forms, Pictures, Values, Listing}
+use Rattle.grammar.specs.declared.Command.the-variants.{Item as item, End, Page, Forms, Pictures, Values, Listing, Clock}
 use Rattle.read.specs.declared.Read.the-variants.{Taken}
 use Rattle.read.specs.Commands.{readOf}
 use Rattle.writing.specs.Writing.{Wrote}
@@ -46,6 +46,7 @@ short-read rows line (Forms c) h e = tt
 short-read rows line (Pictures c) h e = tt
 short-read rows line (Values c) h e = tt
 short-read rows line (Listing c) h e = tt
+short-read rows line (Clock c) h e = tt
 
 pub short-at : (c c' : Command) (line : List ℕ) → c ≡ c' → short c line → short c' line
 short-at c c' line e p = subst (λ (k : Command). short k line) e p

@@ -10,7 +10,7 @@ use Rattle.finding.specs.Find.{recorded}
 use Rattle.growing.specs.Grow.{grown}
 use Rattle.starting.specs.Start.{finished}
 use Rattle.grammar.specs.declared.Command.{Command}
-use Rattle.grammar.specs.declared.Command.the-variants.{Item as item, End, Page, Forms, Pictures, Values, Listing}
+use Rattle.grammar.specs.declared.Command.the-variants.{Item as item, End, Page, Forms, Pictures, Values, Listing, Clock}
 use Rattle.read.specs.declared.Read.{Read}
 use Rattle.read.specs.declared.Read.the-variants.{Taken as Reads, Refused}
 use Rattle.normal.specs.Written.{normal}
@@ -24,6 +24,7 @@ use Rattle.form_commands.specs.Forms.{formRuns}
 use Rattle.picture_commands.specs.Pictures.{pictureRuns}
 use Rattle.value_commands.specs.Values.{valueRuns}
 use Rattle.listing_commands.specs.Listings.{listedBy}
+use Rattle.clock_commands.specs.Clocks.{clockRuns}
 
 -- "A recorded line is checked and kept, not run", in normal form and with its LF; with the number of free portions after it
 abbrev pub recordedLine : World → ℕ → List ℕ → World
@@ -45,6 +46,7 @@ records w s line i (Forms c) = state s w
 records w s line i (Pictures c) = state s w
 records w s line i (Values c) = state s w
 records w s line i (Listing c) = state s w
+records w s line i (Clock c) = state s w
 
 -- otherwise
 abbrev pub runs : List ℕ → World → Session → List ℕ → List ℕ → Command → State
@@ -55,6 +57,7 @@ runs font w s line more (Forms c) = formRuns w s line c
 runs font w s line more (Pictures c) = pictureRuns w s line more c
 runs font w s line more (Values c) = valueRuns w s line c
 runs font w s line more (Listing c) = state s w
+runs font w s line more (Clock c) = clockRuns w s c
 
 abbrev pub placed : List ℕ → World → Session → List ℕ → List ℕ → Command → Found → State
 placed font w s line more c (At i) = records w s line i c
@@ -72,6 +75,7 @@ listed w line (Forms c) = []
 listed w line (Pictures c) = []
 listed w line (Values c) = []
 listed w line (Listing c) = listedBy w line c
+listed w line (Clock c) = []
 
 -- a line that was read
 abbrev pub doesLine : List ℕ → World → Session → List ℕ → List ℕ → Read → State

@@ -5,14 +5,14 @@ use mathlib.Core.Bool.{true, not}
 use mathlib.Core.List.{List, [], _∷_}
 use lib.ListN.{length}
 use lib.Dec.{ltb}
-use Rattle.declarations.specs.Declarations.{nothing}
+use Rattle.declarations.specs.Declarations.{outsideForms}
 use Rattle.finding.specs.declared.Found.{Found}
 use Rattle.finding.specs.declared.Found.the-variants.{At, Nothing}
 use Rattle.store.specs.Entry.{entry}
 use Rattle.finding.specs.Find.{recorded}
 use Rattle.room.specs.Room.{canGrow}
 use Rattle.grammar.specs.declared.Command.{Command}
-use Rattle.grammar.specs.declared.Command.the-variants.{Item as item, End, Page, Forms, Pictures, Values, Listing}
+use Rattle.grammar.specs.declared.Command.the-variants.{Item as item, End, Page, Forms, Pictures, Values, Listing, Clock}
 use Rattle.read.specs.declared.Fault.{Fault}
 use Rattle.read.specs.declared.Fault.the-variants.{Form as form, Limit}
 use Rattle.read.specs.declared.Read.{Read}
@@ -48,15 +48,16 @@ keptRows w s line i NoItem = []
 abbrev pub recordRows : World → Session → List ℕ → ℕ → Command → List Row
 recordRows w s line i c = row Misplaced (not (placesOf c .recording)) ∷ keptRows w s line i (heldCommand c)
 
--- each group's own rows. Outside recording data elements find nothing declared
+-- each group's own rows. Outside recording data elements find nothing declared, and the session's formats are in force
 abbrev pub groupRows : World → Session → List ℕ → List ℕ → ℕ → Command → List Row
-groupRows w s line more room (item it) = itemRows nothing (w .directory) line it []
+groupRows w s line more room (item it) = itemRows (outsideForms (s .formats)) (w .directory) line it []
 groupRows w s line more room End = []
 groupRows w s line more room (Page c) = []
 groupRows w s line more room (Forms c) = formRows w s line c
 groupRows w s line more room (Pictures c) = pictureRows w s line more c
 groupRows w s line more room (Values c) = valueRows w s line c
 groupRows w s line more room (Listing c) = listingRows w line room c
+groupRows w s line more room (Clock c) = []
 
 -- otherwise
 abbrev pub runRows : World → Session → List ℕ → List ℕ → ℕ → Command → List Row

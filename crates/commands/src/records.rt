@@ -1,4 +1,4 @@
-// "While recording only R, V, C, A, B, LO, LE, LW, X, GG and FE have a place", and "LS may be recorded."
+// "While recording only R, V, C, A, B, LO, LE, LW, X, GG and FE have a place", "LS may be recorded", and "TD and TT may be recorded."
 ghost use mathlib.Core.Path.{_≡_};
 ghost use mathlib.Core.Bool.{not};
 ghost use mathlib.Core.List.{[], _∷_};

@@ -4,6 +4,7 @@ ghost use Rattle.lent.specs.Lent.{world};
 ghost use Rattle.results.specs.Result.{ran};
 ghost use Rattle.commands.specs.Running.{runBy};
 use answers::Answer;
+use clock_commands::run_clock;
 use form_commands::run_form;
 use grammar::Command;
 use grammar::Item;
@@ -55,5 +56,6 @@ pub(crate) fn run(
         Command::Pictures(c) => run_picture(session, c, line, more, store, links, directory),
         Command::Values(c) => run_value(session, c, line, store, links, directory, values),
         Command::Listing(c) => run_listing(session, c, line, store, links, directory, output),
+        Command::Clock(c) => run_clock(session, c),
     }
 }

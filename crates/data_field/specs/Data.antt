@@ -12,7 +12,7 @@ use Rattle.elements.specs.Elements.{elementAt, elements}
 use Rattle.elements.specs.declared.Part.{Part}
 use Rattle.elements.specs.declared.Part.the-variants.{Whole, First, Last, Middle}
 use Rattle.elements.specs.declared.What.{What}
-use Rattle.elements.specs.declared.What.the-variants.{Text, Variable, Counter}
+use Rattle.elements.specs.declared.What.the-variants.{Text, Variable, Counter, Stamped}
 use Rattle.elements.specs.declared.Element.{Element}
 use Rattle.elements.specs.declared.Step.{Step}
 use Rattle.elements.specs.declared.Step.the-variants.{Next, Stop}
@@ -45,6 +45,7 @@ abbrev pub whatGood : What → Bool
 whatGood Text = true
 whatGood (Variable n p) = partGood p
 whatGood (Counter n p) = partGood p
+whatGood (Stamped st) = true
 
 -- whether all modifiers are within their limits, or the place of the first element that is outside
 unfoldable pub limits : List Element → Limits

@@ -66,6 +66,7 @@ fn what_good(what: What) -> bool
         What::Text => true,
         What::Variable(_, part) => part_good(part),
         What::Counter(_, part) => part_good(part),
+        What::Stamped(_) => true,
     }
 }
 

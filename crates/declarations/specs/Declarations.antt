@@ -1,10 +1,14 @@
--- What a form declares: ten variables and ten counters, each declared or not.
+-- What a form declares: ten variables and ten counters, each declared or not; and the formats of date and time, which hold for the lines after them as declarations do.
 -- Assumes nothing.
 use Prim.Native.Nat.{ℕ, zero, suc, min}
 use mathlib.Core.Bool.{Bool, true, cond, _&&_}
 use mathlib.Core.List.{List}
 use lib.ListN.{getD, set, replicate}
 use lib.Dec.{ltb, eqb}
+use Rattle.formats.specs.declared.Format.{Format}
+use Rattle.formats.specs.declared.Formats.{Formats}
+use Rattle.formats.specs.declared.Stamp.{Stamp}
+use Rattle.formats.specs.Formats.{examples, withFormat}
 use Rattle.declarations.specs.declared.Declared.{Declared}
 
 -- "n 0..9": of ten numbers the one at k, 0 at another place
@@ -42,15 +46,20 @@ variableDeclared d k = ltb 0 (lengthAt d k)
 abbrev pub counterDeclared : Declared → ℕ → Bool
 counterDeclared d k = ltb 0 (widthAt d k)
 
--- with no form, and at the start of one
-unfoldable pub nothing : Declared
-nothing = record {
+-- nothing is declared, and these formats are in force
+abbrev pub outsideForms : Formats → Declared
+outsideForms fs = record {
   lengths = replicate 10 0;
   sides = replicate 10 0;
   widths = replicate 10 0;
   minus = replicate 10 0;
   steps = replicate 10 0;
+  formats = fs;
 }
+
+-- at the start of a form: paper 02, §10, "each label starts from the example formats, and so does the check of each form"
+unfoldable pub nothing : Declared
+nothing = outsideForms examples
 
 -- `Vn,m,j`: a length above 32 counts as 32, and an n above 9 declares nothing
 unfoldable pub withVariable : Declared → ℕ → ℕ → ℕ → Declared
@@ -61,6 +70,7 @@ withVariable d n m j = cond (ltb n 10)
       widths = d .widths;
       minus = d .minus;
       steps = d .steps;
+      formats = d .formats;
     })
     d
 
@@ -73,5 +83,18 @@ withCounter d n w minus step = cond (ltb n 10)
       widths = set (d .widths) n (min w 9);
       minus = set (d .minus) n (cond minus 1 0);
       steps = set (d .steps) n (min step 99999);
+      formats = d .formats;
     })
     d
+
+-- `TD` and `TT`: the format that is shown from then on
+unfoldable pub formatted : Declared → Stamp → Format → Declared
+formatted d st f =
+    record {
+      lengths = d .lengths;
+      sides = d .sides;
+      widths = d .widths;
+      minus = d .minus;
+      steps = d .steps;
+      formats = withFormat (d .formats) st f;
+    }

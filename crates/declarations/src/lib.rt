@@ -1,12 +1,16 @@
-// What a form declares: ten variables and ten counters.
+// What a form declares: ten variables and ten counters, and in which formats it shows date and time.
 //
 // `Vn,m,j` declares variable n with a length m of 1 to 32 and a justification j, `Cn,w,s` counter n with a width w of 1 to 9 and a step s. A length or
 // width of 0 is none declared. The definitions (specs/Declarations.antt) say what is declared of any ten numbers, and each method here gives exactly
-// that. What is entered for a variable or a counter is held against its declaration: taken, not declared (13), or unfit (17). How the values are
-// kept stands in crates `stored_values` and `counters`.
+// that. `TD` and `TT` say a format, which holds for the lines after it as a declaration does (paper 02, §10), so it is kept beside them. What is entered for
+// a variable or a counter is held against its declaration: taken, not declared (13), or unfit (17). How the values are kept stands in crates `stored_values`
+// and `counters`.
 ghost use mathlib.Core.Path.{_≡_};
 ghost use mathlib.Core.Bool.{cond};
-ghost use Rattle.declarations.specs.Declarations.{tenth, lengthAt, sideAt, widthAt, minusAt, stepAt, variableDeclared, counterDeclared, nothing, withVariable, withCounter};
+ghost use Rattle.declarations.specs.Declarations.{tenth, lengthAt, sideAt, widthAt, minusAt, stepAt, variableDeclared, counterDeclared, nothing, outsideForms, withVariable, withCounter, formatted};
+use formats::Format;
+use formats::Formats;
+use formats::Stamp;
 use ground::least;
 use ground::wide;
 
@@ -16,6 +20,7 @@ pub struct Declared {
     pub widths: [u8; 10],
     pub minus: [u8; 10],
     pub steps: [u32; 10],
+    pub formats: Formats,
 }
 
 // What becomes of a value that is entered: taken; [13] not declared; [17] it does not fit.
@@ -54,7 +59,17 @@ impl Declared {
             widths: [0; 10],
             minus: [0; 10],
             steps: [0; 10],
+            formats: Formats::examples(),
         }
+    }
+
+    // Outside a form nothing is declared, and the session's formats serve.
+    pub fn outside(formats: Formats) -> Declared
+        ensures { λ r. ⌜ r ≡ outsideForms formats ⌝ }
+    {
+        let mut d = Declared::none();
+        d.formats = formats;
+        d
     }
 
     pub fn length_at(self, k: usize) -> usize
@@ -114,6 +129,7 @@ impl Declared {
             let widths = self.widths;
             let minus = self.minus;
             let steps = self.steps;
+            let formats = self.formats;
             lengths[n] = least(m, 32) as u8;
             sides[n] = j;
             return Declared {
@@ -122,6 +138,7 @@ impl Declared {
                 widths,
                 minus,
                 steps,
+                formats,
             };
         }
         self
@@ -137,6 +154,7 @@ impl Declared {
             let mut widths = self.widths;
             let mut flags = self.minus;
             let mut steps = self.steps;
+            let formats = self.formats;
             widths[n] = least(w, 9) as u8;
             flags[n] = flag(minus);
             steps[n] = least(step, 99999) as u32;
@@ -146,8 +164,19 @@ impl Declared {
                 widths,
                 minus: flags,
                 steps,
+                formats,
             };
         }
         self
+    }
+
+    // A format of the date or of the time, for what comes after it.
+    pub fn formatted(self, stamp: Stamp, format: Format) -> Declared
+        ensures { λ r. ⌜ r ≡ formatted self stamp format ⌝ }
+    {
+        let before = self.formats;
+        let mut d = self;
+        d.formats = before.with(stamp, format);
+        d
     }
 }

@@ -10,9 +10,9 @@ use lib.Dec.{eqb}
 use borrow.Author.Tests.{eqb-true, eq-eqb}
 use Rattle.font.specs.Rules.{legal as legalFont}
 use Rattle.grammar.specs.declared.Item.{Item}
-use Rattle.grammar.specs.declared.Item.the-variants.{Origin, Variable, Counter, Text, Bars, Box, Frame, Slant, Picture}
+use Rattle.grammar.specs.declared.Item.the-variants.{Origin, Variable, Counter, Text, Bars, Box, Frame, Slant, Picture, Format}
 use Rattle.grammar.specs.declared.Command.{Command}
-use Rattle.grammar.specs.declared.Command.the-variants.{Item as item, End, Page, Forms, Pictures, Values, Listing}
+use Rattle.grammar.specs.declared.Command.the-variants.{Item as item, End, Page, Forms, Pictures, Values, Listing, Clock}
 use Rattle.grammar.specs.declared.PageCommand.the-variants.{Length, Width, Turn, White}
 use Rattle.grammar.specs.declared.FormCommand.the-variants.{Start, Retrieve, Erase as EraseForm}
 use Rattle.grammar.specs.declared.PictureCommand.the-variants.{Store, Erase as ErasePicture}
@@ -28,7 +28,7 @@ use Rattle.session.specs.Session.{roomed}
 use Rattle.answers.specs.declared.Answer.the-variants.{Unsound}
 use Rattle.answers.specs.Answers.{answerOf, isTaken}
 use Rattle.lent.specs.Lent.{World, rowsOf, wrongLent}
-use Rattle.sound.specs.Sound.{numbersOk, backgroundOk, sound}
+use Rattle.sound.specs.Sound.{numbersOk, timesOk, backgroundOk, sound}
 use Rattle.results.specs.World.{State}
 use Rattle.item_commands.specs.Items.{basedBy}
 use Rattle.commands.specs.Does.{placed}
@@ -37,7 +37,8 @@ use Rattle.calls.specs.Table.{commandTable, labelTable}
 use Rattle.unread.specs.Front.{lineOf, moreOf}
 use Rattle.calls.specs.Station.{commanded, labelSession, labelledBy}
 use Rattle.ground.proofs.Tests.{and-left, and-right, is-false}
-use Rattle.keeps_sound.specs.Calls.{Call, command, label, called, through}
+use Rattle.keeps_sound.specs.Calls.{Call, command, label, pass, called, through}
+use Rattle.keeps_sound.proofs.Passing.{passed-keeps}
 use Rattle.keeps_sound.proofs.Layers.{sound-good}
 use Rattle.keeps_sound.proofs.Always.{GoodState, called-good}
 use Rattle.demands.specs.Calls.{Avoids, Without}
@@ -56,7 +57,8 @@ unfolding sound
 sound-number s w h =
     and-left (freeNumber (w .links) (w .directory) (s .free)) _
     (and-right (storeSound (w .store) (w .links) (w .directory)) _
-    (and-right (backgroundOk (s .width) (s .length) (w .background)) _ (and-right (numbersOk (rowsOf w) s) _ h)))
+    (and-right (backgroundOk (s .width) (s .length) (w .background)) _
+    (and-right (timesOk (s .clock) (s .formats)) _ (and-right (numbersOk (rowsOf w) s) _ h))))
 
 -- two numbers that both make up the portions lent are one
 one-number : (links directory : List ℕ) (m n : ℕ) → freeNumber links directory m ≡ true → freeNumber links directory n ≡ true → m ≡ n
@@ -98,6 +100,7 @@ module _ (font : List ℕ) (w : World) (s : Session) (line more : List ℕ) wher
   based-stays (Frame f) = refl
   based-stays (Slant l) = refl
   based-stays (Picture p) = refl
+  based-stays (Format f) = refl
 
   placed-stays : (f : Found) (c : Command) → storing f c ≡ false → placed font w s line more c f .session .free ≡ s .free
   placed-stays (At i) (item it) e = absurd (true≢false e)
@@ -107,6 +110,7 @@ module _ (font : List ℕ) (w : World) (s : Session) (line more : List ℕ) wher
   placed-stays (At i) (Pictures c) e = refl
   placed-stays (At i) (Values c) e = refl
   placed-stays (At i) (Listing c) e = refl
+  placed-stays (At i) (Clock c) e = refl
   placed-stays Nothing (item it) e = based-stays it
   placed-stays Nothing End e = refl
   placed-stays Nothing (Page (Length l)) e = refl
@@ -123,6 +127,7 @@ module _ (font : List ℕ) (w : World) (s : Session) (line more : List ℕ) wher
   placed-stays Nothing (Values Clear) e = refl
   placed-stays Nothing (Values (Print p)) e = refl
   placed-stays Nothing (Listing c) e = refl
+  placed-stays Nothing (Clock c) e = refl
 
 counted-stays : (b : Bool) (x y : Session) (n : ℕ) → x .free ≡ n → y .free ≡ n → cond b x y .free ≡ n
 counted-stays true x y n e f = e
@@ -140,6 +145,7 @@ label-stays s font w page =
 
 call-stays : (c : Call) (st : State) → Avoids Stores c st → called st c .session .free ≡ st .session .free
 call-stays (label font page) st avoids = label-stays (st .session) font (st .world) page
+call-stays (pass seconds) st avoids = passed-keeps (λ x. x .free) (st .session) seconds (λ c. refl)
 call-stays (command font output input) st avoids =
     by-said (st .session) font (st .world) output input (λ (x : State). x .session .free ≡ st .session .free) refl
     (λ c r t.

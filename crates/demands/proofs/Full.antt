@@ -13,7 +13,7 @@ use Rattle.pcx.specs.Rules.{legal as legalPicture}
 use Rattle.grammar.specs.declared.Named.{Named}
 use Rattle.grammar.specs.declared.StorePicture.{StorePicture}
 use Rattle.grammar.specs.declared.Command.{Command}
-use Rattle.grammar.specs.declared.Command.the-variants.{Item as item, End, Page, Forms, Pictures, Values, Listing}
+use Rattle.grammar.specs.declared.Command.the-variants.{Item as item, End, Page, Forms, Pictures, Values, Listing, Clock}
 use Rattle.grammar.specs.declared.FormCommand.the-variants.{Start, Retrieve, Erase as EraseForm}
 use Rattle.grammar.specs.declared.PictureCommand.the-variants.{Store, Erase as ErasePicture}
 use Rattle.grammar.specs.declared.ValueCommand.the-variants.{Variable as EnterVariable, Counter as EnterCounter, Clear, Print}
@@ -87,6 +87,7 @@ module _ (w : World) (s : Session) (counted : s .free ≡ freeCount (w .links)) 
   record-no-entry i (Pictures c) = refl
   record-no-entry i (Values c) = refl
   record-no-entry i (Listing c) = refl
+  record-no-entry i (Clock c) = refl
 
   run-ran-out :
       (c : Command) → recorded (w .directory) ≡ Nothing → applies 23 (runRows w s line more room c) ≡ true → applies 19 (runRows w s line more room c) ≡ false →
@@ -107,6 +108,7 @@ module _ (w : World) (s : Session) (counted : s .free ≡ freeCount (w .links)) 
   run-ran-out (Listing ListForms) q e h = absurd (false≢true e)
   run-ran-out (Listing ListPictures) q e h = absurd (false≢true e)
   run-ran-out (Listing (ListForm n)) q e h = absurd (false≢true e)
+  run-ran-out (Clock c) q e h = absurd (false≢true e)
 
   placed-ran-out :
       (c : Command) (f : Found) → recorded (w .directory) ≡ f → applies 23 (placedRows w s line more room c f) ≡ true →

@@ -15,7 +15,7 @@ use Rattle.fields.specs.Field.{byteAt}
 use Rattle.elements.specs.declared.What.{What}
 use Rattle.elements.specs.declared.Element.{Element}
 use Rattle.declarations.specs.declared.Declared.{Declared}
-use Rattle.declarations.specs.Declarations.{nothing}
+use Rattle.declarations.specs.Declarations.{outsideForms}
 use Rattle.reach.specs.Answers.{undeclaredBy, pastBy}
 use Rattle.reach.proofs.Leftmost.{leftmost-inside}
 use Rattle.reader.specs.Letters.{fieldAt}
@@ -25,9 +25,9 @@ use Rattle.grammar.specs.Named.{VARIABLE, COUNTER, SET-VARIABLE, SET-COUNTER, D
 use Rattle.grammar.specs.Forms.{Form, forms, rowOf, inOrder}
 use Rattle.grammar.proofs.Rows.{_&_, Each, each-row}
 use Rattle.grammar.specs.declared.Item.{Item}
-use Rattle.grammar.specs.declared.Item.the-variants.{Origin, Variable, Counter, Text, Bars, Box, Frame, Slant, Picture}
+use Rattle.grammar.specs.declared.Item.the-variants.{Origin, Variable, Counter, Text, Bars, Box, Frame, Slant, Picture, Format}
 use Rattle.grammar.specs.declared.Command.{Command}
-use Rattle.grammar.specs.declared.Command.the-variants.{Item as item, End, Page, Forms, Pictures, Values, Listing}
+use Rattle.grammar.specs.declared.Command.the-variants.{Item as item, End, Page, Forms, Pictures, Values, Listing, Clock}
 use Rattle.grammar.specs.declared.FormCommand.the-variants.{Start, Retrieve, Erase as EraseForm}
 use Rattle.grammar.specs.declared.PictureCommand.the-variants.{Store, Erase as ErasePicture}
 use Rattle.grammar.specs.declared.ValueCommand.the-variants.{Variable as EnterVariable, Counter as EnterCounter, Clear, Print}
@@ -39,7 +39,7 @@ use Rattle.read.specs.declared.Read.the-variants.{Taken as Reads, Refused}
 use Rattle.read.specs.Commands.{readOf, headed}
 use Rattle.normal.specs.Written.{normal}
 use Rattle.pointing.proofs.Inside.{form-inside, limit-inside}
-use Rattle.normal.proofs.Data.{Chain, ended, then, a-text, a-variable, a-counter}
+use Rattle.normal.proofs.Data.{a-stamp, Chain, ended, then, a-text, a-variable, a-counter}
 use Rattle.finding.specs.declared.Found.{Found}
 use Rattle.finding.specs.declared.Found.the-variants.{At, Nothing}
 use Rattle.finding.specs.Find.{recorded}
@@ -133,6 +133,7 @@ Entered s (Values (EnterCounter c)) = ENTERED-AT ≤ length s
 Entered s (Values Clear) = Unit {0}
 Entered s (Values (Print p)) = Unit {0}
 Entered s (Listing c) = Unit {0}
+Entered s (Clock c) = Unit {0}
 
 Entering : ℕ → Form → Type 0
 Entering k f =
@@ -173,6 +174,9 @@ entering =
     & (λ s vs ps k. tt)
     & (λ s vs ps k. tt)
     & (λ s vs ps k. tt)
+    & (λ s vs ps k. tt)
+    & (λ s vs ps k. tt)
+    & (λ s vs ps k. tt)
     & (λ j s vs ps k. tt)
 
 module _ (rows : ℕ) (s : List ℕ) where
@@ -185,6 +189,7 @@ module _ (rows : ℕ) (s : List ℕ) where
   chained (then (a-text n e h) c) = omega (arith, chained c)
   chained (then (a-variable k p n h f) c) = omega (arith, chained c)
   chained (then (a-counter k p n h f) c) = omega (arith, chained c)
+  chained (then (a-stamp st) c) = omega (arith, chained c)
 
   told-within : (i : Item) → Tells s i → dataPlace (shownBy i) ≤ length s
   unfolding Tells
@@ -197,6 +202,7 @@ module _ (rows : ℕ) (s : List ℕ) where
   told-within (Frame f) t = omega arith
   told-within (Slant l) t = omega arith
   told-within (Picture p) t = omega arith
+  told-within (Format f) t = omega arith
 
   data-within : (i : Item) → readOf rows s ≡ Reads (item i) → dataPlace (shownBy i) ≤ length s
   data-within i h = told-within i (item-tells rows s i h)
@@ -257,7 +263,8 @@ module _ (w : World) (line : List ℕ) (rows : ℕ) where
     placed-within (Pictures c) (At i) h = (zero, tt)
     placed-within (Values c) (At i) h = (zero, tt)
     placed-within (Listing c) (At i) h = (zero, tt)
-    placed-within (item it) Nothing h = (zero, item-within nothing it [] h tt)
+    placed-within (Clock c) (At i) h = (zero, tt)
+    placed-within (item it) Nothing h = (zero, item-within (outsideForms (s .formats)) it [] h tt)
     placed-within End Nothing h = (zero, tt)
     placed-within (Page c) Nothing h = (zero, tt)
     placed-within (Forms (Start n)) Nothing h = zero & zero & zero & zero & tt
@@ -272,6 +279,7 @@ module _ (w : World) (line : List ℕ) (rows : ℕ) where
     placed-within (Listing ListForms) Nothing h = zero & zero & tt
     placed-within (Listing ListPictures) Nothing h = zero & zero & tt
     placed-within (Listing (ListForm n)) Nothing h = zero & zero & zero & tt
+    placed-within (Clock c) Nothing h = (zero, tt)
 
 -- ---- a command call
 

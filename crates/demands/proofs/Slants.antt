@@ -17,7 +17,7 @@ use Rattle.slanted_lines.proofs.Expected.{near-moved, slanted-is-near}
 use Rattle.font.specs.Rules.{legal as legalFont}
 use Rattle.declarations.specs.declared.Declared.{Declared}
 use Rattle.grammar.specs.declared.Slant.{Slant as SlantLine}
-use Rattle.grammar.specs.declared.Item.the-variants.{Origin, Variable, Counter, Text, Bars, Box, Frame, Slant, Picture}
+use Rattle.grammar.specs.declared.Item.the-variants.{Origin, Variable, Counter, Text, Bars, Box, Frame, Slant, Picture, Format}
 use Rattle.grammar.specs.declared.Command.the-variants.{Item as item}
 use Rattle.read.specs.declared.Read.the-variants.{Taken as Reads}
 use Rattle.read.specs.Commands.{readOf}
@@ -177,6 +177,7 @@ line-keeps g t line h = by (itemIn line) refl
     by (Holds (Frame f)) e = h
     by (Holds (Slant l)) e = h
     by (Holds (Picture p)) e = h
+    by (Holds (Format f)) e = h
 
 pub lines-keep : (g : Setting) (lines : List (List ℕ)) (t : Drawing) → InLimits t → InLimits (drawsLines g t lines)
 unfolding drawsLines

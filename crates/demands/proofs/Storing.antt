@@ -25,7 +25,7 @@ use Rattle.grammar.specs.Forms.{Form, forms, rowOf, spread, inOrder}
 use Rattle.grammar.proofs.Rows.{_&_, Each, each-row}
 use Rattle.grammar.specs.declared.StorePicture.{StorePicture}
 use Rattle.grammar.specs.declared.Command.{Command}
-use Rattle.grammar.specs.declared.Command.the-variants.{Item as item, End, Page, Forms, Pictures, Values, Listing}
+use Rattle.grammar.specs.declared.Command.the-variants.{Item as item, End, Page, Forms, Pictures, Values, Listing, Clock}
 use Rattle.grammar.specs.declared.PictureCommand.the-variants.{Store, Erase as ErasePicture}
 use Rattle.row_fields.specs.Reading.{good, fieldsFrom}
 use Rattle.data_field.specs.declared.Limits.the-variants.{Within, Outside}
@@ -61,6 +61,7 @@ Asks row s (Pictures (Store p)) = between 1 32768 (p .n) ≡ true → askedBy (H
 Asks row s (Pictures (ErasePicture n)) = Unit {0}
 Asks row s (Values c) = Unit {0}
 Asks row s (Listing c) = Unit {0}
+Asks row s (Clock c) = Unit {0}
 
 -- for each row
 abbrev Asking : ℕ → Form → Type 0
@@ -96,6 +97,9 @@ asking =
     & (λ s vs ps e. tt)
     & (λ s vs ps e. tt)
     & size-says
+    & (λ s vs ps e. tt)
+    & (λ s vs ps e. tt)
+    & (λ s vs ps e. tt)
     & (λ s vs ps e. tt)
     & (λ s vs ps e. tt)
     & (λ s vs ps e. tt)

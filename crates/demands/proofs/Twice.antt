@@ -9,7 +9,7 @@ use native.Mathlib.Omega.{arith}
 use lib.Dec.{eqb}
 use borrow.Author.Tests.{ltb-true}
 use Rattle.declarations.specs.declared.Declared.{Declared}
-use Rattle.declarations.specs.Declarations.{widthAt, minusAt, stepAt, counterDeclared, variableDeclared}
+use Rattle.declarations.specs.Declarations.{tenth, widthAt, minusAt, stepAt, counterDeclared, variableDeclared}
 use Rattle.declarations.proofs.Tenths.{tenth-below}
 use Rattle.counters.specs.declared.Counters.{Counters}
 use Rattle.counters.specs.Counters.{tenTo, digits, counterSet, counterValue}
@@ -32,7 +32,8 @@ use Rattle.calls.specs.Outcomes.{Drawn}
 use Rattle.calls.specs.Station.{labelSession, labelledBy}
 use Rattle.calls.proofs.Promises.{label-refusal-keeps}
 use Rattle.keeps_sound.specs.Good.{Good}
-use Rattle.keeps_sound.specs.Calls.{Call, command, label, called, through}
+use Rattle.keeps_sound.specs.Calls.{Call, command, label, pass, called, through}
+use Rattle.keeps_sound.proofs.Passing.{passed-keeps}
 use Rattle.keeps_sound.proofs.Tables.{taken-is}
 use Rattle.keeps_sound.proofs.Labels.{sound-ten, owed-set}
 use Rattle.keeps_sound.proofs.Always.{GoodState, called-good, through-good}
@@ -146,6 +147,11 @@ module _ (d : Declared) (n v : ℕ) (l : n < 10) (step : 0 < stepAt d n) where
           (ap (λ (c : Counters). counterSet c n) (label-moves (st .session) font (st .world) page t)
           ∙ unset-stays (activeDeclared (st .world) (st .session)) (st .session .counters) (sound-ten (st .session) (st .world) (g .good) (g .tens)) n l x)
       drawn t (inr x) = label-ahead st g font page t (x .0) (inr (x .1))
+  call-ahead (pass seconds) st g a was = same-ahead st (called st (pass seconds)) (
+    passed-keeps (λ x. tenth (x .counters .set) n) (st .session) seconds (λ c. refl),
+    passed-keeps (λ x. counterValue (x .counters) n) (st .session) seconds (λ c. refl),
+    passed-keeps (activeOf (st .world)) (st .session) seconds (λ c. refl),
+  ) was
 
   calls-ahead : (cs : List Call) (st : State) → GoodState st → Without (Enters n) cs st → Ahead d n v st → Ahead d n v (through st cs)
   calls-ahead [] st g a was = was

@@ -14,7 +14,7 @@ use Rattle.bars.specs.Drawing.{inLimits}
 use Rattle.lined.specs.Lined.{barsWith}
 use Rattle.lined.proofs.Asked.{with-shortest}
 use Rattle.declarations.specs.declared.Declared.{Declared}
-use Rattle.declarations.specs.Declarations.{nothing}
+use Rattle.declarations.specs.Declarations.{outsideForms}
 use Rattle.grammar.specs.declared.Bars.{Bars as BarsLine}
 use Rattle.grammar.specs.declared.Item.the-variants.{Bars}
 use Rattle.grammar.specs.declared.Command.the-variants.{Item as item}
@@ -107,4 +107,4 @@ bars-taken s w g quiet a b r one taken v h p =
     command-done s (a .font) w (a .output) (a .input) (item (Bars b)) r taken .does
     ∙ rw quiet
     (ap (λ (q : List ℕ). after (outcome Taken s (r .whole) 0) (withBackground w q) (a .output))
-    (read-shortest (rowsOf w) (lineOf (a .input) (r .line)) b (r .means) (s .x) (s .y) (n .x) (n .y) (onBackground s w (a .font)) nothing (w .background) v one h p))
+    (read-shortest (rowsOf w) (lineOf (a .input) (r .line)) b (r .means) (s .x) (s .y) (n .x) (n .y) (onBackground s w (a .font)) (outsideForms (s .formats)) (w .background) v one h p))

@@ -5,7 +5,7 @@ use mathlib.Core.Path.{_≡_}
 use mathlib.Core.Bool.{Bool, true, false}
 use mathlib.Core.List.{List}
 use Rattle.grammar.specs.declared.Command.{Command}
-use Rattle.grammar.specs.declared.Command.the-variants.{Item as item, End, Page, Forms, Pictures, Values, Listing}
+use Rattle.grammar.specs.declared.Command.the-variants.{Item as item, End, Page, Forms, Pictures, Values, Listing, Clock}
 use Rattle.grammar.specs.declared.FormCommand.the-variants.{Start, Retrieve, Erase as EraseForm}
 use Rattle.grammar.specs.declared.PictureCommand.the-variants.{Store, Erase as ErasePicture}
 use Rattle.finding.specs.declared.Found.{Found}
@@ -23,6 +23,7 @@ storing (At i) (Forms c) = false
 storing (At i) (Pictures c) = false
 storing (At i) (Values c) = false
 storing (At i) (Listing c) = false
+storing (At i) (Clock c) = false
 storing Nothing (item it) = false
 storing Nothing End = false
 storing Nothing (Page c) = false
@@ -33,6 +34,7 @@ storing Nothing (Pictures (Store p)) = true
 storing Nothing (Pictures (ErasePicture n)) = true
 storing Nothing (Values c) = false
 storing Nothing (Listing c) = false
+storing Nothing (Clock c) = false
 
 -- an input at whose front stands such a command
 pub record Stores (w : World) (input : List ℕ) : Type 0 where

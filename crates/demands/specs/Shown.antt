@@ -19,7 +19,7 @@ use Rattle.demands.specs.Calls.{Says}
 
 -- "A counter is its w digits": those that the element `Cn` shows on a label that is drawn now
 abbrev pub shows : State → ℕ → List ℕ
-shows st n = valueOf (activeDeclared (st .world) (st .session)) (valuesIn (st .world .values) (st .session .counters)) (Counter n Whole)
+shows st n = valueOf (activeDeclared (st .world) (st .session)) (valuesIn (st .world .values) (st .session .counters) (st .session .clock)) (Counter n Whole)
 
 -- `?Cn,value`: a value is entered for counter n
 pub record Enters (n : ℕ) (w : World) (input : List ℕ) : Type 0 where

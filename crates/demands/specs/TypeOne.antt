@@ -6,7 +6,7 @@ use lib.ListN.{length}
 use Rattle.code128.specs.Code128.{elements128}
 use Rattle.lined.specs.ByWidths.{drawnAs}
 use Rattle.grammar.specs.declared.Bars.{Bars}
-use Rattle.declarations.specs.Declarations.{nothing}
+use Rattle.declarations.specs.Declarations.{outsideForms}
 use Rattle.session.specs.declared.Session.{Session}
 use Rattle.lent.specs.Lent.{World}
 use Rattle.item_drawing.specs.Draw.{Setting, setting, shown}
@@ -23,7 +23,7 @@ withSymbolsOn g b text v t = drawing (t .carried) (withSymbols g (t .carried .or
 
 -- where a command draws, and what data shows there: "Outside recording, data elements find nothing declared"
 abbrev pub onBackground : Session → World → List ℕ → Setting
-onBackground s w font = setting font (w .store) (w .links) (w .directory) (w .values) (s .counters) (s .width) (s .length)
+onBackground s w font = setting font (w .store) (w .links) (w .directory) (w .values) (s .counters) (s .clock) (s .width) (s .length)
 
 abbrev pub shownThere : Session → World → List ℕ → List ℕ → ℕ → List ℕ
-shownThere s w font line at = shown (onBackground s w font) nothing line at
+shownThere s w font line at = shown (onBackground s w font) (outsideForms (s .formats)) line at

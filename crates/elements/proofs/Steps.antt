@@ -6,6 +6,7 @@ use mathlib.Core.List.{List, [], _∷_}
 use Prim.Native.Nat.{ℕ, zero, suc, _+_, _-_, _≤_, _<_}
 use native.Mathlib.Omega.{arith}
 use lib.Dec.{eqb}
+use borrow.Author.Tests.{eqb-true}
 use lib.ListN.{length, getD}
 use Rattle.kinds.specs.Bytes.{between}
 use Rattle.classes.proofs.Laws.{inside, past}
@@ -14,8 +15,9 @@ use Rattle.fields.specs.declared.Field.{Field}
 use Rattle.fields.specs.declared.Field.the-variants.{Is, Not}
 use Rattle.fields.proofs.Laws.{Ends, text-ends, byte-ends}
 use Rattle.numbers.specs.Number.{numberAt}
+use Rattle.formats.specs.declared.Stamp.the-variants.{Date, Time}
 use Rattle.numbers.proofs.Laws.{number-ends}
-use Rattle.elements.specs.Elements.{first, last, middle, middle-dot, middle-n, modifierAt, quotedFrom, modified, heldAt, elementAt, after, follow, elementsFrom, elements}
+use Rattle.elements.specs.Elements.{first, last, middle, middle-dot, middle-n, modifierAt, quotedFrom, modified, heldAt, stampedFrom, stampedAt, elementAt, after, follow, elementsFrom, elements}
 use Rattle.elements.specs.declared.Part.the-variants.{Whole}
 use Rattle.elements.specs.declared.Element.{Element}
 use Rattle.elements.specs.declared.Step.{Step}
@@ -94,16 +96,32 @@ module _ (s : List ℕ) (at : ℕ) where
           modified-took counter (getD s (at + 1) 0) (modifierAt s (at + 2)) (modifier-ends s (at + 2) (omega arith))
       go false e = tt
 
+  -- the second letter stands within the line
+  stamped-took : Took s at (stampedAt s at)
+  unfolding stampedAt
+  stamped-took = go (eqb (getD s (at + 1) 0) (code "D")) (eqb (getD s (at + 1) 0) (code "T")) refl refl
+    where
+      stands : (b : ℕ) → eqb (getD s (at + 1) 0) (suc b) ≡ true → at + 2 ≤ length s
+      stands b e = let q = eqb-true (getD s (at + 1) 0) (suc b) e in let k = inside s (at + 1) (omega arith) in omega arith
+
+      go : (a b : Bool) → eqb (getD s (at + 1) 0) (code "D") ≡ a → eqb (getD s (at + 1) 0) (code "T") ≡ b
+          → Took s at (cond a (stampedFrom at Date) (cond b (stampedFrom at Time) (Stop (pointed s at (at + 1)))))
+      go true b e f = (refl, omega arith, stands 67 e)
+      go false true e f = (refl, omega arith, stands 83 f)
+      go false false e f = tt
+
   pub element-took : Took s at (elementAt s at)
   unfolding elementAt
-  element-took = go (eqb (getD s at 0) (code "\"")) (eqb (getD s at 0) (code "V")) (eqb (getD s at 0) (code "C"))
+  element-took = go (eqb (getD s at 0) (code "\"")) (eqb (getD s at 0) (code "V")) (eqb (getD s at 0) (code "C")) (eqb (getD s at 0) (code "T"))
     where
-      go : (a b c : Bool)
-          → Took s at (cond a (quotedFrom at (textAt s at)) (cond b (heldAt false s at) (cond c (heldAt true s at) (Stop at))))
-      go true b c = quoted-took (textAt s at) refl
-      go false true c = held-took false
-      go false false true = held-took true
-      go false false false = tt
+      go : (a b c d : Bool)
+          → Took s at
+          (cond a (quotedFrom at (textAt s at)) (cond b (heldAt false s at) (cond c (heldAt true s at) (cond d (stampedAt s at) (Stop at)))))
+      go true b c d = quoted-took (textAt s at) refl
+      go false true c d = held-took false
+      go false false true d = held-took true
+      go false false false true = stamped-took
+      go false false false false = tt
 
 -- past the end there is no element
 pub element-past : (s : List ℕ) (at : ℕ) → length s ≤ at → elementAt s at ≡ Stop at

@@ -1,4 +1,5 @@
--- Paper 01, "Data": "One or more elements side by side: quoted text, or `V`/`C` and a digit, then at most one of `Ln`, `Rn`, `Mp.n`".
+-- Paper 01, "Data": "One or more elements side by side: quoted text, or `V`/`C` and a digit, then at most one of `Ln`, `Rn`, `Mp.n`". Paper 02, §10: "In data, `TD` and
+-- `TT` become elements".
 -- Assumes nothing.
 use Prim.Native.Nat.{ℕ, zero, suc, _+_, _-_}
 use Prim.Native.Char.{code}
@@ -11,10 +12,12 @@ use Rattle.fields.specs.Field.{textAt, byteAt, pointed}
 use Rattle.fields.specs.declared.Field.{Field}
 use Rattle.fields.specs.declared.Field.the-variants.{Is, Not}
 use Rattle.numbers.specs.Number.{digitOf, numberAt}
+use Rattle.formats.specs.declared.Stamp.{Stamp}
+use Rattle.formats.specs.declared.Stamp.the-variants.{Date, Time}
 use Rattle.elements.specs.declared.Part.{Part}
 use Rattle.elements.specs.declared.Part.the-variants.{Whole, First, Last, Middle}
 use Rattle.elements.specs.declared.What.{What}
-use Rattle.elements.specs.declared.What.the-variants.{Text, Variable, Counter}
+use Rattle.elements.specs.declared.What.the-variants.{Text, Variable, Counter, Stamped}
 use Rattle.elements.specs.declared.Element.{Element}
 use Rattle.elements.specs.declared.Step.{Step}
 use Rattle.elements.specs.declared.Step.the-variants.{Next, Stop}
@@ -73,13 +76,25 @@ heldAt counter s at =
     (modified counter (getD s (at + 1) 0) s at (modifierAt s (at + 2)))
     (Stop (pointed s at (at + 1)))
 
+-- the date or the time of day
+abbrev pub stampedFrom : ℕ → Stamp → Step
+stampedFrom at st = Next (record { what = Stamped st; at = at; length = 2 })
+
+-- after `T`: "These two elements take no modifier", so that what follows is another element
+unfoldable pub stampedAt : List ℕ → ℕ → Step
+stampedAt s at =
+    cond (eqb (getD s (at + 1) 0) (code "D")) (stampedFrom at Date)
+    (cond (eqb (getD s (at + 1) 0) (code "T")) (stampedFrom at Time)
+    (Stop (pointed s at (at + 1))))
+
 -- the element at a place, or none: bytes where an element should start are themselves at fault
 unfoldable pub elementAt : List ℕ → ℕ → Step
 elementAt s at =
     cond (eqb (getD s at 0) (code "\"")) (quotedFrom at (textAt s at))
     (cond (eqb (getD s at 0) (code "V")) (heldAt false s at)
     (cond (eqb (getD s at 0) (code "C")) (heldAt true s at)
-    (Stop at)))
+    (cond (eqb (getD s at 0) (code "T")) (stampedAt s at)
+    (Stop at))))
 
 -- the place after an element
 abbrev pub after : Element → ℕ

@@ -1,17 +1,19 @@
 // One element of data.
 //
-// Paper 01, "Data": "quoted text, or `V`/`C` and a digit, then at most one of `Ln`, `Rn`, `Mp.n`". `element_at` reads the element at a place of a line, and whoever
-// steps through a line with it follows the definition `elements` (specs/Elements.antt). Any line and any place is answered.
+// Paper 01, "Data": "quoted text, or `V`/`C` and a digit, then at most one of `Ln`, `Rn`, `Mp.n`"; and paper 02, §10: "In data, `TD` and `TT` become elements".
+// `element_at` reads the element at a place of a line, and whoever steps through a line with it follows the definition `elements` (specs/Elements.antt). Any line
+// and any place is answered.
 ghost use mathlib.Core.Path.{_≡_};
 ghost use Prim.Native.Nat.{_<_};
 ghost use lib.ListN.{length};
 ghost use Rattle.fields.specs.Field.{textAt};
 ghost use Rattle.numbers.specs.Number.{numberAt};
-ghost use Rattle.elements.specs.Elements.{modifierAt, middle, quotedFrom, heldFrom, heldAt, elementAt};
+ghost use Rattle.elements.specs.Elements.{modifierAt, middle, quotedFrom, heldFrom, heldAt, stampedFrom, stampedAt, elementAt};
 use fields::Field;
 use fields::literal;
 use fields::point;
 use fields::text;
+use formats::Stamp;
 use ground::byte;
 use numbers::digit;
 use numbers::number;
@@ -30,11 +32,12 @@ pub enum Modifier {
     Wrong(usize),
 }
 
-// A quoted text; a part of a variable, by its number; a part of a counter.
+// A quoted text; a part of a variable, by its number; a part of a counter; the date or the time of day.
 pub enum What {
     Text,
     Variable(usize, Part),
     Counter(usize, Part),
+    Stamped(Stamp),
 }
 
 // An element of data: the place of its first byte, and how many bytes of the line it takes.
@@ -131,6 +134,28 @@ fn quoted_at(line: &[u8], at: usize) -> Step
     }
 }
 
+fn stamped(at: usize, stamp: Stamp) -> Step
+    ensures { λ r. ⌜ r ≡ stampedFrom at stamp ⌝ }
+{
+    Step::Next(Element {
+        what: What::Stamped(stamp),
+        at,
+        length: 2,
+    })
+}
+
+// `TD` or `TT`, behind the first letter: they take no modifier.
+fn stamped_at(line: &[u8], at: usize) -> Step
+    requires { ⌜ at < length (now line) ⌝ }
+    ensures { λ r. ⌜ r ≡ stampedAt (now (line .entry)) at ⌝ }
+{
+    match byte(line, at + 1) {
+        b'D' => stamped(at, Stamp::Date),
+        b'T' => stamped(at, Stamp::Time),
+        _ => Step::Stop(point(line, at, at + 1)),
+    }
+}
+
 // The element at a place. Variables and counters share one call, so that an element is built once and not copied from call to call.
 pub fn element_at(line: &[u8], at: usize) -> Step
     ensures { λ r. ⌜ r ≡ elementAt (now (line .entry)) at ⌝ }
@@ -139,6 +164,7 @@ pub fn element_at(line: &[u8], at: usize) -> Step
     match b {
         b'"' => quoted_at(line, at),
         b'V' | b'C' => held_at(line, at, b == b'C'),
+        b'T' => stamped_at(line, at),
         _ => Step::Stop(at),
     }
 }

@@ -1,5 +1,5 @@
 -- "A refusal leaves session and all lent memory unchanged": the image byte for byte, and every lent list; a command stores its counts.
--- "a refused opening returns zeros": 67 of them.
+-- "a refused opening returns zeros": 83 of them.
 use mathlib.Core.Path.{_≡_, refl}
 use mathlib.Core.Bool.{Bool, true, false, cond, _||_}
 use mathlib.Core.List.{List}
@@ -15,6 +15,9 @@ use Rattle.lent.specs.Lent.{World}
 use Rattle.calls.specs.Outcomes.{After, after, outcome, Drawn, drawnBy, labelled}
 use Rattle.unread.specs.Front.{readBy}
 use Rattle.calls.specs.Station.{commanded, labelledBy}
+use Rattle.session.specs.declared.Labelled.{Labelled}
+use Rattle.clock_call.specs.Passing.{passed}
+use Rattle.clock_call.proofs.Refusing.{clock-refusal-keeps}
 use Rattle.calls.proofs.Promises.{open-refusal-keeps, command-refusal-keeps, label-refusal-keeps}
 use Rattle.image.specs.Image.{imageSize, sessionOf, imageOf}
 use Rattle.exported.specs.Face.{
@@ -24,11 +27,14 @@ use Rattle.exported.specs.Face.{
   opening,
   commanding,
   labelling,
+  clocking,
   commandingOf,
   labellingOf,
+  clockingOf,
   openedFace,
   commandedFace,
   labelledFace,
+  clockedFace,
 }
 use Rattle.image.proofs.Inverse.{image-session, zeros-image}
 
@@ -95,3 +101,23 @@ unfolding labelledFace
 label-refusal i small f w p =
     let c = labelledBy (sessionOf i) f w p in
     label-either (imageWrong i) i p c (λ e h. label-same i p c (c .outcome .answer) (sessionOf i) (label-refusal-keeps (sessionOf i) f w p h) (same i small e))
+
+-- ---- the clock
+
+clock-same : (i : List ℕ) (c : Labelled) (a : Answer) (s : Session) → c ≡ labelled a s → imageOf s ≡ i → clockingOf c ≡ clocking (clockingOf c .answer) i
+clock-same i c a s e q = rw (e, q)
+
+clock-either : (t : Bool) (i : List ℕ) (c : Labelled)
+    → (t ≡ false → isTaken (c .answer) ≡ false → clockingOf c ≡ clocking (clockingOf c .answer) i)
+    → eqb (cond t (clocking (numberOf Lengths) i) (clockingOf c) .answer) 0 ≡ false
+    → cond t (clocking (numberOf Lengths) i) (clockingOf c) ≡ clocking (cond t (clocking (numberOf Lengths) i) (clockingOf c) .answer) i
+unfolding isTaken
+clock-either true i c k n = refl
+clock-either false i c k n = k refl n
+
+pub clock-refusal : (i : List ℕ) → ((k : ℕ) → getD i k 0 < 256) → (seconds : ℕ) → eqb (clockedFace i seconds .answer) 0 ≡ false
+    → clockedFace i seconds ≡ clocking (clockedFace i seconds .answer) i
+unfolding clockedFace
+clock-refusal i small seconds =
+    let c = passed (sessionOf i) seconds in
+    clock-either (imageWrong i) i c (λ e h. clock-same i c (c .answer) (sessionOf i) (clock-refusal-keeps (sessionOf i) seconds h) (same i small e))

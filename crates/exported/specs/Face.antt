@@ -8,6 +8,8 @@ use lib.Dec.{eqb}
 use Rattle.answers.specs.declared.Answer.the-variants.{Lengths}
 use Rattle.answers.specs.Answers.{answerOf, numberOf, placeOf}
 use Rattle.lent.specs.Lent.{World}
+use Rattle.session.specs.declared.Labelled.{Labelled}
+use Rattle.clock_call.specs.Passing.{passed}
 use Rattle.fits.specs.Fits.{fitRows}
 use Rattle.calls.specs.Outcomes.{After, Drawn, Opened}
 use Rattle.calls.specs.Station.{opened, commanded, labelledBy}
@@ -39,7 +41,7 @@ opening a i p w = record { answer = a; image = i; page = p; world = w }
 abbrev pub openingOf : Opened → OpenedFace
 openingOf o = opening (numberOf (o .outcome .answer)) (imageOf (o .outcome .session)) (o .page) (o .world)
 
--- an image of another length is left as it is, with all else; "a refused opening returns zeros", and their image is 67 zeros (`zeros-image`)
+-- an image of another length is left as it is, with all else; "a refused opening returns zeros", and their image is 83 zeros (`zeros-image`)
 unfoldable pub openedFace : List ℕ → List ℕ → World → OpenedFace
 openedFace image page w = cond (imageWrong image) (opening (numberOf Lengths) image page w) (openingOf (opened page w))
 
@@ -89,6 +91,23 @@ labellingOf o = labelling (numberOf (o .outcome .answer)) (imageOf (o .outcome .
 unfoldable pub labelledFace : List ℕ → List ℕ → World → List ℕ → LabelledFace
 labelledFace image font w page =
     cond (imageWrong image) (labelling (numberOf Lengths) image page) (labellingOf (labelledBy (sessionOf image) font w page))
+
+-- ---- the clock
+
+-- what the call leaves: its answer's number and the image
+pub record ClockedFace : Type 0 where
+  pub answer : ℕ
+  pub image : List ℕ
+
+abbrev pub clocking : ℕ → List ℕ → ClockedFace
+clocking a i = record { answer = a; image = i }
+
+abbrev pub clockingOf : Labelled → ClockedFace
+clockingOf o = clocking (numberOf (o .answer)) (imageOf (o .session))
+
+-- paper 02, §10: seconds pass
+unfoldable pub clockedFace : List ℕ → ℕ → ClockedFace
+clockedFace image seconds = cond (imageWrong image) (clocking (numberOf Lengths) image) (clockingOf (passed (sessionOf image) seconds))
 
 -- ---- will it fit?
 

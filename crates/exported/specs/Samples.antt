@@ -26,7 +26,7 @@ abbrev nothing : World
 nothing = world [] [] [] [] []
 
 -- an opening that is refused, 1, leaves zeros in an image that was not
-zeros : openedFace (replicate 67 1) [] nothing ≡ opening 1 (replicate 67 0) [] nothing
+zeros : openedFace (replicate 83 1) [] nothing ≡ opening 1 (replicate 83 0) [] nothing
 unfolding numberOf pageWrong lengthsWrong opened bytesOf counterBytes imageOf openedFace
 zeros = refl
 
@@ -43,6 +43,6 @@ left = refl
 unfoldable fitsWith : List ℕ → ℕ
 fitsWith image = fittedFace image links directory 1 (bytes "B") 0
 
-fitted : fitsWith (replicate 66 0) ∷ fitsWith (replicate 67 0) ∷ fitsWith (set (replicate 67 0) 12 1) ∷ [] ≡ 1 ∷ 0 ∷ 8 ∷ []
+fitted : fitsWith (replicate 82 0) ∷ fitsWith (replicate 83 0) ∷ fitsWith (set (replicate 83 0) 12 1) ∷ [] ≡ 1 ∷ 0 ∷ 8 ∷ []
 unfolding fitsWith numberOf answerOf linksWrong directoryWrong found lowestFrom cell name between capital bears inUse nameWrong lentWrong sizeWrong limitsWrong numberAt sessionOf fittedFace
 fitted = refl

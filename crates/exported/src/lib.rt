@@ -1,8 +1,9 @@
 // The exported calls by definition, and the counts that a command stores.
 //
-// Paper 01: "Opening, command and label calls exported on numbers and byte slices". specs/Face.antt says what each call leaves of the answer's number, the
-// session's image, the counts and every lent list: the station's call on the session of the image, and 1 with nothing touched where the image or the
-// counts have another length. proofs/Kept.antt: a refusal leaves the image byte for byte and every lent list. Crate `face` has the calls.
+// Paper 01: "Opening, command and label calls exported on numbers and byte slices"; paper 02 adds the question whether something fits (§7) and the
+// clock call (§10). specs/Face.antt says what each call leaves of the answer's number, the session's image, the counts and every lent list: the
+// station's call on the session of the image, and 1 with nothing touched where the image or the counts have another length. proofs/Kept.antt: a
+// refusal leaves the image byte for byte and every lent list. Crate `face` has the calls.
 ghost use mathlib.Core.Path.{_≡_};
 ghost use Rattle.exported.specs.Face.{countsStored};
 

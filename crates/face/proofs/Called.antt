@@ -13,6 +13,7 @@ use Rattle.answers.specs.declared.Answer.the-variants.{Lengths}
 use Rattle.answers.specs.Answers.{answerOf, numberOf, placeOf}
 use Rattle.lent.specs.Lent.{World}
 use Rattle.fits.specs.Fits.{fitRows}
+use Rattle.clock_call.specs.Passing.{passed}
 use Rattle.calls.specs.declared.Outcome.{Outcome}
 use Rattle.session.specs.declared.Labelled.{Labelled}
 use Rattle.calls.specs.Outcomes.{after, drawnBy, openedBy}
@@ -20,7 +21,7 @@ use Rattle.calls.specs.Station.{opened, commanded, labelledBy}
 use Rattle.image.specs.Image.{imageSize, sessionOf, imageOf}
 use Rattle.image.proofs.Inverse.{whole}
 use Rattle.exported.proofs.Kept.{neither}
-use Rattle.exported.specs.Face.{countsStored, imageWrong, countsWrong, opening, commanding, labelling, openedFace, commandedFace, labelledFace, fittedFace}
+use Rattle.exported.specs.Face.{countsStored, imageWrong, countsWrong, opening, commanding, labelling, clocking, openedFace, commandedFace, labelledFace, clockedFace, fittedFace}
 
 module _ (i p : List ℕ) (w : World) where
   pub open-wrong : (r : ℕ) → (length i ≡ imageSize → ⊥) → r ≡ numberOf Lengths → opening r i p w ≡ openedFace i p w
@@ -55,6 +56,16 @@ module _ (i cs f : List ℕ) (w : World) (out input : List ℕ) (wrong : Bool) (
   command-done s o i' cs' w' out' r p h d e q k m n =
       let t : length i ≡ imageSize = eqb-true (length i) imageSize (not-false (eqb (length i) imageSize) (neither (imageWrong i) (countsWrong cs) (sym is ∙ h))) in
       rw (← is, h, ← d, ← e, n, q, k, m, whole i (o .session) t)
+
+module _ (i : List ℕ) (seconds : ℕ) where
+  pub clock-wrong : (r : ℕ) → (length i ≡ imageSize → ⊥) → r ≡ numberOf Lengths → clocking r i ≡ clockedFace i seconds
+  unfolding clockedFace
+  clock-wrong r h e = rw (ne-eqb (length i) imageSize h, e)
+
+  pub clock-done : (s : Session) (o : Labelled) (i' : List ℕ) (r : ℕ) → length i ≡ imageSize → s ≡ sessionOf i → o ≡ passed s seconds
+      → i' ≡ sets i 0 (imageOf (o .session)) → r ≡ numberOf (o .answer) → clocking r i' ≡ clockedFace i seconds
+  unfolding clockedFace
+  clock-done s o i' r h d e q n = rw (eq-eqb (length i) imageSize h, ← d, ← e, n, q, whole i (o .session) h)
 
 module _ (i l d : List ℕ) (kind : ℕ) (name : List ℕ) (size r : ℕ) where
   pub fits-wrong : (length i ≡ imageSize → ⊥) → r ≡ numberOf Lengths → r ≡ fittedFace i l d kind name size

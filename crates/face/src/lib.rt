@@ -1,15 +1,16 @@
 // The exported calls: the station for a caller in C.
 //
-// Paper 01: "Opening, command and label calls exported on numbers and byte slices"; paper 02, §7, adds the question whether something fits. The session is lent as an
-// image of 67 bytes (crate `image`), so that a caller keeps plain bytes, and any bytes are some session. Each call is the station's call on that session, for any
-// slices whatever; an image of another length is [1], and nothing is touched. Each promises one equation with a definition of crate `exported`, over the answer's
-// number and every lent slice at exit. `peer/station.h` declares the four for C.
+// Paper 01: "Opening, command and label calls exported on numbers and byte slices"; paper 02, §7, adds the question whether something fits, and §10 the
+// seconds that pass. The session is lent as an image of 83 bytes (crate `image`), so that a caller keeps plain bytes, and any bytes are some session.
+// Each call is the station's call on that session, for any slices whatever; an image of another length is [1], and nothing is touched. Each promises
+// one equation with a definition of crate `exported`, over the answer's number and every lent slice at exit. `peer/station.h` declares the five for C.
 ghost use mathlib.Core.Path.{_≡_};
 ghost use Rattle.lent.specs.Lent.{world};
-ghost use Rattle.exported.specs.Face.{opening, commanding, labelling, openedFace, commandedFace, labelledFace, fittedFace};
+ghost use Rattle.exported.specs.Face.{opening, commanding, labelling, openedFace, commandedFace, labelledFace, clocking, clockedFace, fittedFace};
 use answers::Answer;
 use answers::number;
 use answers::place;
+use clock_call::pass;
 pub use exported::COUNTS;
 use exported::store_counts;
 use fits::fit_answer;
@@ -105,6 +106,20 @@ pub extern "C" fn station_label(
         directory,
         values,
     );
+    let after = o.session;
+    encode(after, session);
+    let answer = o.answer;
+    number(answer)
+}
+
+#[no_mangle]
+pub extern "C" fn station_clock(session: &mut [u8], seconds: u64) -> u8
+    ensures { λ r. ⌜ clocking r (now (session .exit)) ≡ clockedFace (now (session .entry)) seconds ⌝ }
+{
+    if session.len() != IMAGE {
+        return number(Answer::Lengths);
+    }
+    let o = pass(decode(session), seconds);
     let after = o.session;
     encode(after, session);
     let answer = o.answer;

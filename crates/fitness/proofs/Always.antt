@@ -14,9 +14,11 @@ use Rattle.kinds.specs.declared.Kind.{Kind}
 use Rattle.kinds.specs.declared.Kind.the-variants.{Shown, Code39, Interleaved, Ean13, Code128}
 use Rattle.kinds.specs.Bytes.{between, isDigit, allIn}
 use Rattle.kinds.specs.Fit.{inClass, fitLength, fit}
+use Rattle.calendar.specs.Clock.{fresh}
+use Rattle.formats.specs.Formats.{formatOf}
 use Rattle.elements.specs.declared.Part.{Part}
 use Rattle.elements.specs.declared.What.{What}
-use Rattle.elements.specs.declared.What.the-variants.{Text, Variable, Counter}
+use Rattle.elements.specs.declared.What.the-variants.{Text, Variable, Counter, Stamped}
 use Rattle.elements.specs.declared.Element.{Element}
 use Rattle.declarations.specs.declared.Declared.{Declared}
 use Rattle.declarations.specs.Declarations.{lengthAt, sideAt, widthAt}
@@ -24,6 +26,8 @@ use Rattle.counters.specs.Counters.{digits}
 use Rattle.padding.specs.Padding.{legal, fits}
 use Rattle.pieces.specs.Data.{partOf, pieceFrom, pieceOf, pieceAt, Values, valueOf, assembled}
 use Rattle.padding.proofs.Ranges.{in-range, range-low, range-high, all-join, all-first, all-second, all-none, all-wider, all-replicate, replicate-some}
+use Rattle.calendar.proofs.Clocks.{fresh-legal}
+use Rattle.stamps.proofs.Shown.{length-stamp, digit-in, stamp-in}
 use Rattle.counters.proofs.Tens.{length-digits}
 use Rattle.padding.proofs.Padded.{zero-digit}
 use Rattle.ground.proofs.Tests.{or-first, or-second, and-left, and-right, and-both}
@@ -32,14 +36,6 @@ use Rattle.summary.specs.Summary.{partLength, fewest, leastOf, mostOf, takesAll
 use Rattle.fitness.proofs.Parts.{length-part, all-part, part-replicate, part-grows}
 
 -- ---- classes
-
-pub digit-in : (c : Kind) (b : ℕ) → isDigit b ≡ true → inClass c b ≡ true
-unfolding inClass
-digit-in Shown b h = refl
-digit-in Code39 b h = rw h
-digit-in Interleaved b h = h
-digit-in Ean13 b h = h
-digit-in Code128 b h = in-range 32 126 b (omega (arith, range-low 48 57 b h)) (omega (arith, range-high 48 57 b h))
 
 legal-range : (b : ℕ) (x y : Bool) → between 32 33 b ≡ x → between 35 126 b ≡ y → (x || y) ≡ true → between 32 126 b ≡ true
 legal-range b true y p q h = in-range 32 126 b (omega (arith, range-low 32 33 b p)) (omega (arith, range-high 32 33 b p))
@@ -131,7 +127,7 @@ fits-facts side m v h = go (eqb side (code "N")) (eqb side (code "Z")) refl refl
           digitsOnly = λ z. absurd (false≢true (sym q ∙ z));
         }
 
--- ---- the two extremes: every variable as short as it may be, and as long
+-- ---- the two extremes: every variable as short as it may be, and as long. One clock serves both: no clock shows more bytes than another, or of other classes
 
 pub lowValue : ℕ → ℕ → List ℕ
 lowValue side m = cond (eqb side (code "N")) [] (cond (eqb side (code "Z")) (replicate m (code "0")) (replicate m (code "*")))
@@ -140,10 +136,10 @@ pub highValue : ℕ → ℕ → List ℕ
 highValue side m = cond (eqb side (code "Z")) (replicate m (code "0")) (replicate m (code "*"))
 
 pub low : Declared → Values
-low d = record { variable = λ k. lowValue (sideAt d k) (lengthAt d k); counter = λ k. 0 }
+low d = record { variable = λ k. lowValue (sideAt d k) (lengthAt d k); counter = λ k. 0; clock = fresh }
 
 pub high : Declared → Values
-high d = record { variable = λ k. highValue (sideAt d k) (lengthAt d k); counter = λ k. 0 }
+high d = record { variable = λ k. highValue (sideAt d k) (lengthAt d k); counter = λ k. 0; clock = fresh }
 
 all-same : (q : ℕ → Bool) (m x : ℕ) → q x ≡ true → (eqb (length (replicate m x)) m && allIn q (replicate m x)) ≡ true
 all-same q m x h = and-both (eqb (length (replicate m x)) m) (allIn q (replicate m x)) (eq-eqb (length (replicate m x)) m (length-replicate m x)) (all-replicate q m x h)
@@ -172,11 +168,11 @@ high-fits side m = go (eqb side (code "N")) (eqb side (code "Z")) refl refl
 
 pub low-permitted : (d : Declared) → Permitted d (low d)
 unfolding low
-low-permitted d = record { variables = λ k. low-fits (sideAt d k) (lengthAt d k); counters = λ k. one-le-pow (widthAt d k) 10 (omega arith) }
+low-permitted d = record { variables = λ k. low-fits (sideAt d k) (lengthAt d k); counters = λ k. one-le-pow (widthAt d k) 10 (omega arith); clock = fresh-legal }
 
 pub high-permitted : (d : Declared) → Permitted d (high d)
 unfolding high
-high-permitted d = record { variables = λ k. high-fits (sideAt d k) (lengthAt d k); counters = λ k. one-le-pow (widthAt d k) 10 (omega arith) }
+high-permitted d = record { variables = λ k. high-fits (sideAt d k) (lengthAt d k); counters = λ k. one-le-pow (widthAt d k) 10 (omega arith); clock = fresh-legal }
 
 low-length : (side m : ℕ) → length (lowValue side m) ≡ fewest side m
 unfolding lowValue
@@ -209,11 +205,13 @@ module _ (line : List ℕ) (d : Declared) (v : Values) (h : Permitted d v) (e : 
   piece-least Text = omega arith
   piece-least (Variable k p) = rw length-part (part-grows p (fewest (sideAt d k) (lengthAt d k)) (length (v .variable k)) (fact k .atLeast))
   piece-least (Counter k p) = rw (length-part, length-digits) (omega arith)
+  piece-least (Stamped st) = omega (arith, length-stamp st (v .clock) (formatOf (d .formats) st))
 
   pub piece-most : (w : What) → length (pieceBy line d v e w) ≤ mostOf line d e w
   piece-most Text = omega arith
   piece-most (Variable k p) = rw length-part (part-grows p (length (v .variable k)) (lengthAt d k) (fact k .atMost))
   piece-most (Counter k p) = rw (length-part, length-digits) (omega arith)
+  piece-most (Stamped st) = omega (arith, length-stamp st (v .clock) (formatOf (d .formats) st))
 
   variable-good : (c : Kind) (k : ℕ) (p : Part) (t z n : Bool) → takesAll c ≡ t → eqb (sideAt d k) (code "Z") ≡ z → eqb (partLength p (lengthAt d k)) 0 ≡ n
       → (t || (z || n)) ≡ true → allIn (inClass c) (partOf p (v .variable k)) ≡ true
@@ -230,6 +228,7 @@ module _ (line : List ℕ) (d : Declared) (v : Values) (h : Permitted d v) (e : 
   piece-good c (Counter k p) g =
       all-part (inClass c) p (digits (widthAt d k) (v .counter k))
       (all-wider isDigit (inClass c) (digits (widthAt d k) (v .counter k)) (digit-in c) (all-digits (widthAt d k) (v .counter k)))
+  piece-good c (Stamped st) g = stamp-in c st (v .clock) (formatOf (d .formats) st) (h .clock) ∙ g
 
 -- of a strict kind a good element has one length
 variable-steady : (d : Declared) (k : ℕ) (p : Part) (a z n : Bool) → eqb (sideAt d k) (code "N") ≡ a → eqb (sideAt d k) (code "Z") ≡ z → eqb (partLength p (lengthAt d k)) 0 ≡ n
@@ -244,6 +243,7 @@ piece-steady line d e c s Text g = refl
 piece-steady line d e c s (Variable k p) g =
     variable-steady d k p (eqb (sideAt d k) (code "N")) (eqb (sideAt d k) (code "Z")) (eqb (partLength p (lengthAt d k)) 0) refl refl refl (rw s at g)
 piece-steady line d e c s (Counter k p) g = refl
+piece-steady line d e c s (Stamped st) g = refl
 
 module _ (line : List ℕ) (d : Declared) (e : Element) where
   pub piece-low : (w : What) → length (pieceBy line d (low d) e w) ≡ leastOf line d e w
@@ -251,12 +251,14 @@ module _ (line : List ℕ) (d : Declared) (e : Element) where
   piece-low Text = refl
   piece-low (Variable k p) = rw (length-part, low-length)
   piece-low (Counter k p) = rw (length-part, length-digits)
+  piece-low (Stamped st) = length-stamp st fresh (formatOf (d .formats) st)
 
   pub piece-high : (w : What) → length (pieceBy line d (high d) e w) ≡ mostOf line d e w
   unfolding high
   piece-high Text = refl
   piece-high (Variable k p) = rw (length-part, high-length)
   piece-high (Counter k p) = rw (length-part, length-digits)
+  piece-high (Stamped st) = length-stamp st fresh (formatOf (d .formats) st)
 
   variable-high : (c : Kind) (k : ℕ) (p : Part) (z : Bool) → eqb (sideAt d k) (code "Z") ≡ z → allIn (inClass c) (partOf p (highValue (sideAt d k) (lengthAt d k))) ≡ true
       → goodOf c line d e (Variable k p) ≡ true
@@ -273,6 +275,7 @@ module _ (line : List ℕ) (d : Declared) (e : Element) where
   good-high c Text g = g
   good-high c (Variable k p) g = variable-high c k p (eqb (sideAt d k) (code "Z")) refl g
   good-high c (Counter k p) g = refl
+  good-high c (Stamped st) g = sym (stamp-in c st fresh (formatOf (d .formats) st) fresh-legal) ∙ g
 
 -- ---- all elements
 

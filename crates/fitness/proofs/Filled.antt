@@ -1,4 +1,4 @@
--- Sound values that are all set are permitted, so data judged fit is fit as it is shown.
+-- Sound values that are all set are permitted with any legal clock, so data judged fit is fit as it is shown.
 use mathlib.Core.Path.{_≡_, refl}
 use mathlib.Core.Bool.{Bool, true, false, cond, _&&_, _||_, not, false≢true}
 use mathlib.Core.List.{List, []}
@@ -13,6 +13,8 @@ use borrow.Author.Tests.{lt-ltb, le-ltb}
 use Rattle.kinds.specs.declared.Kind.{Kind}
 use Rattle.kinds.specs.Bytes.{allIn}
 use Rattle.kinds.specs.Fit.{fit}
+use Rattle.calendar.specs.declared.Clock.{Clock}
+use Rattle.calendar.specs.Clock.{legalClock}
 use Rattle.elements.specs.declared.Element.{Element}
 use Rattle.declarations.specs.declared.Declared.{Declared}
 use Rattle.counters.specs.declared.Counters.{Counters}
@@ -74,7 +76,7 @@ past-counter c k h = rw (le-ltb k 10 h)
 
 -- ---- the theorem
 
-module _ (d : Declared) (values : List ℕ) (c : Counters) (sound : valuesSound d values c ≡ true) (full : allSet d values c ≡ true) where
+module _ (d : Declared) (values : List ℕ) (c : Counters) (clock : Clock) (sound : valuesSound d values c ≡ true) (full : allSet d values c ≡ true) (right : legalClock clock ≡ true) where
   variable-fits : (k : ℕ) → k < 10 → fits (sideAt d k) (lengthAt d k) (variableIn values k) ≡ true
   unfolding variableIn
   variable-fits k l = ⊎-elim
@@ -90,8 +92,8 @@ module _ (d : Declared) (values : List ℕ) (c : Counters) (sound : valuesSound 
       (λ (w : (counterSet c k ≡ true) × (counterDeclared d k ≡ true) × (counterValue c k < tenTo (widthAt d k))). rw (← ten-is (widthAt d k) (omega arith)) (w .2))
       (counter-sound-facts d c k (and-right (fieldSound d k (fieldAt values k)) (counterSound d c k) (sound-at d values c sound k l)))
 
-  -- sound values that are all set are permitted
-  pub set-permitted : Permitted d (valuesIn values c)
+  -- sound values that are all set are permitted, with any legal clock
+  pub set-permitted : Permitted d (valuesIn values c clock)
   set-permitted = record {
     variables = λ k. elim (decLe 10 k) [
       | yes h ↦ fits-none (sideAt d k) (lengthAt d k) (variableIn values k) (past-length d k h) (past-field values k h)
@@ -101,8 +103,9 @@ module _ (d : Declared) (values : List ℕ) (c : Counters) (sound : valuesSound 
       | yes h ↦ omega (arith, past-counter c k h, one-le-pow (widthAt d k) 10 (omega arith))
       | no h ↦ counter-below k (omega arith)
     ];
+    clock = right;
   }
 
   -- so what is judged fit is fit whenever it is shown with them
-  pub shown-fit : (line : List ℕ) (es : List Element) (k : Kind) → judged line d es k ≡ true → fit k (assembled line d (valuesIn values c) es) ≡ true
-  shown-fit line es k j = judged-always line d es k j (valuesIn values c) set-permitted
+  pub shown-fit : (line : List ℕ) (es : List Element) (k : Kind) → judged line d es k ≡ true → fit k (assembled line d (valuesIn values c clock) es) ≡ true
+  shown-fit line es k j = judged-always line d es k j (valuesIn values c clock) set-permitted

@@ -14,9 +14,13 @@ use Rattle.kinds.specs.Text.{bytes}
 use Rattle.classes.specs.Bytes.{run}
 use Rattle.numbers.specs.Number.{valueFrom, numberAt}
 use Rattle.fields.specs.Field.{textAt, byteAt}
-use Rattle.elements.specs.Elements.{modifierAt, heldAt, elementAt, elementsFrom, elements}
+use Rattle.formats.specs.declared.Format.{Format}
+use Rattle.formats.specs.declared.Stamp.the-variants.{Date, Time}
+use Rattle.formats.specs.Formats.{format, formatsOf, example}
+use Rattle.stamps.specs.Always.{lengthOf, stampLength, goodField, goodMarked, stampGood}
+use Rattle.elements.specs.Elements.{modifierAt, heldAt, stampedAt, elementAt, elementsFrom, elements}
 use Rattle.declarations.specs.declared.Declared.{Declared}
-use Rattle.declarations.specs.Declarations.{nothing, withVariable, withCounter}
+use Rattle.declarations.specs.Declarations.{nothing, outsideForms, withVariable, withCounter}
 use Rattle.reach.specs.Answers.{reachesPast, undeclaredBy, pastBy, dataAnswer}
 use Rattle.summary.specs.Summary.{partLength, judged}
 use Rattle.fitness.specs.declared.Judgement.{Judgement}
@@ -55,3 +59,45 @@ case-lowest :
     ≡ Fit ∷ Unfit ∷ Reaches 0 ∷ NotDeclared 4 ∷ []
 unfolding judgementOf judged inClass fitLength partLength dataAnswer undeclaredBy pastBy reachesPast declared withCounter withVariable nothing between run valueFrom numberAt textAt byteAt modifierAt heldAt elementAt elementsFrom elements
 case-lowest = refl
+
+-- ---- paper 02, §10: "Unfit data is judged over all clock values as well as all variables"
+
+stampedOf : String → Format → Format → Kind → Bool
+stampedOf text date time k = judged (bytes text) (outsideForms (formatsOf date time)) (elements (bytes text) 0) k
+
+-- in the example formats: a date is capitals, digits and `-`, so it is fit for Code 39 and type 1, and no number; a time has colons, which Code 39 has not
+case-examples :
+    stampedOf "TD" (example Date) (example Time) Shown
+    ∷ stampedOf "TD" (example Date) (example Time) Code39
+    ∷ stampedOf "TD" (example Date) (example Time) Code128
+    ∷ stampedOf "TD" (example Date) (example Time) Interleaved
+    ∷ stampedOf "TD" (example Date) (example Time) Ean13
+    ∷ stampedOf "TT" (example Date) (example Time) Code39
+    ∷ stampedOf "TD\"/\"TT" (example Date) (example Time) Code128
+    ∷ []
+    ≡ true ∷ true ∷ true ∷ false ∷ false ∷ false ∷ true ∷ []
+unfolding stampedOf judged inClass fitLength between run textAt elementAt stampedAt elementsFrom elements example lengthOf stampLength goodField goodMarked stampGood
+case-examples = refl
+
+-- digits with digits between them: `y20mn1dd` shows eight, which are pairs, `y20mn` five; with a month in letters no number
+case-pairs :
+    stampedOf "TD" (format 1 (code "0") 4 (code "1") 5) (example Time) Interleaved
+    ∷ stampedOf "TD" (format 1 (code "0") 4 0 0) (example Time) Interleaved
+    ∷ stampedOf "TDTT" (format 1 (code "0") 4 0 0) (format 1 (code "0") 2 0 0) Interleaved
+    ∷ stampedOf "TD" (format 1 (code "0") 3 0 0) (example Time) Interleaved
+    ∷ stampedOf "TD" (format 1 (code "-") 4 0 0) (example Time) Interleaved
+    ∷ []
+    ≡ true ∷ false ∷ true ∷ false ∷ false ∷ []
+unfolding stampedOf judged inClass fitLength between elementAt stampedAt elementsFrom elements lengthOf stampLength goodField goodMarked stampGood
+case-pairs = refl
+
+-- E30 takes exactly twelve: `y40mn1dd` shows ten, and the hour or two digits of text the other two
+case-twelve :
+    stampedOf "TDTT" (format 2 (code "0") 4 (code "1") 5) (format 1 0 0 0 0) Ean13
+    ∷ stampedOf "\"12\"TD" (format 2 (code "0") 4 (code "1") 5) (example Time) Ean13
+    ∷ stampedOf "TD" (format 2 (code "0") 4 (code "1") 5) (example Time) Ean13
+    ∷ stampedOf "TDTT" (format 2 (code "0") 4 (code "1") 5) (format 1 (code "0") 2 0 0) Ean13
+    ∷ []
+    ≡ true ∷ true ∷ false ∷ false ∷ []
+unfolding stampedOf judged inClass fitLength between run textAt elementAt stampedAt elementsFrom elements example lengthOf stampLength goodField goodMarked stampGood
+case-twelve = refl

@@ -1,9 +1,9 @@
 // A form drawn on a label, line after line.
 //
-// "A label call .. runs the active form from the session's origin": each line draws its item, and what is declared so far and the origin go from each line to the
-// next (crate `carried`). An R in the form "replaces the earlier one", and "holds for that label only": both end with the label. `draw_form` reads the lines
-// ahead of a reader where they lie in the store and leaves the page that the definition (specs/Draw.antt) says of these bytes, on any memory. What one item
-// draws stands in crate `item_drawing`.
+// "A label call .. runs the active form from the session's origin": each line draws its item, and what is declared so far, the formats and the origin go from
+// each line to the next (crate `carried`). An R in the form "replaces the earlier one", and "holds for that label only": all end with the label. `draw_form`
+// reads the lines ahead of a reader where they lie in the store and leaves the page that the definition (specs/Draw.antt) says of these bytes, on any memory.
+// What one item draws stands in crate `item_drawing`.
 ghost use mathlib.Core.Path.{_≡_};
 ghost use Prim.Native.Nat.{_<_};
 ghost use Rattle.contents.specs.Content.{ahead};
@@ -11,6 +11,7 @@ ghost use Rattle.kept_line.specs.Held.{itemIn};
 ghost use Rattle.item_drawing.specs.Draw.{setting};
 ghost use Rattle.form_drawing.specs.Draw.{formDrawn};
 ghost use Rattle.form_drawing.specs.Label.{itemOr, runDrawn};
+use calendar::Clock;
 use carried::Carried;
 use carried::carry;
 use contents::Cursor;
@@ -48,12 +49,13 @@ fn draw_next(
     directory: &[u8],
     values: &[u8],
     counters: Counters,
+    clock: Clock,
     width: usize,
     length: usize,
     w: Run,
 ) -> Run
     requires { ⌜ 0 < w .place .left ⌝ }
-    ensures { λ r. ⌜ (runDrawn (setting (now (font .entry)) (now (store .entry)) (now (links .entry)) (now (directory .entry)) (now (values .entry)) counters width length) r (now (page .exit)) ≡ runDrawn (setting (now (font .entry)) (now (store .entry)) (now (links .entry)) (now (directory .entry)) (now (values .entry)) counters width length) w (now (page .entry))) × (r .place .left < w .place .left) ⌝ }
+    ensures { λ r. ⌜ (runDrawn (setting (now (font .entry)) (now (store .entry)) (now (links .entry)) (now (directory .entry)) (now (values .entry)) counters clock width length) r (now (page .exit)) ≡ runDrawn (setting (now (font .entry)) (now (store .entry)) (now (links .entry)) (now (directory .entry)) (now (values .entry)) counters clock width length) w (now (page .entry))) × (r .place .left < w .place .left) ⌝ }
 {
     let mut buffer = [0u8; 256];
     let c = w.carried;
@@ -71,6 +73,7 @@ fn draw_next(
         directory,
         values,
         counters,
+        clock,
         width,
         length,
         d,
@@ -96,13 +99,14 @@ pub fn draw_form(
     directory: &[u8],
     values: &[u8],
     counters: Counters,
+    clock: Clock,
     width: usize,
     length: usize,
     x: usize,
     y: usize,
     place: Cursor,
 )
-    ensures { λ _. ⌜ now (page .exit) ≡ formDrawn (setting (now (font .entry)) (now (store .entry)) (now (links .entry)) (now (directory .entry)) (now (values .entry)) counters width length) x y (ahead (now (store .entry)) (now (links .entry)) place) (now (page .entry)) ⌝ }
+    ensures { λ _. ⌜ now (page .exit) ≡ formDrawn (setting (now (font .entry)) (now (store .entry)) (now (links .entry)) (now (directory .entry)) (now (values .entry)) counters clock width length) x y (ahead (now (store .entry)) (now (links .entry)) place) (now (page .entry)) ⌝ }
 {
     let mut w = Run {
         place,
@@ -117,6 +121,7 @@ pub fn draw_form(
             directory,
             values,
             counters,
+            clock,
             width,
             length,
             w,

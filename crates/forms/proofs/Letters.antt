@@ -1,4 +1,4 @@
--- What a line's first letter tells of its item: only a line that begins with G draws a picture, and only one that begins with V or C declares.
+-- What a line's first letter tells of its item: only a line that begins with G draws a picture, and only one that begins with V, C or T declares or says a format.
 -- Assumes nothing.
 use mathlib.Core.Path.{_≡_, _∙_, refl, sym}
 use mathlib.Core.Bool.{Bool, true, false, not, cond, _&&_, _||_, false≢true}
@@ -15,7 +15,7 @@ use Rattle.declarations.specs.declared.Declared.{Declared}
 use Rattle.heads.specs.declared.Head.{Head}
 use Rattle.heads.specs.declared.Head.the-variants.{Row, Unknown}
 use Rattle.heads.specs.Heads.{capitals, lettersOf, begins, orElse, find, headBy, headOf}
-use Rattle.grammar.specs.Named.{GG, VARIABLE, COUNTER}
+use Rattle.grammar.specs.Named.{GG, VARIABLE, COUNTER, TD, TT}
 use Rattle.grammar.specs.Forms.{Form, forms, rowOf, boundsOf, commandOf, inOrder}
 use Rattle.grammar.proofs.Rows.{_&_, Each, each-row}
 use Rattle.row_fields.specs.Reading.{Got, good, bad, fieldsFrom}
@@ -157,18 +157,21 @@ has-other directory line a e n =
         & (λ e s v p. refl)
         & (λ e s v p. refl)
         & (λ e s v p. refl)
+        & (λ e s v p. refl)
+        & (λ e s v p. refl)
+        & (λ e s v p. refl)
         & (λ k e s v p. refl)
 
     rows : others other (getD line 0 0) forms 0 ≡ true
     rows = rw (← e, ne-eqb a (code "G") n)
 
-pub declaring-other : (d : Declared) (line : List ℕ) (a : ℕ) → a ≡ getD line 0 0 → (a ≡ code "V" → ⊥) → (a ≡ code "C" → ⊥) → d ≡ declaring d line
+pub declaring-other : (d : Declared) (line : List ℕ) (a : ℕ) → a ≡ getD line 0 0 → (a ≡ code "V" → ⊥) → (a ≡ code "C" → ⊥) → (a ≡ code "T" → ⊥) → d ≡ declaring d line
 unfolding declares declaring others
-declaring-other d line a e n m =
+declaring-other d line a e n m k =
     sym (item-is (λ (s : Stored). declaresStored d s ≡ d) refl other makes line rows)
   where
     other : ℕ → Bool
-    other r = not (eqb r VARIABLE) && not (eqb r COUNTER)
+    other r = not (eqb r VARIABLE) && (not (eqb r COUNTER) && (not (eqb r TD) && not (eqb r TT)))
 
     makes : Each (Holding (λ (s : Stored). declaresStored d s ≡ d) other) forms
     makes =
@@ -203,7 +206,10 @@ declaring-other d line a e n m =
         & (λ e s v p. refl)
         & (λ e s v p. refl)
         & (λ e s v p. refl)
+        & (λ e s v p. refl)
+        & (λ e s v p. absurd (false≢true e))
+        & (λ e s v p. absurd (false≢true e))
         & (λ k e s v p. refl)
 
     rows : others other (getD line 0 0) forms 0 ≡ true
-    rows = rw (← e, ne-eqb a (code "V") n, ne-eqb a (code "C") m)
+    rows = rw (← e, ne-eqb a (code "V") n, ne-eqb a (code "C") m, ne-eqb a (code "T") k)

@@ -23,7 +23,7 @@ takesStored d line Nothing = false
 unfoldable pub takes : Declared → List ℕ → Bool
 takes d line = takesStored d line (itemIn line)
 
--- what is declared after a line
+-- what is declared after a line, and the formats in force
 abbrev pub declaresStored : Declared → Stored → Declared
 declaresStored d (Holds it) = declares d it
 declaresStored d Nothing = d
@@ -43,7 +43,7 @@ unfoldable pub declaredBy : Declared → List (List ℕ) → Declared
 declaredBy d [] = d
 declaredBy d (l ∷ ls) = declaredBy (declaring d l) ls
 
--- the bytes are such lines, and nothing follows the last LF
+-- the bytes are such lines, and nothing follows the last LF. Paper 02, §10: "each label starts from the example formats, and so does the check of each form"
 unfoldable pub formOk : List ℕ → Bool
 formOk bytes = eqb (length (linesOf bytes .rest)) 0 && takesAll nothing (linesOf bytes .whole)
 

@@ -100,12 +100,12 @@ pub fn form_ok(store: &[u8], links: &[u16], directory: &[u8], i: usize) -> bool
     judge_all(store, links, directory, i, &mut buffer)
 }
 
-// Only a line that begins with V or C can declare, so that no other is read.
+// Only a line that begins with V, C or T can declare or say a format, so that no other is read.
 fn declare_line(line: &[u8], d: Declared) -> Declared
     ensures { λ r. ⌜ r ≡ declaring d (now (line .entry)) ⌝ }
 {
     let first = ground::byte(line, 0);
-    if first != b'V' && first != b'C' {
+    if first != b'V' && first != b'C' && first != b'T' {
         return d;
     }
     let stored = stored_item(line);

@@ -36,7 +36,7 @@ each-row q h row = each-at q forms h row
 -- ---- tables
 
 -- past the last row there is none
-pub no-row : (row : ℕ) → 31 ≤ row → rowOf row ≡ none
+pub no-row : (row : ℕ) → 34 ≤ row → rowOf row ≡ none
 no-row row h = List·getD-eq-default forms none h
 
 abbrev mapped : {A B : Type 0} → (A → B) → List A → List B
@@ -86,7 +86,7 @@ above row n h k = go (decLt n row)
     go (yes j) = omega arith
     go (no j) = absurd (k (omega arith))
 
-pub no-line : (row : ℕ) → 31 ≤ row → lineUp row ≡ replicate 18 32 ++ replicate 18 45
+pub no-line : (row : ℕ) → 34 ≤ row → lineUp row ≡ replicate 18 32 ++ replicate 18 45
 unfolding lineUp
 no-line row h = rw (no-row row h, List·getD-eq-default codes [] h)
 

@@ -41,6 +41,9 @@ codes =
     ∷ bytes "--a-c-d-a-c"
     ∷ bytes "---a-c-d-a-c"
     ∷ bytes "---a-c-d-a-c"
+    ∷ bytes "--u-w-x-y-z-z"
+    ∷ bytes "---"
+    ∷ bytes "---"
     ∷ []
 
 abbrev pub codeAt : ℕ → ℕ → ℕ

@@ -11,7 +11,8 @@ use lib.Dec.{eqb}
 use Rattle.kinds.specs.Text.{bytes}
 use Rattle.fields.specs.Field.{kindFrom, underFrom}
 use Rattle.numbers.specs.Number.{nought}
-use Rattle.grammar.specs.Makers.{Maker, boxOf, slantOf, isMinus, stepOf, sideOf, namedFrom}
+use Rattle.grammar.specs.Makers.{Maker, boxOf, slantOf, formatFrom, isMinus, stepOf, sideOf, namedFrom}
+use Rattle.formats.specs.declared.Stamp.the-variants.{Date, Time}
 use Rattle.grammar.specs.declared.Ink.the-variants.{Black, White, Inverted}
 use Rattle.grammar.specs.declared.Item.the-variants.{Origin, Variable, Counter, Text, Bars, Frame, Picture}
 use Rattle.grammar.specs.declared.PageCommand.the-variants.{Length, Width, Turn, White as Whiten}
@@ -20,12 +21,12 @@ use Rattle.grammar.specs.declared.PictureCommand.the-variants.{Store, Er
 use Rattle.grammar.specs.declared.ValueCommand.the-variants.{Variable as EnterVariable, Counter as EnterCounter, Clear, Print}
 use Rattle.grammar.specs.declared.ListingCommand.the-variants.{Forms as ListForms, Pictures as ListPictures, Form as ListForm}
 use Rattle.grammar.specs.declared.Command.{Command}
-use Rattle.grammar.specs.declared.Command.the-variants.{Item as item, End, Page, Forms, Pictures, Values, Listing}
+use Rattle.grammar.specs.declared.Command.the-variants.{Item as item, End, Page, Forms, Pictures, Values, Listing, Clock}
 
--- The written form of a command. In it n stands for a number, w for a number above the number before it, s for a number with or without
--- sign, t for a quoted text, a for a name, z for a name or `"*"`, u for a quoted text of any length, m and j for one letter (mode,
--- justification), k for a bar type, h for what stands under bars and d for data; any other byte stands for itself.
--- The limits: the least and the greatest value of each n, w and s, and of the length of each t, a and z, by the rows N of the page.
+-- The written form of a command. In it n stands for a number, w for a number above the number before it, y for a day of the month before it and of the year
+-- behind it, s for a number with or without sign, t for a quoted text, a for a name, z for a name or `"*"`, u for a quoted text of any length, m and j for one letter (mode,
+-- justification), k for a bar type, h for what stands under bars, d for data, f for a format of the date and g for one of the time; any other byte stands for itself.
+-- The limits: the least and the greatest value of each n, w, y and s, and of the length of each t, a and z, by the rows N of the page.
 -- What the fields make: the command, of the line s, the value v and the place p of each field, counted from 0; bytes that stand for themselves do not count.
 pub record Form : Type 0 where
   pub fields : List ℕ
@@ -35,7 +36,8 @@ pub record Form : Type 0 where
 abbrev pub form : String → List (ℕ × ℕ) → Maker → Form
 form f m c = record { fields = bytes f; bounds = λ rows. m; makes = c }
 
--- the commands of paper 01, and behind them those of paper 02, §8: "a, d 0..2047; b, e 0..4095; thickness c 1..80; black, inverting, white"
+-- the commands of paper 01, and behind them those of paper 02, §8: "a, d 0..2047; b, e 0..4095; thickness c 1..80; black, inverting, white", and §10: "`TS` with month,
+-- day, year 0..99 .. hour, minute, second in the manual's limits", "`TD` and `TT` with the manual's formats"
 abbrev pub forms : List Form
 forms =
     record { fields = bytes "Qn,n"; bounds = λ rows. (1, rows) ∷ (0, 240) ∷ []; makes = λ s v p. Page (Length (record { m = v 0; g = v 1 })) }
@@ -69,6 +71,9 @@ forms =
     ∷ form "LSn,n,n,n,n" ((0, 2047) ∷ (0, 4095) ∷ (1, 80) ∷ (0, 2047) ∷ (0, 4095) ∷ []) (λ s v p. slantOf Black v)
     ∷ form "LSEn,n,n,n,n" ((0, 2047) ∷ (0, 4095) ∷ (1, 80) ∷ (0, 2047) ∷ (0, 4095) ∷ []) (λ s v p. slantOf Inverted v)
     ∷ form "LSWn,n,n,n,n" ((0, 2047) ∷ (0, 4095) ∷ (1, 80) ∷ (0, 2047) ∷ (0, 4095) ∷ []) (λ s v p. slantOf White v)
+    ∷ form "TSn,y,n,n,n,n" ((1, 12) ∷ (1, 31) ∷ (0, 99) ∷ (0, 23) ∷ (0, 59) ∷ (0, 59) ∷ []) (λ s v p. Clock (record { month = v 0; day = v 1; year = v 2; hour = v 3; minute = v 4; second = v 5 }))
+    ∷ form "TDf" [] (λ s v p. formatFrom Date v)
+    ∷ form "TTg" [] (λ s v p. formatFrom Time v)
     ∷ []
 
 -- Past the last row there is none: it has no letters, so no line is ever read by it, and what it makes does not matter.
@@ -81,10 +86,10 @@ rowOf row = getD forms row none
 -- ---- The limits of a row's fields
 
 abbrev pub isNumber : ℕ → Bool
-isNumber f = eqb f (code "n") || eqb f (code "w")
+isNumber f = eqb f (code "n") || (eqb f (code "w") || eqb f (code "y"))
 
 abbrev pub limited : ℕ → Bool
-limited f = eqb f (code "n") || (eqb f (code "w") || (eqb f (code "s") || (eqb f (code "t") || (eqb f (code "a") || eqb f (code "z")))))
+limited f = eqb f (code "n") || (eqb f (code "w") || (eqb f (code "y") || (eqb f (code "s") || (eqb f (code "t") || (eqb f (code "a") || eqb f (code "z"))))))
 
 -- the limits, one for each byte of the form; where a byte has none, any
 abbrev pub free : ℕ × ℕ
@@ -103,7 +108,7 @@ boundsOf row rows = spread (rowOf row .fields) (rowOf row .bounds rows)
 
 -- a letter that stands for a field
 abbrev pub isField : ℕ → Bool
-isField f = limited f || (eqb f (code "u") || (eqb f (code "m") || (eqb f (code "j") || (eqb f (code "k") || (eqb f (code "h") || eqb f (code "d"))))))
+isField f = limited f || (eqb f (code "u") || (eqb f (code "m") || (eqb f (code "j") || (eqb f (code "k") || (eqb f (code "h") || (eqb f (code "d") || (eqb f (code "f") || eqb f (code "g"))))))))
 
 -- Reading a line fills a slot for each byte of the form. These are the slots of the fields alone, in their order, from the slot i on.
 unfoldable pub inOrder : List ℕ → ℕ → List ℕ → List ℕ

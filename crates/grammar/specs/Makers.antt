@@ -7,9 +7,11 @@ use mathlib.Core.List.{List}
 use lib.ListN.{getD}
 use lib.Dec.{ltb, eqb}
 use Rattle.numbers.specs.Number.{nought}
+use Rattle.formats.specs.declared.Stamp.{Stamp}
+use Rattle.formats.specs.Formats.{unpacked}
 use Rattle.grammar.specs.declared.Ink.{Ink}
 use Rattle.grammar.specs.declared.Named.{Named}
-use Rattle.grammar.specs.declared.Item.the-variants.{Box, Slant}
+use Rattle.grammar.specs.declared.Item.the-variants.{Box, Slant, Format}
 use Rattle.grammar.specs.declared.Command.{Command}
 use Rattle.grammar.specs.declared.Command.the-variants.{Item as item}
 
@@ -24,6 +26,10 @@ boxOf i v = item (Box (record { ink = i; a = v 0; b = v 1; c = v 2; d = v 3 }))
 -- paper 02, §8, "`LS`, then nothing, `E` or `W`, then a,b,c,d,e": "black, inverting, white", c thick, from a, b to d, e
 abbrev pub slantOf : Ink → (ℕ → ℕ) → Command
 slantOf i v = item (Slant (record { ink = i; a = v 0; b = v 1; c = v 2; d = v 3; e = v 4 }))
+
+-- paper 02, §10, `TD` and `TT`: the format of the date or of the time, which reading the field gives as one number
+abbrev pub formatFrom : Stamp → (ℕ → ℕ) → Command
+formatFrom st v = item (Format (record { stamp = st; format = unpacked (v 0) }))
 
 -- the step of a counter: its sign and how far it goes (the field counts from -1,000,000,000)
 abbrev pub isMinus : ℕ → Bool

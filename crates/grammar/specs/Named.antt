@@ -95,6 +95,15 @@ LSE = 29
 abbrev pub LSW : ℕ
 LSW = 30
 
+abbrev pub TS : ℕ
+TS = 31
+
+abbrev pub TD : ℕ
+TD = 32
+
+abbrev pub TT : ℕ
+TT = 33
+
 -- Where the number stands that names a variable or a counter: behind the one letter of V and C, and behind the two of ?V and ?C.
 abbrev pub DECLARED-AT : ℕ
 DECLARED-AT = 1

@@ -7,6 +7,8 @@ pub mod makers;
 pub mod row;
 pub mod table;
 
+use formats::Format;
+use formats::Stamp;
 use kinds::Kind;
 use kinds::Under;
 
@@ -103,6 +105,12 @@ pub struct Picture {
     pub length: usize,
 }
 
+// TD, TT: the format in which the date or the time of day is shown.
+pub struct SetFormat {
+    pub stamp: Stamp,
+    pub format: Format,
+}
+
 // A line that may stand in a form.
 pub enum Item {
     Origin(Origin),
@@ -114,6 +122,7 @@ pub enum Item {
     Frame(Frame),
     Slant(Slant),
     Picture(Picture),
+    Format(SetFormat),
 }
 
 // Q: the label's length and the gap.
@@ -164,6 +173,16 @@ pub struct Print {
     pub k: usize,
 }
 
+// TS: the date and the time that the clock takes.
+pub struct SetClock {
+    pub month: usize,
+    pub day: usize,
+    pub year: usize,
+    pub hour: usize,
+    pub minute: usize,
+    pub second: usize,
+}
+
 // Q, q, ZT and ZB, N: the page.
 pub enum PageCommand {
     Length(Length),
@@ -200,7 +219,7 @@ pub enum ListingCommand {
     Form(Named),
 }
 
-// A command: a line that may stand in a form; FE, the end of a form; or one of a group.
+// A command: a line that may stand in a form; FE, the end of a form; TS, the clock; or one of a group.
 pub enum Command {
     Item(Item),
     End,
@@ -209,4 +228,5 @@ pub enum Command {
     Pictures(PictureCommand),
     Values(ValueCommand),
     Listing(ListingCommand),
+    Clock(SetClock),
 }

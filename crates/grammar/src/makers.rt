@@ -3,8 +3,8 @@ ghost use mathlib.Core.Path.{_≡_};
 ghost use mathlib.Core.List.{List};
 ghost use Prim.Native.Nat.{ℕ, _+_, _*_, _≤_, _<_};
 ghost use lib.ListN.{getD};
-ghost use Rattle.grammar.specs.Named.{LO, FRAME, TEXT, BARS, GG, FS, VC, VARIABLE, COUNTER, LS};
-ghost use Rattle.grammar.specs.Makers.{boxOf, slantOf, stepOf, sideOf, starred, namedFrom};
+ghost use Rattle.grammar.specs.Named.{LO, FRAME, TEXT, BARS, GG, FS, VC, VARIABLE, COUNTER, LS, TS, TD};
+ghost use Rattle.grammar.specs.Makers.{boxOf, slantOf, formatFrom, stepOf, sideOf, starred, namedFrom};
 ghost use Rattle.grammar.specs.Forms.{rowOf, Form, inOrder, commandOf, Makes};
 use crate::Bars;
 use crate::Command;
@@ -22,7 +22,9 @@ use crate::Picture;
 use crate::PictureCommand;
 use crate::Print;
 use crate::Rectangle;
+use crate::SetClock;
 use crate::SetCounter;
+use crate::SetFormat;
 use crate::SetVariable;
 use crate::Slant;
 use crate::StorePicture;
@@ -34,6 +36,8 @@ use crate::Width;
 use crate::row;
 use fields::kind_from;
 use fields::under_from;
+use formats::Stamp;
+use formats::unpack;
 use numbers::NOUGHT;
 
 // The letters of mode and justification, as the values of their fields.
@@ -77,6 +81,10 @@ mod two {
     pub const THIRD: usize = 6;
 
     pub const FOURTH: usize = 8;
+
+    pub const FIFTH: usize = 10;
+
+    pub const SIXTH: usize = 12;
 }
 
 // Behind three letters.
@@ -313,15 +321,49 @@ fn value_makes(row: usize, v: &[usize; 18], p: &[usize; 18]) -> Command
     }
 }
 
-// Slanted lines: LS, LSE, LSW. Past the last row there is none.
+// Slanted lines: LS, LSE, LSW.
 fn slant_makes(row: usize, v: &[usize; 18]) -> Command
-    requires { ⌜ LS ≤ row ⌝ }
+    requires { ⌜ (LS ≤ row) × (row < TS) ⌝ }
     ensures { λ r. ⌜ ((p : List ℕ) → Makes row (now (v .entry)) p r) ⌝ }
 {
     match row {
         row::LS => slant(Ink::Black, v, two::FIRST),
         row::LSE => slant(Ink::Inverted, v, three::FIRST),
-        row::LSW => slant(Ink::White, v, three::FIRST),
+        _ => slant(Ink::White, v, three::FIRST),
+    }
+}
+
+fn clock(v: &[usize; 18]) -> Command
+    ensures { λ r. ⌜ ((p : List ℕ) → Makes TS (now (v .entry)) p r) ⌝ }
+{
+    Command::Clock(SetClock {
+        month: v[two::FIRST],
+        day: v[two::SECOND],
+        year: v[two::THIRD],
+        hour: v[two::FOURTH],
+        minute: v[two::FIFTH],
+        second: v[two::SIXTH],
+    })
+}
+
+fn format(stamp: Stamp, v: &[usize; 18]) -> Command
+    ensures { λ r. ⌜ r ≡ formatFrom stamp (λ i. getD (inOrder (rowOf TD .fields) 0 (now (v .entry))) i 0) ⌝ }
+{
+    Command::Item(Item::Format(SetFormat {
+        stamp: stamp,
+        format: unpack(v[two::FIRST]),
+    }))
+}
+
+// The clock and what is shown of it: TS, TD, TT. Past the last row there is none.
+fn clock_makes(row: usize, v: &[usize; 18]) -> Command
+    requires { ⌜ TS ≤ row ⌝ }
+    ensures { λ r. ⌜ ((p : List ℕ) → Makes row (now (v .entry)) p r) ⌝ }
+{
+    match row {
+        row::TS => clock(v),
+        row::TD => format(Stamp::Date, v),
+        row::TT => format(Stamp::Time, v),
         _ => Command::End,
     }
 }
@@ -342,5 +384,8 @@ pub fn command_of(line: &[u8], row: usize, vs: &[usize; 18], ps: &[usize; 18]) -
     if row < row::LS {
         return value_makes(row, vs, ps);
     }
-    slant_makes(row, vs)
+    if row < row::TS {
+        return slant_makes(row, vs);
+    }
+    clock_makes(row, vs)
 }

@@ -61,6 +61,12 @@ pub const LSE: usize = 29;
 
 pub const LSW: usize = 30;
 
+pub const TS: usize = 31;
+
+pub const TD: usize = 32;
+
+pub const TT: usize = 33;
+
 // Where the number stands that names a variable or a counter: behind the one letter of V and C, and behind the two of ?V and ?C.
 pub const DECLARED_AT: usize = 1;
 

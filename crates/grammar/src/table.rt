@@ -2,7 +2,7 @@
 // row is read once for a line: its bytes are quickly at hand, and a whole table would be copied each time.
 ghost use mathlib.Core.Path.{_≡_};
 ghost use Prim.Native.Nat.{_≤_, _<_};
-ghost use Rattle.grammar.specs.Named.{LO, FS, VC, LS};
+ghost use Rattle.grammar.specs.Named.{LO, FS, VC, LS, TS};
 ghost use Rattle.grammar.specs.Codes.{lineUp};
 use crate::row;
 
@@ -70,15 +70,27 @@ fn value_rows(row: usize) -> [u8; 36]
     }
 }
 
-// Slanted lines: LS, LSE, LSW. Past the last row there is none.
+// Slanted lines: LS, LSE, LSW.
 fn slant_rows(row: usize) -> [u8; 36]
-    requires { ⌜ LS ≤ row ⌝ }
+    requires { ⌜ (LS ≤ row) × (row < TS) ⌝ }
     ensures { λ r. ⌜ r ≡ lineUp row ⌝ }
 {
     match row {
         row::LS => *b"LSn,n,n,n,n       --a-c-d-a-c-------",
         row::LSE => *b"LSEn,n,n,n,n      ---a-c-d-a-c------",
-        row::LSW => *b"LSWn,n,n,n,n      ---a-c-d-a-c------",
+        _ => *b"LSWn,n,n,n,n      ---a-c-d-a-c------",
+    }
+}
+
+// The clock and what is shown of it: TS, TD, TT. Past the last row there is none.
+fn clock_rows(row: usize) -> [u8; 36]
+    requires { ⌜ TS ≤ row ⌝ }
+    ensures { λ r. ⌜ r ≡ lineUp row ⌝ }
+{
+    match row {
+        row::TS => *b"TSn,y,n,n,n,n     --u-w-x-y-z-z-----",
+        row::TD => *b"TDf               ------------------",
+        row::TT => *b"TTg               ------------------",
         _ => *b"                  ------------------",
     }
 }
@@ -99,5 +111,8 @@ pub fn line_up(row: usize) -> [u8; 36]
     if row < row::LS {
         return value_rows(row);
     }
-    slant_rows(row)
+    if row < row::TS {
+        return slant_rows(row);
+    }
+    clock_rows(row)
 }

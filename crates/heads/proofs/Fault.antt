@@ -66,10 +66,10 @@ pub fault-one : (s : List ℕ) (a : ℕ) → length s ≡ 1 → getD s 0 0 ≡ a
 fault-one s a h e = ap lettersFault (one-byte s h ∙ ap (λ (b : ℕ). b ∷ []) e)
 
 -- a byte that starts no command of two letters or three is itself at fault
-pub fault-other : (a : ℕ) → (a ≡ code "Z" → ⊥) → (a ≡ code "L" → ⊥) → (a ≡ code "G" → ⊥) → (a ≡ code "F" → ⊥) → (a ≡ code "V" → ⊥) → (a ≡ code "?" → ⊥)
+pub fault-other : (a : ℕ) → (a ≡ code "Z" → ⊥) → (a ≡ code "L" → ⊥) → (a ≡ code "G" → ⊥) → (a ≡ code "F" → ⊥) → (a ≡ code "V" → ⊥) → (a ≡ code "?" → ⊥) → (a ≡ code "T" → ⊥)
     → lettersFault (a ∷ []) ≡ 0
 unfolding lettersFault
-fault-other a z l g f v q = simp (other "Z" z, other "L" l, other "G" g, other "F" f, other "V" v, other "?" q)
+fault-other a z l g f v q t = simp (other "Z" z, other "L" l, other "G" g, other "F" f, other "V" v, other "?" q, other "T" t)
   where
     other : (c : Char) → (a ≡ code c → ⊥) → eqb (code c) a ≡ false
     other c h = ne-eqb (code c) a (λ e. h (sym e))

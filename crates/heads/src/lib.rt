@@ -39,6 +39,7 @@ pub fn letters_fault(line: &[u8]) -> usize
         b'F' => 1,
         b'V' => 1,
         b'?' => 1,
+        b'T' => 1,
         _ => 0,
     }
 }
@@ -72,6 +73,7 @@ fn by_first(a: u8, b: u8, c: u8) -> Head
         b'?' => values(b),
         b'P' => Head::Row(row::PRINT),
         b'N' => Head::Row(row::WHITE),
+        b'T' => clocks(b),
         _ => Head::Unknown,
     }
 }
@@ -140,6 +142,17 @@ fn variables(b: u8) -> Head
     match b {
         b'C' => Head::Row(row::VC),
         _ => Head::Row(row::VARIABLE),
+    }
+}
+
+fn clocks(b: u8) -> Head
+    ensures { λ r. ⌜ Behind "T" b r ⌝ }
+{
+    match b {
+        b'S' => Head::Row(row::TS),
+        b'D' => Head::Row(row::TD),
+        b'T' => Head::Row(row::TT),
+        _ => Head::Unknown,
     }
 }
 

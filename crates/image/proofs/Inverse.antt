@@ -12,7 +12,7 @@ use Rattle.session.specs.declared.Session.{Session}
 use Rattle.session.specs.Session.{none}
 use Rattle.ground.proofs.Stores.{sets-all}
 use Rattle.low_first.specs.Low.{numberAt, bytesOf}
-use Rattle.image.specs.Image.{imageSize, everyFive, counterBytes, sessionOf, imageOf, Fits}
+use Rattle.image.specs.Image.{imageSize, everyFive, counterBytes, imageClock, imageFormat, clockBytes, formatBytes, sessionOf, imageOf, Fits}
 use Rattle.low_first.proofs.Numbers.{byte-number}
 use Rattle.image.proofs.Numbers.{session-read}
 
@@ -73,6 +73,17 @@ module _ (b : List ℕ) (small : (k : ℕ) → getD b k 0 < 256) where
       let d : suc (15 + 5 * k) ≡ 16 + 5 * k = omega arith in
       rw (s, v) (ap (λ (l : List ℕ). getD b (15 + 5 * k) 0 ∷ l) (field 4 (16 + 5 * k) _ (omega arith) i) ∙ sym (rw d at (drop-cons b (15 + 5 * k) 0 (omega arith))))
 
+  -- one byte a number: the clock's, and those of both formats
+  lone : (at : ℕ) (l : List ℕ) → at < length b → l ≡ drop (suc at) b → getD b at 0 ∷ l ≡ drop at b
+  lone at l h e = ap (λ (m : List ℕ). getD b at 0 ∷ m) e ∙ sym (drop-cons b at 0 h)
+
+  times-again : length b ≡ imageSize → clockBytes (imageClock b 67) ++ (formatBytes (imageFormat b 73) ++ formatBytes (imageFormat b 78)) ≡ drop 67 b
+  times-again e =
+      lone 67 _ (omega arith) (lone 68 _ (omega arith) (lone 69 _ (omega arith) (lone 70 _ (omega arith) (lone 71 _ (omega arith) (lone 72 _ (omega arith)
+      (lone 73 _ (omega arith) (lone 74 _ (omega arith) (lone 75 _ (omega arith) (lone 76 _ (omega arith) (lone 77 _ (omega arith)
+      (lone 78 _ (omega arith) (lone 79 _ (omega arith) (lone 80 _ (omega arith) (lone 81 _ (omega arith) (lone 82 _ (omega arith)
+      (sym (drop-of-length-le b (let d : length b ≤ 83 = omega arith in d))))))))))))))))))
+
   -- the image of an image's session is that image
   pub image-session : length b ≡ imageSize → imageOf (sessionOf b) ≡ b
   unfolding imageOf sessionOf bytesOf
@@ -86,7 +97,7 @@ module _ (b : List ℕ) (small : (k : ℕ) → getD b k 0 < 256) where
       (field 2 11 _ (omega arith)
       (field 2 13 _ (omega arith)
       (counters-again 10 0 _ refl e
-      (field 2 65 [] (omega arith) (sym (drop-of-length-le b (let d : length b ≤ 67 = omega arith in d))))))))))
+      (field 2 65 _ (omega arith) (times-again e))))))))
       ∙ sym (drop-cons b 4 0 (omega arith))))
 
   -- ---- the session of an image fits its places
@@ -157,11 +168,12 @@ pub session-image : (s : Session) → Fits s → sessionOf (imageOf s) ≡ s
 unfolding imageOf numberAt bytesOf counterBytes
 session-image s f =
     let word : (x : ℕ) → x < 65536 → x ≡ numberAt 2 (bytesOf 2 x ++ []) 0 = λ x h. sym (number-bytes 2 x [] h) in
+    let t = bytesOf 2 (s .free) ++ (clockBytes (s .clock) ++ (formatBytes (s .formats .date) ++ formatBytes (s .formats .time))) in
     sym (session-read (imageOf s) (word (s .width) (f .width)) (word (s .length) (f .length)) refl (word (s .x) (f .x)) (word (s .y) (f .y))
     (word (s .active) (f .active)) (word (s .owed) (f .owed)) (word (s .drawn) (f .drawn))
-    (sym (counters-same _ _ _ _ (five-drop 1 10 (imageOf s) 15 0 ∙ sets-again (s .counters) (bytesOf 2 (s .free)) 10 0 (f .tenSet))
-    (five-drop 4 10 (imageOf s) 15 1 ∙ values-again (s .counters) (bytesOf 2 (s .free)) 10 0 (f .tenValues) (f .values))))
-    (word (s .free) (f .free)))
+    (sym (counters-same _ _ _ _ (five-drop 1 10 (imageOf s) 15 0 ∙ sets-again (s .counters) t 10 0 (f .tenSet))
+    (five-drop 4 10 (imageOf s) 15 1 ∙ values-again (s .counters) t 10 0 (f .tenValues) (f .values))))
+    (word (s .free) (f .free)) refl refl refl)
 
 -- ---- the bytes of an image
 
@@ -169,7 +181,7 @@ pub length-image : (s : Session) → length (imageOf s) ≡ imageSize
 unfolding imageOf bytesOf counterBytes
 length-image s = refl
 
--- an image stored over 67 bytes is all there is
+-- an image stored over 83 bytes is all there is
 pub whole : (i : List ℕ) (s : Session) → length i ≡ imageSize → sets i 0 (imageOf s) ≡ imageOf s
 whole i s h = sets-all i (imageOf s) (length-image s ∙ sym h)
 

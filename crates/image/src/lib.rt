@@ -1,23 +1,26 @@
-// The session's image: 67 bytes, every number low byte first.
+// The session's image: 83 bytes, every number low byte first.
 //
 // Paper 01: "The session holds width, length, turn, origin, counters with set or unset, active form, labels owed and drawn"; and since paper 02, §6, the number
-// of free portions. A caller of the exported calls keeps these as plain bytes, and any 67 bytes are some session. specs/Image.antt says where each number
-// stands; `encode` and `decode` promise one equation each with `imageOf` and `sessionOf`, and image and session are found again from each other
-// (proofs/Inverse.antt).
+// of free portions, and §10, the clock and the formats. A caller of the exported calls keeps these as plain bytes, and any 83 bytes are some session.
+// specs/Image.antt says where each number stands; `encode` and `decode` promise one equation each with `imageOf` and `sessionOf`, and image and
+// session are found again from each other (proofs/Inverse.antt).
 ghost use mathlib.Core.Path.{_≡_};
 ghost use mathlib.Core.List.{_∷_};
 ghost use Prim.Native.Nat.{_+_, _*_, _/_, _%_, _<_};
 ghost use lib.Seq.{sets};
 ghost use Rattle.counters.specs.Counters.{counters};
 ghost use Rattle.low_first.specs.Low.{numberAt, bytesOf};
-ghost use Rattle.image.specs.Image.{imageSize, everyFive, counterBytes, headOf, sessionOf, imageOf};
+ghost use Rattle.image.specs.Image.{imageSize, everyFive, counterBytes, imageClock, imageFormat, clockBytes, formatBytes, headOf, sessionOf, imageOf};
+use calendar::Clock;
 use counters::Counters;
+use formats::Format;
+use formats::Formats;
 use ground::byte;
 use ground::put;
 use session::Session;
 
 // The bytes of an image.
-pub const IMAGE: usize = 67;
+pub const IMAGE: usize = 83;
 
 fn pair(a: u8, b: u8) -> u16
     ensures { λ r. ⌜ r ≡ a + 256 * b ⌝ }
@@ -61,6 +64,33 @@ fn counters_of(image: &[u8]) -> Counters
     Counters { set, value }
 }
 
+fn clock_at(image: &[u8], at: usize) -> Clock
+    requires { ⌜ at < imageSize ⌝ }
+    ensures { λ r. ⌜ r ≡ imageClock (now (image .entry)) at ⌝ }
+{
+    Clock {
+        year: byte(image, at),
+        month: byte(image, at + 1),
+        day: byte(image, at + 2),
+        hour: byte(image, at + 3),
+        minute: byte(image, at + 4),
+        second: byte(image, at + 5),
+    }
+}
+
+fn format_at(image: &[u8], at: usize) -> Format
+    requires { ⌜ at < imageSize ⌝ }
+    ensures { λ r. ⌜ r ≡ imageFormat (now (image .entry)) at ⌝ }
+{
+    Format {
+        first: byte(image, at),
+        mark1: byte(image, at + 1),
+        second: byte(image, at + 2),
+        mark2: byte(image, at + 3),
+        third: byte(image, at + 4),
+    }
+}
+
 // The session of an image; past its end stand zeros.
 pub fn decode(image: &[u8]) -> Session
     ensures { λ r. ⌜ r ≡ sessionOf (now (image .entry)) ⌝ }
@@ -75,6 +105,10 @@ pub fn decode(image: &[u8]) -> Session
     let drawn = word_at(image, 13);
     let counters = counters_of(image);
     let free = word_at(image, 65);
+    let clock = clock_at(image, 67);
+    let date = format_at(image, 73);
+    let time = format_at(image, 78);
+    let formats = Formats { date, time };
     Session {
         width,
         length,
@@ -86,6 +120,8 @@ pub fn decode(image: &[u8]) -> Session
         drawn,
         counters,
         free,
+        clock,
+        formats,
     }
 }
 
@@ -148,6 +184,18 @@ fn put_counters(image: &mut [u8], c: Counters)
     }
 }
 
+fn clock_bytes(c: Clock) -> [u8; 6]
+    ensures { λ r. ⌜ r ≡ clockBytes c ⌝ }
+{
+    [c.year, c.month, c.day, c.hour, c.minute, c.second]
+}
+
+fn format_bytes(f: Format) -> [u8; 5]
+    ensures { λ r. ⌜ r ≡ formatBytes f ⌝ }
+{
+    [f.first, f.mark1, f.second, f.mark2, f.third]
+}
+
 // The image of a session, stored from the front on.
 pub fn encode(s: Session, image: &mut [u8])
     ensures { λ _. ⌜ now (image .exit) ≡ sets (now (image .entry)) 0 (imageOf s) ⌝ }
@@ -160,4 +208,11 @@ pub fn encode(s: Session, image: &mut [u8])
     let second = high(s.free);
     let free = [first, second];
     put(image, 65, &free);
+    let clock = clock_bytes(s.clock);
+    put(image, 67, &clock);
+    let formats = s.formats;
+    let date = format_bytes(formats.date);
+    put(image, 73, &date);
+    let time = format_bytes(formats.time);
+    put(image, 78, &time);
 }

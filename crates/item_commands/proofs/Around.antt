@@ -6,7 +6,7 @@ use mathlib.Core.List.{List, [], _∷_}
 use Prim.Native.Nat.{ℕ}
 use borrow.Author.Tests.{not-true, not-false}
 use Rattle.declarations.specs.declared.Declared.{Declared}
-use Rattle.declarations.specs.Declarations.{nothing}
+use Rattle.declarations.specs.Declarations.{outsideForms}
 use Rattle.reach.specs.Answers.{undeclaredBy, pastBy}
 use Rattle.grammar.specs.Named.{DECLARED-AT}
 use Rattle.grammar.specs.declared.Item.{Item}
@@ -88,8 +88,8 @@ item-after d d' dir line it a e f = e ∙ ap (λ (k : Declared). answerOf (itemR
 pub item-around :
     (it : Item) (s : Session) (font line b st l d v o : List ℕ) →
     onBackground st l d v o (itemBy font (world b st l d v) s line it)
-    ≡ ranBy (answerOf (itemRows nothing d line it [])) s (world b st l d v) o (itemRuns font (world b st l d v) s line it) []
+    ≡ ranBy (answerOf (itemRows (outsideForms (s .formats)) d line it [])) s (world b st l d v) o (itemRuns font (world b st l d v) s line it) []
 item-around it s font line b st l d v o =
-    cond-map (onBackground st l d v o) (isTaken (answerOf (itemRows nothing d line it [])))
+    cond-map (onBackground st l d v o) (isTaken (answerOf (itemRows (outsideForms (s .formats)) d line it [])))
     (ran (done Taken (basedBy s it) 0) (itemRuns font (world b st l d v) s line it .world) [])
-    (ran (done (answerOf (itemRows nothing d line it [])) s 0) (world b st l d v) [])
+    (ran (done (answerOf (itemRows (outsideForms (s .formats)) d line it [])) s 0) (world b st l d v) [])

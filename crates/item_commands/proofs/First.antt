@@ -16,7 +16,7 @@ use Rattle.summary.specs.Summary.{judged as fitAlways}
 use Rattle.fitness.specs.Judged.{withFit, dataJudged}
 use Rattle.grammar.specs.Named.{DECLARED-AT}
 use Rattle.grammar.specs.declared.Item.{Item}
-use Rattle.grammar.specs.declared.Item.the-variants.{Origin, Variable, Counter, Text, Bars, Box, Frame, Slant, Picture}
+use Rattle.grammar.specs.declared.Item.the-variants.{Origin, Variable, Counter, Text, Bars, Box, Frame, Slant, Picture, Format}
 use Rattle.recording.specs.declared.Verdict.{Verdict}
 use Rattle.recording.specs.declared.Verdict.the-variants.{Taken as Fine, Again as Before, Undeclared as Unknown, Past as Reaches, Unfit as Wrong}
 use Rattle.recording.specs.Judged.{ofData, judged}
@@ -77,6 +77,7 @@ first-verdict d line (Box r) = refl
 first-verdict d line (Frame f) = refl
 first-verdict d line (Slant l) = refl
 first-verdict d line (Picture p) = refl
+first-verdict d line (Format f) = refl
 
 -- ---- as the table's answers
 

@@ -1,10 +1,10 @@
--- R, V, C, A, B, LO, LE, LW, LS, LSE, LSW, X, GG: their rows of the table, and what they do outside a form.
+-- R, V, C, A, B, LO, LE, LW, LS, LSE, LSW, X, GG, TD, TT: their rows of the table, and what they do outside a form.
 -- Assumes nothing.
 use Prim.Native.Nat.{ℕ}
 use mathlib.Core.Bool.{Bool, true, false, not}
 use mathlib.Core.List.{List, [], _∷_}
 use Rattle.declarations.specs.declared.Declared.{Declared}
-use Rattle.declarations.specs.Declarations.{nothing, variableDeclared, counterDeclared}
+use Rattle.declarations.specs.Declarations.{outsideForms, variableDeclared, counterDeclared}
 use Rattle.kinds.specs.declared.Kind.{Kind}
 use Rattle.kinds.specs.declared.Kind.the-variants.{Shown}
 use Rattle.elements.specs.Elements.{elements}
@@ -17,7 +17,7 @@ use Rattle.summary.specs.Summary.{judged as fitAlways}
 use Rattle.elements.specs.declared.What.{What}
 use Rattle.grammar.specs.Named.{DECLARED-AT}
 use Rattle.grammar.specs.declared.Item.{Item}
-use Rattle.grammar.specs.declared.Item.the-variants.{Origin, Variable, Counter, Text, Bars, Box, Frame, Slant, Picture}
+use Rattle.grammar.specs.declared.Item.the-variants.{Origin, Variable, Counter, Text, Bars, Box, Frame, Slant, Picture, Format}
 use Rattle.recording.specs.declared.Verdict.{Verdict}
 use Rattle.recording.specs.declared.Verdict.the-variants.{Taken as Fine, Again as Before, Undeclared as Unknown, Past as Reaches, Unfit as Wrong}
 use Rattle.recording.specs.Judged.{hasPicture}
@@ -26,7 +26,8 @@ use Rattle.session.specs.declared.Session.{Session}
 use Rattle.answers.specs.declared.Answer.{Answer}
 use Rattle.answers.specs.declared.Answer.the-variants.{Taken, Missing, Again, Undeclared, Past, Unfit}
 use Rattle.answers.specs.Answers.{Row, row, answerOf}
-use Rattle.session.specs.Session.{based, sixteenBits}
+use Rattle.session.specs.Session.{based, formatted, sixteenBits}
+use Rattle.formats.specs.Formats.{withFormat}
 use Rattle.lent.specs.Lent.{World}
 use Rattle.results.specs.World.{State, state, withBackground}
 use Rattle.results.specs.Result.{Ran, ranBy}
@@ -48,6 +49,7 @@ shownBy (Box r) = noData
 shownBy (Frame f) = noData
 shownBy (Slant l) = noData
 shownBy (Picture p) = noData
+shownBy (Format f) = noData
 
 -- [12] "declared before in this form": V and C numbers are separate
 unfoldable pub declaredBefore : Declared → Item → Bool
@@ -60,6 +62,7 @@ declaredBefore d (Box r) = false
 declaredBefore d (Frame f) = false
 declaredBefore d (Slant l) = false
 declaredBefore d (Picture p) = false
+declaredBefore d (Format f) = false
 
 -- [13] "variable or counter not declared"
 unfoldable pub notDeclared : Declared → List ℕ → Shows → Bool
@@ -124,7 +127,7 @@ dataAnswerOf (TooFar p) = Past p
 
 -- ---- what an item does outside a form
 
--- "`Rm,n` .. It replaces the earlier one and is added to coordinates after it"
+-- "`Rm,n` .. It replaces the earlier one and is added to coordinates after it"; "formats sent outside a form serve commands outside forms" (paper 02, §10)
 abbrev pub basedBy : Session → Item → Session
 basedBy s (Origin o) = based s (sixteenBits (o .x)) (sixteenBits (o .y))
 basedBy s (Variable v) = s
@@ -135,16 +138,17 @@ basedBy s (Box r) = s
 basedBy s (Frame f) = s
 basedBy s (Slant l) = s
 basedBy s (Picture p) = s
+basedBy s (Format f) = formatted s (withFormat (s .formats) (f .stamp) (f .format))
 
 -- an item outside a form is drawn on the background
 abbrev pub drawnOn : List ℕ → List ℕ → Session → World → Item → World
 drawnOn font line s w it =
     withBackground w
-    (drawsItem (setting font (w .store) (w .links) (w .directory) (w .values) (s .counters) (s .width) (s .length)) nothing (s .x) (s .y) line it (w .background))
+    (drawsItem (setting font (w .store) (w .links) (w .directory) (w .values) (s .counters) (s .clock) (s .width) (s .length)) (outsideForms (s .formats)) (s .x) (s .y) line it (w .background))
 
 abbrev pub itemRuns : List ℕ → World → Session → List ℕ → Item → State
 itemRuns font w s line it = state (basedBy s it) (drawnOn font line s w it)
 
--- what such an item leaves: "Outside recording, data elements find nothing declared"
+-- what such an item leaves: "Outside recording, data elements find nothing declared", and the session's formats are in force
 abbrev pub itemBy : List ℕ → World → Session → List ℕ → Item → Ran
-itemBy font w s line it = ranBy (answerOf (itemRows nothing (w .directory) line it [])) s w [] (itemRuns font w s line it) []
+itemBy font w s line it = ranBy (answerOf (itemRows (outsideForms (s .formats)) (w .directory) line it [])) s w [] (itemRuns font w s line it) []

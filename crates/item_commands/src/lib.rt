@@ -1,7 +1,8 @@
-// Items, the lines that may stand in a form: R, V, C, A, B, LO, LE, LW, LS, LSE, LSW, X, GG.
+// Items, the lines that may stand in a form: R, V, C, A, B, LO, LE, LW, LS, LSE, LSW, X, GG, TD, TT.
 //
 // `item_answer` gives the table's rows 11 to 15 for an item after the declarations of the lines before it: recording asks it, and so does an item outside a
-// form, where "data elements find nothing declared". `run_item` draws one on the background and promises one equation with `itemBy` (specs/Items.antt).
+// form, where "data elements find nothing declared" and the session's formats serve. `run_item` draws one on the background and promises one equation
+// with `itemBy` (specs/Items.antt).
 ghost use mathlib.Core.Path.{_≡_};
 ghost use mathlib.Core.List.{[]};
 ghost use Rattle.answers.specs.Answers.{answerOf};
@@ -59,10 +60,16 @@ fn based_by(session: Session, item: Item) -> Session
         Item::Frame(_) => session,
         Item::Slant(_) => session,
         Item::Picture(_) => session,
+        Item::Format(f) => {
+            let before = session.formats;
+            let stamp = f.stamp;
+            let format = f.format;
+            session.formatted(before.with(stamp, format))
+        }
     }
 }
 
-// An item outside a form: drawn on the background; R is kept for what comes after it.
+// An item outside a form: drawn on the background; R, TD and TT are kept for what comes after them.
 pub fn run_item<'a>(
     session: Session,
     font: &[u8],
@@ -76,11 +83,13 @@ pub fn run_item<'a>(
 ) -> Done
     ensures { λ r. ⌜ ran r (world (now (background .exit)) (now (store .entry)) (now (links .entry)) (now (directory .entry)) (now (values .entry))) [] ≡ itemBy (now (font .entry)) (world (now (background .entry)) (now (store .entry)) (now (links .entry)) (now (directory .entry)) (now (values .entry))) session (now (line .entry)) item ⌝ }
 {
-    let a = item_answer(directory, line, item, Declared::none());
+    let d = Declared::outside(session.formats);
+    let a = item_answer(directory, line, item, d);
     if !is_taken(a) {
         return answered(a, session);
     }
     let counters = session.counters;
+    let clock = session.clock;
     let width = session.width as usize;
     let length = session.length as usize;
     let x = session.x as usize;
@@ -93,9 +102,10 @@ pub fn run_item<'a>(
         directory,
         values,
         counters,
+        clock,
         width,
         length,
-        Declared::none(),
+        d,
         x,
         y,
         line,

@@ -15,7 +15,7 @@ use Rattle.outside.specs.Outside.{whiteOutside}
 use Rattle.text.specs.Text.{textDrawn}
 use Rattle.lined.specs.Lined.{barsWith}
 use Rattle.grammar.specs.declared.Item.{Item}
-use Rattle.grammar.specs.declared.Item.the-variants.{Origin, Variable, Counter, Text, Bars, Box, Frame, Slant, Picture}
+use Rattle.grammar.specs.declared.Item.the-variants.{Origin, Variable, Counter, Text, Bars, Box, Frame, Slant, Picture, Format}
 use Rattle.item_drawing.specs.Draw.{Setting, drawsItem}
 
 -- what text and bars are to keep
@@ -39,6 +39,7 @@ module _ (p : List ℕ → Type 0) (g : Setting) (text : TextKeeps p g) (bars : 
   item-keeps d x y line (Frame f) page h = dots _ _ page h
   item-keeps d x y line (Slant l) page h = dots _ _ page h
   item-keeps d x y line (Picture q) page h = dots _ _ page h
+  item-keeps d x y line (Format f) page h = h
 
 -- the page's length
 abbrev pub Long : ℕ → List ℕ → Type 0

@@ -7,6 +7,7 @@ use lib.ListN.{take}
 use Rattle.elements.specs.Elements.{elements}
 use Rattle.declarations.specs.declared.Declared.{Declared}
 use Rattle.counters.specs.declared.Counters.{Counters}
+use Rattle.calendar.specs.declared.Clock.{Clock}
 use Rattle.pieces.specs.Data.{assembled, valuesIn}
 use Rattle.finding.specs.declared.Found.{Found}
 use Rattle.finding.specs.declared.Found.the-variants.{At, Nothing as Absent}
@@ -23,7 +24,7 @@ use Rattle.lined.specs.Lined.{barsWith}
 use Rattle.grammar.specs.declared.Ink.{Ink as Said}
 use Rattle.grammar.specs.declared.Ink.the-variants.{Black as black, White as white, Inverted as inverted}
 use Rattle.grammar.specs.declared.Item.{Item}
-use Rattle.grammar.specs.declared.Item.the-variants.{Origin, Variable, Counter, Text, Bars, Box, Frame, Slant, Picture}
+use Rattle.grammar.specs.declared.Item.the-variants.{Origin, Variable, Counter, Text, Bars, Box, Frame, Slant, Picture, Format}
 use Rattle.parts.specs.Names.{packedOf}
 
 -- what a label, or a command outside a form, is drawn with
@@ -34,11 +35,12 @@ pub record Setting : Type 0 where
   pub directory : List ℕ
   pub values : List ℕ
   pub counters : Counters
+  pub clock : Clock
   pub width : ℕ
   pub length : ℕ
 
-abbrev pub setting : List ℕ → List ℕ → List ℕ → List ℕ → List ℕ → Counters → ℕ → ℕ → Setting
-setting f s l d v c w n = record { font = f; store = s; links = l; directory = d; values = v; counters = c; width = w; length = n }
+abbrev pub setting : List ℕ → List ℕ → List ℕ → List ℕ → List ℕ → Counters → Clock → ℕ → ℕ → Setting
+setting f s l d v c t w n = record { font = f; store = s; links = l; directory = d; values = v; counters = c; clock = t; width = w; length = n }
 
 -- `LO` black, `LW` white, `LE` inverts, and so `LS`, `LSW`, `LSE`
 abbrev pub inkOf : Said → Ink
@@ -48,7 +50,7 @@ inkOf inverted = Inverted
 
 -- the bytes that data from a place on shows, at most 128
 unfoldable pub shown : Setting → Declared → List ℕ → ℕ → List ℕ
-shown g d line at = take 128 (assembled line d (valuesIn (g .values) (g .counters)) (elements line at))
+shown g d line at = take 128 (assembled line d (valuesIn (g .values) (g .counters) (g .clock)) (elements line at))
 
 -- the bytes of an entry that was looked for; none, where it was not found
 abbrev pub bytesAt : List ℕ → List ℕ → List ℕ → Found → List ℕ
@@ -79,5 +81,6 @@ drawsItem g d x y line (Frame f) page =
     drawn Black (cut (g .width) (g .length) (frame (far x (f .a)) (far y (f .b)) (f .c) (far x (f .d)) (far y (f .e)))) page
 drawsItem g d x y line (Slant l) page =
     drawn (inkOf (l .ink)) (cut (g .width) (g .length) (slanted (far x (l .a)) (far y (l .b)) (l .c) (far x (l .d)) (far y (l .e)))) page
+drawsItem g d x y line (Format f) page = page
 drawsItem g d x y line (Picture p) page =
     drawn Black (cut (g .width) (g .length) (pictured (pictureBytes g (packedOf line (p .at) (p .length))) (far x (p .a)) (far y (p .b)))) page

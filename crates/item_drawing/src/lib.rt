@@ -1,9 +1,9 @@
 // What an item draws on a page, from an origin: one function a kind of item.
 //
 // R's origin "is added to coordinates after it"; the sums are not limited, and "Drawing is cut at width and length." Text and bars show the data of their line for
-// the values that are lent, boxes, frames and slanted lines are inked, and GG draws the picture of its name where it is stored. `draw_item` leaves the page that the
-// definition (specs/Draw.antt) says, for any item, memory and page. How text, bars and pictures look stands in crates `text`, `lined` and `picture`, how a
-// whole form is drawn in crate `form_drawing`.
+// the values that are lent and the clock, boxes, frames and slanted lines are inked, and GG draws the picture of its name where it is stored. A V, a C and a
+// format draw nothing. `draw_item` leaves the page that the definition (specs/Draw.antt) says, for any item, memory and page. How text, bars and pictures look
+// stands in crates `text`, `lined` and `picture`, how a whole form is drawn in crate `form_drawing`.
 ghost use mathlib.Core.Path.{_≡_};
 ghost use mathlib.Core.Bool.{true};
 ghost use lib.ListN.{take};
@@ -20,6 +20,7 @@ ghost use Rattle.picture.specs.Shape.{pictured};
 ghost use Rattle.text.specs.Text.{textDrawn};
 ghost use Rattle.lined.specs.Lined.{barsWith};
 ghost use Rattle.item_drawing.specs.Draw.{setting, inkOf, bytesAt, drawsItem, far as farOf};
+use calendar::Clock;
 use counters::Counters;
 use declarations::Declared;
 use finding::Found;
@@ -54,6 +55,7 @@ fn draw_text<'a>(
     font: &[u8],
     values: &'a [u8],
     counters: Counters,
+    clock: Clock,
     width: usize,
     length: usize,
     d: Declared,
@@ -62,10 +64,10 @@ fn draw_text<'a>(
     line: &'a [u8],
     t: Text,
 )
-    ensures { λ _. ⌜ now (page .exit) ≡ textDrawn width length (farOf x (t .x)) (farOf y (t .y)) (t .r) (t .h) (t .v) (t .reverse) (now (font .entry)) (take 128 (assembled (now (line .entry)) d (valuesIn (now (values .entry)) counters) (elements (now (line .entry)) (t .at)))) (now (page .entry)) ⌝ }
+    ensures { λ _. ⌜ now (page .exit) ≡ textDrawn width length (farOf x (t .x)) (farOf y (t .y)) (t .r) (t .h) (t .v) (t .reverse) (now (font .entry)) (take 128 (assembled (now (line .entry)) d (valuesIn (now (values .entry)) counters clock) (elements (now (line .entry)) (t .at)))) (now (page .entry)) ⌝ }
 {
     let mut buffer = [0u8; 128];
-    let n = pieces::assemble(line, t.at, d, values, counters, &mut buffer);
+    let n = pieces::assemble(line, t.at, d, values, counters, clock, &mut buffer);
     let a = far(x, t.x);
     let b = far(y, t.y);
     text::draw(
@@ -88,6 +90,7 @@ fn draw_bars<'a>(
     font: &[u8],
     values: &'a [u8],
     counters: Counters,
+    clock: Clock,
     width: usize,
     length: usize,
     d: Declared,
@@ -96,10 +99,10 @@ fn draw_bars<'a>(
     line: &'a [u8],
     s: Bars,
 )
-    ensures { λ _. ⌜ now (page .exit) ≡ barsWith width length (farOf x (s .x)) (farOf y (s .y)) (s .r) (s .kind) (s .e) (s .f) (s .g) (s .under) (now (font .entry)) (take 128 (assembled (now (line .entry)) d (valuesIn (now (values .entry)) counters) (elements (now (line .entry)) (s .at)))) (now (page .entry)) ⌝ }
+    ensures { λ _. ⌜ now (page .exit) ≡ barsWith width length (farOf x (s .x)) (farOf y (s .y)) (s .r) (s .kind) (s .e) (s .f) (s .g) (s .under) (now (font .entry)) (take 128 (assembled (now (line .entry)) d (valuesIn (now (values .entry)) counters clock) (elements (now (line .entry)) (s .at)))) (now (page .entry)) ⌝ }
 {
     let mut buffer = [0u8; 128];
-    let n = pieces::assemble(line, s.at, d, values, counters, &mut buffer);
+    let n = pieces::assemble(line, s.at, d, values, counters, clock, &mut buffer);
     let kind = s.kind;
     let under = s.under;
     let a = far(x, s.x);
@@ -211,6 +214,7 @@ pub fn draw_item<'a>(
     directory: &[u8],
     values: &'a [u8],
     counters: Counters,
+    clock: Clock,
     width: usize,
     length: usize,
     d: Declared,
@@ -219,7 +223,7 @@ pub fn draw_item<'a>(
     line: &'a [u8],
     item: Item,
 )
-    ensures { λ _. ⌜ now (page .exit) ≡ drawsItem (setting (now (font .entry)) (now (store .entry)) (now (links .entry)) (now (directory .entry)) (now (values .entry)) counters width length) d x y (now (line .entry)) item (now (page .entry)) ⌝ }
+    ensures { λ _. ⌜ now (page .exit) ≡ drawsItem (setting (now (font .entry)) (now (store .entry)) (now (links .entry)) (now (directory .entry)) (now (values .entry)) counters clock width length) d x y (now (line .entry)) item (now (page .entry)) ⌝ }
 {
     match item {
         Item::Origin(_) => {}
@@ -230,6 +234,7 @@ pub fn draw_item<'a>(
             font,
             values,
             counters,
+            clock,
             width,
             length,
             d,
@@ -243,6 +248,7 @@ pub fn draw_item<'a>(
             font,
             values,
             counters,
+            clock,
             width,
             length,
             d,
@@ -266,5 +272,6 @@ pub fn draw_item<'a>(
             line,
             p,
         ),
+        Item::Format(_) => {}
     }
 }

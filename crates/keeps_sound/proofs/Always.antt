@@ -11,11 +11,12 @@ use Rattle.results.specs.World.{State}
 use Rattle.calls.specs.Station.{opened, commanded, labelledBy}
 use Rattle.keeps_sound.specs.Good.{Good}
 use Rattle.keeps_sound.specs.Tens.{Tens}
-use Rattle.keeps_sound.specs.Calls.{Call, command, label, called, through, openedState}
+use Rattle.keeps_sound.specs.Calls.{Call, command, label, pass, called, through, openedState}
 use Rattle.keeps_sound.proofs.Layers.{good-sound}
 use Rattle.keeps_sound.proofs.Opening.{opened-good, opened-tens}
 use Rattle.keeps_sound.proofs.Labels.{label-good, label-tens}
 use Rattle.keeps_sound.proofs.Calls.{command-good}
+use Rattle.keeps_sound.proofs.SetsClock.{pass-good, pass-tens}
 use Rattle.keeps_sound.proofs.TenCounters.{command-tens}
 use Rattle.keeps_sound.proofs.Never.{command-never, label-never}
 
@@ -31,6 +32,10 @@ called-good st (command font output input) g = record {
 called-good st (label font page) g = record {
   good = label-good (st .session) (st .world) (g .good) (g .tens) font page;
   tens = label-tens (st .session) (st .world) (g .good) (g .tens) font page;
+}
+called-good st (pass seconds) g = record {
+  good = pass-good (st .session) (st .world) seconds (g .good);
+  tens = pass-tens (st .session) seconds (g .tens);
 }
 
 pub through-good : (st : State) (cs : List Call) → GoodState st → GoodState (through st cs)

@@ -14,7 +14,7 @@ use Rattle.finding.specs.declared.Found.{Found}
 use Rattle.finding.specs.declared.Found.the-variants.{At, Nothing}
 use Rattle.finding.specs.Find.{recorded}
 use Rattle.grammar.specs.declared.Command.{Command}
-use Rattle.grammar.specs.declared.Command.the-variants.{Item as item, End, Page, Forms, Pictures, Values, Listing}
+use Rattle.grammar.specs.declared.Command.the-variants.{Item as item, End, Page, Forms, Pictures, Values, Listing, Clock}
 use Rattle.grammar.specs.declared.PageCommand.{PageCommand}
 use Rattle.grammar.specs.declared.PageCommand.the-variants.{Length, Width, Turn, White}
 use Rattle.grammar.specs.declared.FormCommand.{FormCommand}
@@ -53,6 +53,7 @@ use Rattle.keeps_sound.specs.Tens.{Tens}
 use Rattle.keeps_sound.proofs.Layers.{good-sound, sound-good}
 use Rattle.keeps_sound.proofs.Tables.{clear, taken-is}
 use Rattle.keeps_sound.proofs.Numbers.{keeps-length, keeps-width, keeps-turn, keeps-item}
+use Rattle.keeps_sound.proofs.SetsClock.{keeps-clock}
 use Rattle.keeps_sound.proofs.Values.{keeps-retrieve, keeps-variable, keeps-counter, keeps-clear, keeps-print, keeps-white, keeps-listing, keeps-pictures, keeps-printed}
 use Rattle.keeps_sound.proofs.Erasing.{keeps-erase-form, keeps-erase-picture}
 use Rattle.keeps_sound.proofs.Starting.{keeps-start, keeps-picture}
@@ -132,6 +133,7 @@ module _ (font : List ℕ) (w : World) (s : Session) (line more : List ℕ) (roo
   run-good (Pictures c) g t quiet none r a = picture-good c g quiet none r a
   run-good (Values c) g t quiet none r a = value-good c g t quiet none r a
   run-good (Listing c) g t quiet none r a = listing-good c g
+  run-good (Clock c) g t quiet none r a = keeps-clock font w s line more g c r
 
 -- ---- a line that is taken
 

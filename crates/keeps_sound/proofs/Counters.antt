@@ -21,10 +21,10 @@ use Rattle.values.proofs.Sound.{counter-at}
 use Rattle.forms.specs.Form.{declaredOf}
 use Rattle.forms.proofs.Growing.{declaredOf-empty}
 use Rattle.grammar.specs.declared.Item.{Item}
-use Rattle.grammar.specs.declared.Item.the-variants.{Origin, Variable, Counter, Text, Bars, Box, Frame, Slant, Picture}
+use Rattle.grammar.specs.declared.Item.the-variants.{Origin, Variable, Counter, Text, Bars, Box, Frame, Slant, Picture, Format}
 use Rattle.grammar.specs.declared.SetCounter.{SetCounter}
 use Rattle.grammar.specs.declared.Command.{Command}
-use Rattle.grammar.specs.declared.Command.the-variants.{Item as item, End, Page, Forms, Pictures, Values, Listing}
+use Rattle.grammar.specs.declared.Command.the-variants.{Item as item, End, Page, Forms, Pictures, Values, Listing, Clock}
 use Rattle.grammar.specs.declared.PageCommand.the-variants.{Length, Width, Turn, White}
 use Rattle.grammar.specs.declared.FormCommand.the-variants.{Start, Retrieve, Erase as EraseForm}
 use Rattle.grammar.specs.declared.PictureCommand.the-variants.{Store, Erase as ErasePicture}
@@ -71,6 +71,7 @@ module _ (font : List ℕ) (w : World) (s : Session) (line more : List ℕ) (P :
   based-left (Frame f) = same
   based-left (Slant l) = same
   based-left (Picture p) = same
+  based-left (Format f) = same
 
   entered-left :
       (d : Declared) (n v : ℕ) → P (entered n v) (s .active) → P (counterEntered d (s .counters) n v .counters) (s .active)
@@ -107,6 +108,7 @@ module _ (font : List ℕ) (w : World) (s : Session) (line more : List ℕ) (P :
   run-left (Values Clear) p = same
   run-left (Values (Print k)) p = same
   run-left (Listing c) p = same
+  run-left (Clock c) p = same
 
   -- a recorded line is not run
   record-left : (i : ℕ) (c : Command) → Left (records w s line i c)
@@ -117,6 +119,7 @@ module _ (font : List ℕ) (w : World) (s : Session) (line more : List ℕ) (P :
   record-left i (Pictures c) = same
   record-left i (Values c) = same
   record-left i (Listing c) = same
+  record-left i (Clock c) = same
 
   pub placed-left : (f : Found) (c : Command) → Entering c → P (placed font w s line more c f .session .counters) (placed font w s line more c f .session .active)
   placed-left (At i) c p = record-left i c

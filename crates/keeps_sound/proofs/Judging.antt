@@ -14,7 +14,9 @@ use Rattle.kinds.specs.declared.Kind.the-variants.{Shown}
 use Rattle.kinds.specs.Fit.{inClass, fitLength}
 use Rattle.fields.specs.declared.Field.the-variants.{Is}
 use Rattle.elements.specs.declared.What.{What}
-use Rattle.elements.specs.declared.What.the-variants.{Text as Quote, Variable as VariableOf, Counter as CounterOf}
+use Rattle.elements.specs.declared.What.the-variants.{Text as Quote, Variable as VariableOf, Counter as CounterOf, Stamped as StampOf}
+use Rattle.formats.specs.Formats.{formatOf}
+use Rattle.stamps.specs.Always.{stampLength, stampGood}
 use Rattle.elements.specs.declared.Element.{Element}
 use Rattle.kinds.specs.Text.{bytes}
 use Rattle.fields.specs.Field.{textAt}
@@ -32,17 +34,17 @@ use Rattle.heads.specs.Heads.{headOf}
 use Rattle.reader.specs.Letters.{fieldAt}
 use Rattle.read.specs.Commands.{readOf}
 use Rattle.grammar.specs.declared.Item.{Item}
-use Rattle.grammar.specs.declared.Item.the-variants.{Origin, Variable, Counter, Text, Bars, Box, Frame, Slant, Picture}
+use Rattle.grammar.specs.declared.Item.the-variants.{Origin, Variable, Counter, Text, Bars, Box, Frame, Slant, Picture, Format}
 use Rattle.heads.specs.declared.Head.the-variants.{Row}
 use Rattle.grammar.specs.declared.Command.{Command}
-use Rattle.grammar.specs.declared.Command.the-variants.{Item as item, End, Page, Forms, Pictures, Values, Listing}
+use Rattle.grammar.specs.declared.Command.the-variants.{Item as item, End, Page, Forms, Pictures, Values, Listing, Clock}
 use Rattle.read.specs.declared.Read.the-variants.{Taken as Reads}
 use Rattle.row_fields.proofs.Rows.{fields-split}
 use Rattle.writing.specs.Writing.{kept, cased}
 use Rattle.normal.specs.Written.{whatWritten, normal}
 use Rattle.normal.specs.Contents.{unplaced, pieces, held, heldBy, contentsOf, headContents, contents}
 use Rattle.normal.proofs.Back.{text-fits}
-use Rattle.normal.proofs.Data.{a-text, a-variable, a-counter, Chain, ended, then, chain-of}
+use Rattle.normal.proofs.Data.{a-text, a-variable, a-counter, a-stamp, Chain, ended, then, chain-of}
 use Rattle.normal.specs.Promise.{Normal}
 use Rattle.normal.proofs.Round.{item-parted}
 use Rattle.recording.specs.declared.Verdict.the-variants.{Taken, Again}
@@ -74,16 +76,19 @@ abbrev leastWhat : Declared → List ℕ → What → ℕ
 leastWhat d w Quote = length (inner w)
 leastWhat d w (VariableOf k p) = partLength p (fewest (sideAt d k) (lengthAt d k))
 leastWhat d w (CounterOf k p) = partLength p (widthAt d k)
+leastWhat d w (StampOf st) = stampLength st (formatOf (d .formats) st)
 
 abbrev mostWhat : Declared → List ℕ → What → ℕ
 mostWhat d w Quote = length (inner w)
 mostWhat d w (VariableOf k p) = partLength p (lengthAt d k)
 mostWhat d w (CounterOf k p) = partLength p (widthAt d k)
+mostWhat d w (StampOf st) = stampLength st (formatOf (d .formats) st)
 
 abbrev goodWhat : Kind → Declared → List ℕ → What → Bool
 goodWhat c d w Quote = allIn (inClass c) (inner w)
 goodWhat c d w (VariableOf k p) = takesAll c || (eqb (sideAt d k) 90 || eqb (partLength p (lengthAt d k)) 0)
 goodWhat c d w (CounterOf k p) = true
+goodWhat c d w (StampOf st) = stampGood c st (formatOf (d .formats) st)
 
 abbrev leastBy : Declared → List Piece → ℕ
 leastBy d [] = 0
@@ -112,6 +117,7 @@ least-pieces d (ended h) = refl
 least-pieces d {s} {at} (then (a-text n e h) c) = omega (arith, ap length (text-inner s at n e h), least-pieces d c)
 least-pieces d {s} {at} (then (a-variable k p n h f) c) = omega (arith, least-pieces d c)
 least-pieces d {s} {at} (then (a-counter k p n h f) c) = omega (arith, least-pieces d c)
+least-pieces d {s} {at} (then (a-stamp st) c) = omega (arith, least-pieces d c)
 
 most-pieces : (d : Declared) {s : List ℕ} {at : ℕ} {es : List Element} → Chain s at es → most s d es ≡ mostBy d (pieces s es)
 unfolding pieces whatWritten
@@ -119,6 +125,7 @@ most-pieces d (ended h) = refl
 most-pieces d {s} {at} (then (a-text n e h) c) = omega (arith, ap length (text-inner s at n e h), most-pieces d c)
 most-pieces d {s} {at} (then (a-variable k p n h f) c) = omega (arith, most-pieces d c)
 most-pieces d {s} {at} (then (a-counter k p n h f) c) = omega (arith, most-pieces d c)
+most-pieces d {s} {at} (then (a-stamp st) c) = omega (arith, most-pieces d c)
 
 good-pieces : (t : Kind) (d : Declared) {s : List ℕ} {at : ℕ} {es : List Element} → Chain s at es → goods t s d es ≡ goodBy t d (pieces s es)
 unfolding pieces whatWritten
@@ -126,6 +133,7 @@ good-pieces t d (ended h) = refl
 good-pieces t d {s} {at} (then (a-text n e h) c) = rw (text-inner s at n e h, good-pieces t d c)
 good-pieces t d {s} {at} (then (a-variable k p n h f) c) = rw (good-pieces t d c)
 good-pieces t d {s} {at} (then (a-counter k p n h f) c) = good-pieces t d c
+good-pieces t d {s} {at} (then (a-stamp st) c) = rw (good-pieces t d c)
 
 -- the number that data is answered with
 abbrev judgedBy : Declared → List Piece → Kind → ℕ
@@ -163,6 +171,7 @@ Tells s (Box r) = Unit {0}
 Tells s (Frame f) = Unit {0}
 Tells s (Slant l) = Unit {0}
 Tells s (Picture p) = Unit {0}
+Tells s (Format f) = Unit {0}
 
 -- fields that hold nothing
 abbrev silent : ℕ → Bool
@@ -218,6 +227,7 @@ TellsLine s (Forms c) = Unit {0}
 TellsLine s (Pictures c) = Unit {0}
 TellsLine s (Values c) = Unit {0}
 TellsLine s (Listing c) = Unit {0}
+TellsLine s (Clock c) = Unit {0}
 
 Telling : ℕ → Form → Type 0
 Telling k f =
@@ -258,6 +268,9 @@ telling =
     & (λ s vs ps k c. tt)
     & (λ s vs ps k c. tt)
     & (λ s vs ps k c. tt)
+    & (λ s vs ps k c. tt)
+    & (λ s vs ps k c. tt)
+    & (λ s vs ps k c. tt)
     & (λ j s vs ps k c. tt)
 
 pub item-tells : (rows : ℕ) (s : List ℕ) (i : Item) → readOf rows s ≡ Reads (item i) → Tells s i
@@ -278,6 +291,7 @@ judgedItem d xs (Box r) = 0
 judgedItem d xs (Frame f) = 0
 judgedItem d xs (Slant l) = 0
 judgedItem d xs (Picture p) = 0
+judgedItem d xs (Format f) = 0
 
 again-number : (b : Bool) (p : ℕ) → numberOf (verdictAnswer (cond b (Again p) Taken)) ≡ cond b 12 0
 unfolding numberOf
@@ -295,6 +309,7 @@ judged-item d s (Box r) h = refl
 judged-item d s (Frame f) h = refl
 judged-item d s (Slant l) h = refl
 judged-item d s (Picture p) h = refl
+judged-item d s (Format f) h = refl
 
 -- THE NORMAL FORM IS JUDGED AS THE LINE IS: by the same number. The place may be another, where zeros in front of a number are dropped
 pub normal-judged : (rows : ℕ) (d : Declared) (s : List ℕ) (i : Item) → readOf rows s ≡ Reads (item i) → (n : Normal rows s i)

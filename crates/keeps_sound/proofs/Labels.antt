@@ -93,6 +93,7 @@ module _ (s : Session) (w : World) (g : Good s w) (t : Tens s) where
       record {
         lengths = g .lengths;
         numbers = g .numbers;
+        times = g .times;
         background = g .background;
         store = g .store;
         free = g .free;
@@ -111,6 +112,7 @@ module _ (s : Session) (w : World) (g : Good s w) (t : Tens s) where
       record {
         lengths = g .lengths;
         numbers = g .numbers;
+        times = g .times;
         background = g .background;
         store = g .store;
         free = g .free;

@@ -4,7 +4,7 @@ use mathlib.Core.Path.{_≡_, refl}
 use mathlib.Core.Bool.{Bool, true, false, _&&_, false≢true}
 use Rattle.store_sound.specs.Sound.{storeSound}
 use Rattle.free_number.specs.Number.{freeNumber}
-use Rattle.sound.specs.Sound.{numbersOk, backgroundOk, sound}
+use Rattle.sound.specs.Sound.{numbersOk, timesOk, backgroundOk, sound}
 use Rattle.sound.proofs.Numbered.{counted-number, number-counted}
 use Rattle.content_check.specs.Contents.{contentsOk}
 use Rattle.session.specs.declared.Session.{Session}
@@ -26,14 +26,16 @@ pub good-sound : (s : Session) (w : World) → Good s w → sound s w ≡ true
 unfolding sound
 good-sound s w g =
     both _ _ (g .numbers)
+    (both _ _ (g .times)
     (both _ _ (g .background)
     (both _ _ (g .store)
-    (both _ _ (counted-number (w .store) (w .links) (w .directory) (g .store) (s .free) (g .free)) (both _ _ (g .contents) (g .activity)))))
+    (both _ _ (counted-number (w .store) (w .links) (w .directory) (g .store) (s .free) (g .free)) (both _ _ (g .contents) (g .activity))))))
 
 pub sound-good : (s : Session) (w : World) → wrongLent w ≡ false → sound s w ≡ true → Good s w
 unfolding sound
 sound-good s w l e =
-    let a = second-of (numbersOk (rowsOf w) s) _ e in
+    let t = second-of (numbersOk (rowsOf w) s) _ e in
+    let a = second-of (timesOk (s .clock) (s .formats)) _ t in
     let b = second-of (backgroundOk (s .width) (s .length) (w .background)) _ a in
     let c = second-of (storeSound (w .store) (w .links) (w .directory)) _ b in
     let d = second-of (freeNumber (w .links) (w .directory) (s .free)) _ c in
@@ -41,6 +43,7 @@ sound-good s w l e =
     record {
       lengths = l;
       numbers = first-of (numbersOk (rowsOf w) s) _ e;
+      times = first-of (timesOk (s .clock) (s .formats)) _ t;
       background = first-of (backgroundOk (s .width) (s .length) (w .background)) _ a;
       store = h;
       free = number-counted (w .store) (w .links) (w .directory) h (s .free) (first-of (freeNumber (w .links) (w .directory) (s .free)) _ c);

@@ -12,9 +12,12 @@ pub mod Numbers
 pub mod Values
 pub mod Erasing
 pub mod Starting
+pub mod Unbroken
 pub mod OneLine
 pub mod Judging
 pub mod Recording
+pub mod Passing
+pub mod SetsClock
 pub mod Calls
 pub mod Counters
 pub mod TenCounters

@@ -10,7 +10,7 @@ use Rattle.finding.specs.declared.Found.{Found}
 use Rattle.finding.specs.declared.Found.the-variants.{At, Nothing}
 use Rattle.finding.specs.Find.{recorded}
 use Rattle.grammar.specs.declared.Command.{Command}
-use Rattle.grammar.specs.declared.Command.the-variants.{Item as item, End, Page, Forms, Pictures, Values, Listing}
+use Rattle.grammar.specs.declared.Command.the-variants.{Item as item, End, Page, Forms, Pictures, Values, Listing, Clock}
 use Rattle.grammar.specs.declared.FormCommand.the-variants.{Start, Retrieve, Erase as EraseForm}
 use Rattle.grammar.specs.declared.PictureCommand.the-variants.{Store, Erase as ErasePicture}
 use Rattle.grammar.specs.declared.ValueCommand.the-variants.{Variable as EnterVariable, Counter as EnterCounter, Clear, Print}
@@ -64,6 +64,7 @@ module _ (w : World) (s : Session) (line more : List ℕ) (room : ℕ) where
   record-harmless i (Pictures c) = refl
   record-harmless i (Values c) = refl
   record-harmless i (Listing c) = refl
+  record-harmless i (Clock c) = refl
 
   run-harmless : (c : Command) → harmless (runRows w s line more room c) ≡ true
   unfolding numberOf
@@ -82,6 +83,7 @@ module _ (w : World) (s : Session) (line more : List ℕ) (room : ℕ) where
   run-harmless (Listing ListForms) = refl
   run-harmless (Listing ListPictures) = refl
   run-harmless (Listing (ListForm n)) = refl
+  run-harmless (Clock c) = refl
 
   placed-harmless : (f : Found) (c : Command) → harmless (placedRows w s line more room c f) ≡ true
   placed-harmless (At i) c = record-harmless i c

@@ -9,9 +9,9 @@ use native.Mathlib.Omega.{arith}
 use lib.ListN.{length}
 use Rattle.cells.specs.Cell.{zeros}
 use Rattle.cells.proofs.Cells.{length-zeros}
-use Rattle.declarations.specs.Declarations.{nothing}
+use Rattle.declarations.specs.Declarations.{outsideForms}
 use Rattle.grammar.specs.declared.Item.{Item}
-use Rattle.grammar.specs.declared.Item.the-variants.{Origin, Variable, Counter, Text, Bars, Box, Frame, Slant, Picture}
+use Rattle.grammar.specs.declared.Item.the-variants.{Origin, Variable, Counter, Text, Bars, Box, Frame, Slant, Picture, Format}
 use Rattle.grammar.specs.declared.Length.{Length as LengthOf}
 use Rattle.grammar.specs.declared.Width.{Width as WidthOf}
 use Rattle.grammar.specs.declared.Turn.{Turn as TurnOf}
@@ -20,10 +20,11 @@ use Rattle.grammar.specs.declared.PageCommand.the-variants.{Length, Width, Turn
 use Rattle.read.specs.declared.Read.the-variants.{Taken as Reads}
 use Rattle.read.specs.Commands.{readOf}
 use Rattle.item_drawing.specs.Draw.{Setting, setting, drawsItem}
-use Rattle.sound.specs.Sound.{numbersOk, backgroundOk}
+use Rattle.sound.specs.Sound.{numbersOk, timesOk, backgroundOk}
 use Rattle.activity_check.specs.Activity.{activitySound}
 use Rattle.session.specs.declared.Session.{Session}
-use Rattle.session.specs.Session.{sized, turning, based, sixteenBits}
+use Rattle.session.specs.Session.{sized, turning, based, formatted, sixteenBits}
+use Rattle.formats.specs.Formats.{withFormat}
 use Rattle.lent.specs.Lent.{World, rowsOf}
 use Rattle.session.specs.Active.{activeOf}
 use Rattle.results.specs.World.{withBackground}
@@ -32,6 +33,8 @@ use Rattle.commands.specs.Does.{runs}
 use Rattle.keeps_sound.specs.Good.{Good}
 use Rattle.keeps_sound.proofs.Facts.{Numbers, numbers-facts, facts-numbers}
 use Rattle.keeps_sound.proofs.Limits.{Ranged, itemRanged, read-ranges}
+use Rattle.normal.proofs.Stays.{format-legal}
+use Rattle.sound.proofs.Times.{times-with}
 use Rattle.keeps_sound.proofs.Opening.{white-zeros}
 use Rattle.keeps_sound.proofs.Drawing.{length-item, white-item}
 
@@ -41,11 +44,12 @@ rows-same : (w : World) (b : List ℕ) → length b ≡ length (w .background) �
 rows-same w b e = ap (λ (n : ℕ). n / 76) e
 
 pub background-good :
-    (s s′ : Session) (w : World) (b : List ℕ) → Good s w → s′ .free ≡ s .free → length b ≡ length (w .background) → Numbers (rowsOf w) s′ →
+    (s s′ : Session) (w : World) (b : List ℕ) → Good s w → timesOk (s′ .clock) (s′ .formats) ≡ true → s′ .free ≡ s .free → length b ≡ length (w .background) → Numbers (rowsOf w) s′ →
     backgroundOk (s′ .width) (s′ .length) b ≡ true → activitySound s′ (w .directory) (activeOf w s′) (w .values) ≡ true → Good s′ (withBackground w b)
-background-good s s′ w b g f e n h a = record {
+background-good s s′ w b g t f e n h a = record {
   lengths = rw e (g .lengths);
   numbers = ap (λ (k : ℕ). numbersOk k s′) (rows-same w b e) ∙ facts-numbers (rowsOf w) s′ n;
+  times = t;
   background = h;
   store = g .store;
   free = f ∙ g .free;
@@ -62,7 +66,7 @@ module _ (font : List ℕ) (w : World) (s : Session) (line more : List ℕ) (g :
   keeps-length l e =
       let n = numbers-facts (rowsOf w) s (g .numbers) in
       let r : Ranged (1, rowsOf w) (l .m) = read-ranges (rowsOf w) line (Page (Length l)) e in
-      background-good s (sized s (s .width) (sixteenBits (l .m))) w (zeros (length (w .background))) g refl (length-zeros (length (w .background))) (record {
+      background-good s (sized s (s .width) (sixteenBits (l .m))) w (zeros (length (w .background))) g (g .times) refl (length-zeros (length (w .background))) (record {
         wide-least = n .wide-least;
         wide-most = n .wide-most;
         long-least = omega (arith, r .0);
@@ -78,7 +82,7 @@ module _ (font : List ℕ) (w : World) (s : Session) (line more : List ℕ) (g :
   keeps-width m e =
       let n = numbers-facts (rowsOf w) s (g .numbers) in
       let r : Ranged (80, 608) (m .m) = read-ranges (rowsOf w) line (Page (Width m)) e in
-      background-good s (sized s (sixteenBits (m .m)) (s .length)) w (zeros (length (w .background))) g refl (length-zeros (length (w .background))) (record {
+      background-good s (sized s (sixteenBits (m .m)) (s .length)) w (zeros (length (w .background))) g (g .times) refl (length-zeros (length (w .background))) (record {
         wide-least = omega (arith, r .0);
         wide-most = omega (arith, r .1);
         long-least = n .long-least;
@@ -109,6 +113,7 @@ module _ (font : List ℕ) (w : World) (s : Session) (line more : List ℕ) (g :
           x = n .x;
           y = n .y;
         });
+        times = g .times;
         background = g .background;
         store = g .store;
         free = g .free;
@@ -119,23 +124,23 @@ module _ (font : List ℕ) (w : World) (s : Session) (line more : List ℕ) (g :
   -- ---- an item: what it draws is cut at width and length
 
   abbrev here : Setting
-  here = setting font (w .store) (w .links) (w .directory) (w .values) (s .counters) (s .width) (s .length)
+  here = setting font (w .store) (w .links) (w .directory) (w .values) (s .counters) (s .clock) (s .width) (s .length)
 
-  drawn-length : (it : Item) → length (drawsItem here nothing (s .x) (s .y) line it (w .background)) ≡ length (w .background)
-  drawn-length it = length-item here nothing (s .x) (s .y) line it (w .background)
+  drawn-length : (it : Item) → length (drawsItem here (outsideForms (s .formats)) (s .x) (s .y) line it (w .background)) ≡ length (w .background)
+  drawn-length it = length-item here (outsideForms (s .formats)) (s .x) (s .y) line it (w .background)
 
-  drawn-white : (it : Item) → backgroundOk (s .width) (s .length) (drawsItem here nothing (s .x) (s .y) line it (w .background)) ≡ true
+  drawn-white : (it : Item) → backgroundOk (s .width) (s .length) (drawsItem here (outsideForms (s .formats)) (s .x) (s .y) line it (w .background)) ≡ true
   unfolding backgroundOk
-  drawn-white it = white-item here nothing (s .x) (s .y) line it (w .background) (g .background)
+  drawn-white it = white-item here (outsideForms (s .formats)) (s .x) (s .y) line it (w .background) (g .background)
 
   drawn-good : (it : Item) → Good s (drawnOn font line s w it)
-  drawn-good it = background-good s s w _ g refl (drawn-length it) (numbers-facts (rowsOf w) s (g .numbers)) (drawn-white it) (g .activity)
+  drawn-good it = background-good s s w _ g (g .times) refl (drawn-length it) (numbers-facts (rowsOf w) s (g .numbers)) (drawn-white it) (g .activity)
 
-  item-good : (it : Item) → itemRanged it → Good (basedBy s it) (drawnOn font line s w it)
+  item-good : (it : Item) → readOf (rowsOf w) line ≡ Reads (item it) → itemRanged it → Good (basedBy s it) (drawnOn font line s w it)
   unfolding activitySound
-  item-good (Origin o) r =
+  item-good (Origin o) e r =
       let n = numbers-facts (rowsOf w) s (g .numbers) in
-      background-good s (based s (sixteenBits (o .x)) (sixteenBits (o .y))) w _ g refl (drawn-length (Origin o)) (record {
+      background-good s (based s (sixteenBits (o .x)) (sixteenBits (o .y))) w _ g (g .times) refl (drawn-length (Origin o)) (record {
         wide-least = n .wide-least;
         wide-most = n .wide-most;
         long-least = n .long-least;
@@ -144,15 +149,28 @@ module _ (font : List ℕ) (w : World) (s : Session) (line more : List ℕ) (g :
         x = omega (arith, r .0 .1);
         y = omega (arith, r .1 .1);
       }) (drawn-white (Origin o)) (g .activity)
-  item-good (Variable v) r = drawn-good (Variable v)
-  item-good (Counter c) r = drawn-good (Counter c)
-  item-good (Text t) r = drawn-good (Text t)
-  item-good (Bars b) r = drawn-good (Bars b)
-  item-good (Box b) r = drawn-good (Box b)
-  item-good (Frame f) r = drawn-good (Frame f)
-  item-good (Slant l) r = drawn-good (Slant l)
-  item-good (Picture p) r = drawn-good (Picture p)
+  item-good (Variable v) e r = drawn-good (Variable v)
+  item-good (Counter c) e r = drawn-good (Counter c)
+  item-good (Text t) e r = drawn-good (Text t)
+  item-good (Bars b) e r = drawn-good (Bars b)
+  item-good (Box b) e r = drawn-good (Box b)
+  item-good (Frame f) e r = drawn-good (Frame f)
+  item-good (Slant l) e r = drawn-good (Slant l)
+  item-good (Picture p) e r = drawn-good (Picture p)
+  item-good (Format f) e r =
+      let n = numbers-facts (rowsOf w) s (g .numbers) in
+      background-good s (formatted s (withFormat (s .formats) (f .stamp) (f .format))) w _ g (times-with (s .clock) (s .formats) (f .stamp) (f .format) (g .times) (format-legal (rowsOf w) line f e)) refl
+      (drawn-length (Format f))
+      (record {
+        wide-least = n .wide-least;
+        wide-most = n .wide-most;
+        long-least = n .long-least;
+        long-most = n .long-most;
+        turn = n .turn;
+        x = n .x;
+        y = n .y;
+      }) (drawn-white (Format f)) (g .activity)
 
   pub keeps-item : (it : Item) → readOf (rowsOf w) line ≡ Reads (item it)
       → Good (runs font w s line more (item it) .session) (runs font w s line more (item it) .world)
-  keeps-item it e = item-good it (read-ranges (rowsOf w) line (item it) e)
+  keeps-item it e = item-good it e (read-ranges (rowsOf w) line (item it) e)

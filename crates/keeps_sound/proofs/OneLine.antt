@@ -3,9 +3,10 @@
 use mathlib.Core.Path.{_≡_, refl, sym, ap, _∙_, subst}
 use mathlib.Core.Bool.{Bool, true, false, not, cond, _&&_, false≢true}
 use mathlib.Core.List.{List, [], _∷_, _++_}
-use Prim.Native.Nat.{ℕ, _+_, _-_, _<_}
+use Prim.Native.Nat.{ℕ, zero, suc, _+_, _-_, _<_}
 use native.Mathlib.Omega.{arith}
 use native.Mathlib.Decide.{decLt}
+use lib.ListN.{length, drop}
 use lib.Dec.{T, eqb, ltb}
 use borrow.Author.Tests.{lt-ltb, le-ltb, eq-eqb}
 use Rattle.kinds.specs.Bytes.{between}
@@ -31,10 +32,14 @@ use Rattle.writing.specs.Writing.{decimal, signed, kept, cased}
 use Rattle.normal.specs.Written.{partWritten, whatWritten, elementWritten, dataWritten, wordWritten, writtenField, writtenFrom, normal}
 use Rattle.writing.proofs.Writes.{cased-kept}
 use Rattle.normal.proofs.Back.{allIn, T-true, digits-class, number-fits, signed-fits, letter-fits, text-fits, cased-quoted, cased-quotes}
-use Rattle.normal.proofs.Data.{PartFits, Fits, a-text as is-text, a-variable as is-variable, a-counter as is-counter, Chain, ended, then, chain-of}
-use Rattle.normal.proofs.Fields.{Letter, a-number, a-wide, a-step, a-prompt, a-text, a-name, a-star, a-mode, a-side, a-type, a-word, some-data, itself, letter-of, TypeFits, one, two, three, ean, type-fits, Word, nothing, left, centre, right, word-fits, plain-written}
+use Rattle.normal.proofs.Data.{PartFits, Fits, a-text as is-text, a-variable as is-variable, a-counter as is-counter, a-stamp as is-stamp, Chain, ended, then, chain-of}
+use Rattle.normal.proofs.Fields.{Letter, a-number, a-wide, a-day, a-step, a-prompt, a-text, a-name, a-star, a-mode, a-side, a-type, a-word, some-data, a-date, a-time, itself, letter-of, TypeFits, one, two, three, ean, type-fits, Word, nothing, left, centre, right, word-fits, plain-written}
+use Rattle.formats.specs.declared.Stamp.{Stamp}
+use Rattle.formats.specs.declared.Stamp.the-variants.{Date, Time}
+use Rattle.format_field.specs.Reading.{formatField}
 use Rattle.normal.proofs.Round.{every-row, item-parted, normal-is}
 use Rattle.forms.proofs.Growing.{Inside}
+use Rattle.keeps_sound.proofs.Unbroken.{Unbroken, format-unbroken}
 
 pub inside-append : (a b : List ℕ) → Inside a → Inside b → Inside (a ++ b)
 inside-append [] b h k = k
@@ -101,11 +106,24 @@ inside-element s at e (is-variable k p n h f) =
     ((λ e. omega arith), inside-append (decimal k) (partWritten p) (inside-decimal k (omega arith)) (inside-part p f))
 inside-element s at e (is-counter k p n h f) =
     ((λ e. omega arith), inside-append (decimal k) (partWritten p) (inside-decimal k (omega arith)) (inside-part p f))
+inside-element s at e (is-stamp Date) = ((λ e. omega arith), ((λ e. omega arith), tt))
+inside-element s at e (is-stamp Time) = ((λ e. omega arith), ((λ e. omega arith), tt))
 
 inside-data : {s : List ℕ} {at : ℕ} {es : List Element} → Chain s at es → Inside (dataWritten s es)
 unfolding dataWritten
 inside-data (ended h) = tt
 inside-data {s} {at} (then {e = e} {es = es} f c) = inside-append (elementWritten s e) (dataWritten s es) (inside-element s at e f) (inside-data c)
+
+-- ---- formats
+
+inside-rest : (s : List ℕ) (at : ℕ) → Unbroken s at (length s) → Inside (drop at s)
+inside-rest [] zero h = tt
+inside-rest [] (suc at) h = tt
+inside-rest (b ∷ l) zero h = (h 0 (omega arith) (omega arith), inside-rest l zero (λ i k m. h (suc i) (omega arith) (omega arith)))
+inside-rest (b ∷ l) (suc at) h = inside-rest l at (λ i k m. h (suc i) (omega arith) (omega arith))
+
+inside-format : (st : Stamp) (s : List ℕ) (at v e : ℕ) → formatField st s at ≡ Is v e → Inside (cased false (drop at s))
+inside-format st s at v e h = rw (cased-kept (drop at s)) (inside-rest s at (format-unbroken st s at v e h))
 
 -- ---- the fields of a form
 
@@ -113,6 +131,7 @@ inside-field : {f : ℕ} (x : Letter f) (s : List ℕ) (at v e : ℕ) → (f ≡
 unfolding fieldAt writtenField between
 inside-field a-number s at v e n h = inside-decimal v (number-fits s at v e h)
 inside-field a-wide s at v e n h = inside-decimal v (number-fits s at v e h)
+inside-field a-day s at v e n h = inside-decimal v (number-fits s at v e h)
 inside-field a-step s at v e n h = let q = signed-fits s at v e h in inside-signed v (q .0) (q .1)
 inside-field a-prompt s at v e n h = inside-text false s at v e h
 inside-field a-text s at v e n h = inside-text false s at v e h
@@ -123,6 +142,8 @@ inside-field a-side s at v e n h = inside-letter Side refl s at v (letter-fits S
 inside-field a-type s at v e n h = inside-type s at v (type-fits s at v e h)
 inside-field a-word s at v e n h = inside-word v (word-fits s at v e h .letter)
 inside-field some-data s at v e n h = inside-data (chain-of s at v e h)
+inside-field a-date s at v e n h = inside-format Date s at v e h
+inside-field a-time s at v e n h = inside-format Time s at v e h
 inside-field (itself p) s at v e n h = rw (plain-written p s v at) (n, tt)
 
 -- no form has an LF

@@ -34,6 +34,7 @@ use Rattle.keeps_sound.specs.Good.{Good}
 use Rattle.keeps_sound.specs.Tens.{Tens}
 use Rattle.keeps_sound.proofs.Layers.{good-sound}
 use Rattle.keeps_sound.proofs.Facts.{lent-facts, facts-numbers}
+use Rattle.sound.proofs.Times.{fresh-times}
 use Rattle.keeps_sound.proofs.Stored.{facts-activity}
 
 -- ---- cleared lists
@@ -94,6 +95,7 @@ fresh-good w e =
         x = omega arith;
         y = omega arith;
       });
+      times = fresh-times;
       background = white-zeros 608 (rowsOf w) (length (w .background));
       store = cleared-sound (w .store) (w .links) (w .directory) (f .memory);
       free = sym (all-free (length (w .links)));

@@ -31,7 +31,7 @@ use Rattle.declarations.specs.declared.Declared.{Declared}
 use Rattle.read.specs.Commands.{readOf}
 use Rattle.grammar.specs.declared.Item.{Item}
 use Rattle.grammar.specs.declared.Command.{Command}
-use Rattle.grammar.specs.declared.Command.the-variants.{Item as item, End, Page, Forms, Pictures, Values, Listing}
+use Rattle.grammar.specs.declared.Command.the-variants.{Item as item, End, Page, Forms, Pictures, Values, Listing, Clock}
 use Rattle.read.specs.declared.Read.the-variants.{Taken as Reads}
 use Rattle.normal.specs.Written.{normal, takenItem, isNormal}
 use Rattle.writing.specs.Writing.{equal}
@@ -205,3 +205,4 @@ module _ (s : Session) (w : World) (g : Good s w) (i : ℕ) (e : recorded (w .di
   keeps-records line (Pictures c) r h a = g
   keeps-records line (Values c) r h a = g
   keeps-records line (Listing c) r h a = g
+  keeps-records line (Clock c) r h a = g

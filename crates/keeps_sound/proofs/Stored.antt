@@ -241,6 +241,7 @@ module _ (s : Session) (w : World) (g : Good s w) (z : s .owed ≡ 0) where
     lengths = lengths-stay (length (w .background)) (length (w .values)) (w .store) (w .links) (w .directory) (m′ .store) (m′ .links) (m′ .directory)
         (g .lengths) (sound-facts (m′ .store) (m′ .links) (m′ .directory) h .lent) e;
     numbers = g .numbers;
+    times = g .times;
     background = g .background;
     store = h;
     free = f;
@@ -266,6 +267,7 @@ module _ (s : Session) (w : World) (g : Good s w) (z : s .owed ≡ 0) where
         lengths = rw l (lengths-stay (length (w .background)) (length (w .values)) (w .store) (w .links) (w .directory) (m′ .store) (m′ .links) (m′ .directory)
             (g .lengths) (sound-facts (m′ .store) (m′ .links) (m′ .directory) h .lent) e);
         numbers = g .numbers;
+        times = g .times;
         background = g .background;
         store = h;
         free = f;

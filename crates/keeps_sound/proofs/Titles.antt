@@ -37,7 +37,7 @@ use Rattle.read.specs.declared.Read.the-variants.{Taken as Reads}
 use Rattle.grammar.specs.declared.Named.{Named}
 use Rattle.grammar.specs.declared.StorePicture.{StorePicture}
 use Rattle.grammar.specs.declared.Command.{Command}
-use Rattle.grammar.specs.declared.Command.the-variants.{Item as item, End, Page, Forms, Pictures, Values, Listing}
+use Rattle.grammar.specs.declared.Command.the-variants.{Item as item, End, Page, Forms, Pictures, Values, Listing, Clock}
 use Rattle.grammar.specs.declared.FormCommand.the-variants.{Start, Retrieve, Erase as EraseForm}
 use Rattle.grammar.specs.declared.PictureCommand.the-variants.{Store, Erase as ErasePicture}
 use Rattle.ground.proofs.Tests.{same?, and-both, either}
@@ -194,9 +194,9 @@ pub record Name (s : List ℕ) (p n : ℕ) : Type 0 where
   pub few : n ≤ 8
   pub bytes : runAt NameByte s (p + 1) ≡ n
 
-name-field : (s : List ℕ) (u v p : ℕ) → fieldLimits 97 (1, 8) s u v p ≡ Within → Name s p v
+name-field : (s : List ℕ) (u v p n : ℕ) → fieldLimits 97 (1, 8) s u v p n ≡ Within → Name s p v
 unfolding fieldLimits meets between
-name-field s u v p h = go (leb 1 v) (leb v 8) (named s p v) refl refl refl h
+name-field s u v p n h = go (leb 1 v) (leb v 8) (named s p v) refl refl refl h
   where
     go : (a b c : Bool) → leb 1 v ≡ a → leb v 8 ≡ b → named s p v ≡ c → cond ((a && b) && c) Within (Outside p) ≡ Within → Name s p v
     go true true true x y z k = record { some = leb-true 1 v x; few = leb-true v 8 y; bytes = eqb-true (runAt NameByte s (p + 1)) v z }
@@ -208,16 +208,16 @@ pub limits-rest : (f : ℕ) (fs : List ℕ) (ls : List (ℕ × ℕ)) (s : List �
     → limitsFrom fs (drop 1 ls) s (cond (isNumber f) (getD vs 0 0) u) (drop 1 vs) (drop 1 ps) ≡ Within
 unfolding limitsFrom
 limits-rest f fs ls s u vs ps h =
-    first-within (fieldLimits f (getD ls 0 free) s u (getD vs 0 0) (getD ps 0 0))
+    first-within (fieldLimits f (getD ls 0 free) s u (getD vs 0 0) (getD ps 0 0) (getD vs 2 0))
     (limitsFrom fs (drop 1 ls) s (cond (isNumber f) (getD vs 0 0) u) (drop 1 vs) (drop 1 ps)) h .1
 
 limits-name : (fs : List ℕ) (ls : List (ℕ × ℕ)) (s : List ℕ) (u : ℕ) (vs ps : List ℕ) → getD ls 0 free ≡ (1, 8) → limitsFrom (97 ∷ fs) ls s u vs ps ≡ Within
     → Name s (getD ps 0 0) (getD vs 0 0)
 unfolding limitsFrom
 limits-name fs ls s u vs ps e h =
-    name-field s u (getD vs 0 0) (getD ps 0 0)
-    (ap (λ (l : ℕ × ℕ). fieldLimits 97 l s u (getD vs 0 0) (getD ps 0 0)) (sym e)
-    ∙ first-within (fieldLimits 97 (getD ls 0 free) s u (getD vs 0 0) (getD ps 0 0))
+    name-field s u (getD vs 0 0) (getD ps 0 0) (getD vs 2 0)
+    (ap (λ (l : ℕ × ℕ). fieldLimits 97 l s u (getD vs 0 0) (getD ps 0 0) (getD vs 2 0)) (sym e)
+    ∙ first-within (fieldLimits 97 (getD ls 0 free) s u (getD vs 0 0) (getD ps 0 0) (getD vs 2 0))
     (limitsFrom fs (drop 1 ls) s (cond (isNumber 97) (getD vs 0 0) u) (drop 1 vs) (drop 1 ps)) h .0)
 
 third-name : (f g : ℕ) (fs : List ℕ) (ls : List (ℕ × ℕ)) (s : List ℕ) (u : ℕ) (vs ps : List ℕ) → getD (drop 1 (drop 1 ls)) 0 free ≡ (1, 8)
@@ -240,6 +240,7 @@ Titled rows s (Pictures (Store x)) = Name s (x .at) (x .length)
 Titled rows s (Pictures (ErasePicture n)) = Unit {0}
 Titled rows s (Values c) = Unit {0}
 Titled rows s (Listing c) = Unit {0}
+Titled rows s (Clock c) = Unit {0}
 
 titles : Each (Told Titled) forms
 unfolding spread inOrder
@@ -265,6 +266,9 @@ titles =
     & (λ rows s vs ps h. tt)
     & (λ rows s vs ps h. tt)
     & (λ rows s vs ps h. third-name 71 77 (44 ∷ (110 ∷ [])) (boundsOf GM rows) s 0 vs ps refl h)
+    & (λ rows s vs ps h. tt)
+    & (λ rows s vs ps h. tt)
+    & (λ rows s vs ps h. tt)
     & (λ rows s vs ps h. tt)
     & (λ rows s vs ps h. tt)
     & (λ rows s vs ps h. tt)

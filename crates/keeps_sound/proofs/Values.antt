@@ -40,7 +40,7 @@ use Rattle.read.specs.declared.Read.the-variants.{Taken as Reads}
 use Rattle.read.specs.Commands.{readOf}
 use Rattle.parts.specs.Names.{packedOf}
 use Rattle.forms.specs.Form.{picturesStored}
-use Rattle.sound.specs.Sound.{numbersOk}
+use Rattle.sound.specs.Sound.{timesOk, numbersOk}
 use Rattle.activity_check.specs.Activity.{activeOk, owedOk}
 use Rattle.session.specs.declared.Session.{Session}
 use Rattle.answers.specs.declared.Answer.the-variants.{Taken, Misplaced, Missing, Unset, RunsOut}
@@ -119,10 +119,11 @@ module _ (directory name : List ℕ) (long : length directory ≤ 8192) (quiet :
 module _ (font : List ℕ) (w : World) (s : Session) (line more : List ℕ) (g : Good s w) where
   -- another session and other values
   values-good : (s′ : Session) (v : List ℕ) → length v ≡ length (w .values) → numbersOk (rowsOf w) s′ ≡ true
-      → s′ .width ≡ s .width → s′ .length ≡ s .length → s′ .free ≡ s .free → Active s′ (w .directory) (activeOf w s′) v → Good s′ (withValues w v)
-  values-good s′ v e n p q f a = record {
+      → timesOk (s′ .clock) (s′ .formats) ≡ true → s′ .width ≡ s .width → s′ .length ≡ s .length → s′ .free ≡ s .free → Active s′ (w .directory) (activeOf w s′) v → Good s′ (withValues w v)
+  values-good s′ v e n t p q f a = record {
     lengths = rw e (g .lengths);
     numbers = n;
+    times = t;
     background = rw (p, q) (g .background);
     store = g .store;
     free = f ∙ g .free;
@@ -139,7 +140,7 @@ module _ (font : List ℕ) (w : World) (s : Session) (line more : List ℕ) (g :
   unfolding numbersOk
   keeps-retrieve n quiet none =
       let s′ = activated s (placeOf (named w false line n)) in
-      values-good s′ (unset (w .values)) (length-unset (w .values)) (g .numbers) refl refl refl (record {
+      values-good s′ (unset (w .values)) (length-unset (w .values)) (g .numbers) (g .times) refl refl refl (record {
         form = found-form (w .directory) (packedOf line (n .at) (n .length)) (directory-long w (g .lengths)) quiet;
         fit = unset-blank (activeDeclared w s′) (w .values);
         counts = was .counts;
@@ -152,7 +153,7 @@ module _ (font : List ℕ) (w : World) (s : Session) (line more : List ℕ) (g :
   keeps-variable v none =
       let d = activeDeclared w s in
       let text = textOf line (v .at) (v .length) in
-      values-good s _ (length-entered d (v .n) text (w .values)) (g .numbers) refl refl refl (record {
+      values-good s _ (length-entered d (v .n) text (w .values)) (g .numbers) (g .times) refl refl refl (record {
         form = was .form;
         fit = sound-entered d (w .values) (s .counters) (v .n) text (was .fit) (lent-facts w (g .lengths) .values);
         counts = was .counts;
@@ -166,7 +167,7 @@ module _ (font : List ℕ) (w : World) (s : Session) (line more : List ℕ) (g :
   keeps-counter c none t =
       let d = activeDeclared w s in
       let c′ = counterEntered d (s .counters) (c .n) (c .value) .counters in
-      values-good (counting s c′) (w .values) refl (g .numbers) refl refl refl (record {
+      values-good (counting s c′) (w .values) refl (g .numbers) (g .times) refl refl refl (record {
         form = was .form;
         fit = sound-counted d (w .values) (s .counters) (was .fit) (t .values) (c .n) (c .value) (t .flags);
         counts = was .counts;
@@ -176,7 +177,7 @@ module _ (font : List ℕ) (w : World) (s : Session) (line more : List ℕ) (g :
   -- VC
   pub keeps-clear : s .owed ≡ 0 → Good (runs font w s line more (Values Clear) .session) (runs font w s line more (Values Clear) .world)
   keeps-clear none =
-      values-good s (unset (w .values)) (length-unset (w .values)) (g .numbers) refl refl refl (record {
+      values-good s (unset (w .values)) (length-unset (w .values)) (g .numbers) (g .times) refl refl refl (record {
         form = was .form;
         fit = sound-unset (activeDeclared w s) (w .values) (s .counters) (was .fit);
         counts = was .counts;
@@ -203,7 +204,7 @@ module _ (font : List ℕ) (w : World) (s : Session) (line more : List ℕ) (g :
       → Good (runs font w s line more (Values (Print p)) .session) (runs font w s line more (Values (Print p)) .world)
   unfolding numbersOk
   keeps-print room p quiet reads e =
-      values-good (owing s (sixteenBits (p .k))) (w .values) refl (g .numbers) refl refl refl (record {
+      values-good (owing s (sixteenBits (p .k))) (w .values) refl (g .numbers) (g .times) refl refl refl (record {
         form = was .form;
         fit = was .fit;
         counts = le-leb (sixteenBits (p .k) + 0) 65535 (omega arith);
@@ -226,6 +227,6 @@ pub keeps-white :
     Good (runs font w s line more (Page White) .session) (runs font w s line more (Page White) .world)
 keeps-white font w s line more g none =
     let white =
-    background-good s s w (zeros (length (w .background))) g refl (length-zeros (length (w .background))) (numbers-facts (rowsOf w) s (g .numbers))
+    background-good s s w (zeros (length (w .background))) g (g .times) refl (length-zeros (length (w .background))) (numbers-facts (rowsOf w) s (g .numbers))
     (white-zeros (s .width) (s .length) (length (w .background))) (g .activity) in
     good-ended s (whitened w) white none (s .free) (memoryOf w) (g .store) (g .free) refl (g .contents)

@@ -5,7 +5,7 @@ use mathlib.Core.Path.{_≡_}
 use mathlib.Core.Bool.{true, false}
 use Rattle.store.specs.Chain.{freeCount}
 use Rattle.store_sound.specs.Sound.{storeSound}
-use Rattle.sound.specs.Sound.{numbersOk, backgroundOk, activeBytes}
+use Rattle.sound.specs.Sound.{numbersOk, timesOk, backgroundOk, activeBytes}
 use Rattle.content_check.specs.Contents.{contentsOk}
 use Rattle.activity_check.specs.Activity.{activitySound}
 use Rattle.session.specs.declared.Session.{Session}
@@ -14,6 +14,7 @@ use Rattle.lent.specs.Lent.{World, rowsOf, wrongLent}
 pub record Good (s : Session) (w : World) : Type 0 where
   pub lengths : wrongLent w ≡ false
   pub numbers : numbersOk (rowsOf w) s ≡ true
+  pub times : timesOk (s .clock) (s .formats) ≡ true
   pub background : backgroundOk (s .width) (s .length) (w .background) ≡ true
   pub store : storeSound (w .store) (w .links) (w .directory) ≡ true
   pub free : s .free ≡ freeCount (w .links)

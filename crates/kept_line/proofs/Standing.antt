@@ -8,7 +8,7 @@ use lib.Dec.{leb}
 use borrow.Author.Tests.{lt-leb}
 use Rattle.heads.specs.Heads.{headOf, headBy, find}
 use Rattle.read.specs.Commands.{readOf, headed}
-use Rattle.grammar.specs.declared.Command.the-variants.{Item as item, End, Page, Forms, Pictures, Values, Listing}
+use Rattle.grammar.specs.declared.Command.the-variants.{Item as item, End, Page, Forms, Pictures, Values, Listing, Clock}
 use Rattle.read.specs.declared.Fault.{Fault}
 use Rattle.read.specs.declared.Fault.the-variants.{Form as form}
 use Rattle.read.specs.declared.Read.{Read}
@@ -32,6 +32,7 @@ own-read b (Taken (Forms c)) = neither b
 own-read b (Taken (Pictures c)) = neither b
 own-read b (Taken (Values c)) = neither b
 own-read b (Taken (Listing c)) = neither b
+own-read b (Taken (Clock c)) = neither b
 own-read b (Refused f) = neither b
 
 standing : (l b : Bool) (r : Read) → cond (l && (takenItem r && b)) (heldRead r) Nothing ≡ cond (l && b) (heldRead r) Nothing

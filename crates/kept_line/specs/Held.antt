@@ -4,7 +4,7 @@ use Prim.Native.Nat.{ℕ}
 use mathlib.Core.Bool.{cond}
 use mathlib.Core.List.{List}
 use Rattle.grammar.specs.declared.Command.{Command}
-use Rattle.grammar.specs.declared.Command.the-variants.{Item as item, End, Page, Forms, Pictures, Values, Listing}
+use Rattle.grammar.specs.declared.Command.the-variants.{Item as item, End, Page, Forms, Pictures, Values, Listing, Clock}
 use Rattle.read.specs.declared.Read.{Read}
 use Rattle.read.specs.declared.Read.the-variants.{Taken, Refused}
 use Rattle.read.specs.Commands.{readOf}
@@ -12,7 +12,8 @@ use Rattle.normal.specs.Written.{isNormal}
 use Rattle.kept_line.specs.declared.Stored.{Stored}
 use Rattle.kept_line.specs.declared.Stored.the-variants.{Holds, Nothing}
 
--- "While recording only R, V, C, A, B, LO, LE, LW, X, GG and FE have a place", "LS may be recorded", and FE is not recorded
+-- "While recording only R, V, C, A, B, LO, LE, LW, X, GG and FE have a place", "LS may be recorded", "TD and TT may be recorded", "TS has no place while recording",
+-- and FE is not recorded
 abbrev pub heldCommand : Command → Stored
 heldCommand (item it) = Holds it
 heldCommand End = Nothing
@@ -21,6 +22,7 @@ heldCommand (Forms c) = Nothing
 heldCommand (Pictures c) = Nothing
 heldCommand (Values c) = Nothing
 heldCommand (Listing c) = Nothing
+heldCommand (Clock c) = Nothing
 
 -- what is refused is not recorded
 abbrev pub heldRead : Read → Stored

@@ -36,6 +36,7 @@ fn held_command(c: Command) -> Stored
         Command::Pictures(_) => Stored::Nothing,
         Command::Values(_) => Stored::Nothing,
         Command::Listing(_) => Stored::Nothing,
+        Command::Clock(_) => Stored::Nothing,
     }
 }
 

@@ -9,9 +9,9 @@ use Rattle.writing.specs.Writing.{equal}
 use Rattle.low_first.specs.Low.{numberAt}
 use Rattle.lasting.specs.declared.judged.Verdict.{Verdict}
 use Rattle.lasting.specs.declared.judged.Verdict.the-variants.{Foreign, Version, Sizes, Length, Damaged, Slots, Good}
-use Rattle.lasting.specs.File.{name, versionAt, rowsOf, fileSize, fileSum, sizesWrong, chosen, judged}
+use Rattle.lasting.specs.File.{name, rowsOf, fileSize, fileSum, versionWrong, sizesWrong, chosen, judged}
 use Rattle.file_parts.specs.Sums.{partOf}
-use Rattle.slots.specs.Slots.{slotOf, bodySumAt, whole}
+use Rattle.slots.specs.Slots.{versionAt, slotOf, bodySumAt, whole}
 
 module _ (f : List ℕ) (a b t e : Bool) (x y : ℕ) (ha : a ≡ whole f (slotOf 0)) (hb : b ≡ whole f (slotOf 1)) (hx : x ≡ numberAt 4 f (slotOf 0)) (hy : y ≡ numberAt 4 f (slotOf 1))
     (he : e ≡ (not a || ltb x y)) (ht : t ≡ (b && e)) where
@@ -29,7 +29,7 @@ module _ (f : List ℕ) (a b t e : Bool) (x y : ℕ) (ha : a ≡ whole f (slotOf
   chosen-none h k = rw chosen-by (rw (h, k))
 
 module _ (f : List ℕ) (a b c d e : Bool) (v : Verdict) where
-  pub judged-by : a ≡ not (equal (partOf f 0 versionAt) name) → b ≡ not (eqb (numberAt 2 f versionAt) 1) → c ≡ sizesWrong f
+  pub judged-by : a ≡ not (equal (partOf f 0 versionAt) name) → b ≡ versionWrong f → c ≡ sizesWrong f
       → d ≡ not (eqb (length f) (fileSize (rowsOf f))) → e ≡ not (eqb (fileSum f) (numberAt 4 f bodySumAt)) → v ≡ chosen f
       → cond a Foreign (cond b Version (cond c Sizes (cond d Length (cond e Damaged v)))) ≡ judged f
   unfolding judged

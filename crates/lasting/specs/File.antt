@@ -1,12 +1,13 @@
 -- The file of a store that lasts, byte by byte; every number low byte first. Assumes nothing.
 --
---     0      "Skeinferry store", then two bytes each: version 1, rows, portions 2,024, entries 512; from 24 on the sum of these bytes and the body
---     4096   slot 0        each: order, pictures so far, the front of the session's image, the values, and the sum of all these (crate `slots`)
+--     0      "Skeinferry store", then two bytes each: version 2, rows, portions 2,024, entries 512; from 24 on the sum of these bytes and the body
+--     4096   slot 0        each: order, pictures so far, the session's image, the values, and the sum of all these (crate `slots`)
 --     8192   slot 1
 --     12288  the body: directory, links (from 20480 on), store (from 24528 on), background (from 542672 on)
 --
 -- Between head, slots and body stand bytes that nobody reads. The whole slot of the greater order holds. The session's number of free portions
--- (paper 02, §6) is not in the file: it is that of the links marked free.
+-- (paper 02, §6) is not read: it is that of the links marked free. A file of version 1 was made before there was a clock (§10) and is still read: its slots have the
+-- front of the image alone.
 use Prim.Native.Nat.{ℕ, zero, suc, _+_, _-_, _*_, _/_, _%_}
 use mathlib.Core.Bool.{Bool, not, _&&_, _||_, cond}
 use mathlib.Core.List.{List, [], _∷_, _++_}
@@ -21,7 +22,7 @@ use Rattle.dots.specs.Dots.{bytesARow}
 use Rattle.store.specs.Chain.{mostPortions, bytesAPortion}
 use Rattle.store.specs.Entry.{mostEntries, bytesAnEntry}
 use Rattle.lent.specs.Lent.{mostRows}
-use Rattle.slots.specs.Slots.{pageBytes, slotOf, bodySumAt, whole}
+use Rattle.slots.specs.Slots.{pageBytes, slotOf, versionAt, isFirst, bodySumAt, whole}
 use Rattle.lasting.specs.declared.judged.Verdict.{Verdict}
 use Rattle.lasting.specs.declared.judged.Verdict.the-variants.{Foreign, Version, Sizes, Length, Damaged, Slots, Good}
 
@@ -43,8 +44,9 @@ linksFrom (suc n) file at = numberAt 2 file at ∷ linksFrom n file (2 + at)
 abbrev pub name : List ℕ
 name = bytes "Skeinferry store"
 
-abbrev pub versionAt : ℕ
-versionAt = 16
+-- the version that is written
+abbrev pub version : ℕ
+version = 2
 
 abbrev pub rowsAt : ℕ
 rowsAt = 18
@@ -86,7 +88,7 @@ unfoldable pub fileSum : List ℕ → ℕ
 fileSum file = sumOn (sumOn 1 (partOf file 0 bodySumAt)) (partOf file bodyAt (backgroundAt - bodyAt + bytesARow * rowsOf file))
 
 abbrev pub headed : List ℕ → ℕ → List ℕ
-headed file rows = sets (sets (sets (sets (sets file 0 name) versionAt (bytesOf 2 1)) rowsAt (bytesOf 2 rows)) portionsAt (bytesOf 2 mostPortions)) entriesAt (bytesOf 2 mostEntries)
+headed file rows = sets (sets (sets (sets (sets file 0 name) versionAt (bytesOf 2 version)) rowsAt (bytesOf 2 rows)) portionsAt (bytesOf 2 mostPortions)) entriesAt (bytesOf 2 mostEntries)
 
 abbrev pub rowsIn : List ℕ → ℕ
 rowsIn background = length background / bytesARow % 65536
@@ -100,6 +102,10 @@ sealed file = sets file bodySumAt (bytesOf 4 (fileSum file))
 
 -- ---- any bytes judged
 
+-- neither the first version nor the one that is written
+abbrev pub versionWrong : List ℕ → Bool
+versionWrong file = not (isFirst file) && not (eqb (numberAt 2 file versionAt) version)
+
 abbrev pub sizesWrong : List ℕ → Bool
 sizesWrong file =
     eqb (rowsOf file) 0 || (ltb mostRows (rowsOf file) || (not (eqb (numberAt 2 file portionsAt) mostPortions) || not (eqb (numberAt 2 file entriesAt) mostEntries)))
@@ -112,7 +118,7 @@ chosen file =
 unfoldable pub judged : List ℕ → Verdict
 judged file =
     cond (not (equal (partOf file 0 versionAt) name)) Foreign
-    (cond (not (eqb (numberAt 2 file versionAt) 1)) Version
+    (cond (versionWrong file) Version
     (cond (sizesWrong file) Sizes
     (cond (not (eqb (length file) (fileSize (rowsOf file)))) Length
     (cond (not (eqb (fileSum file) (numberAt 4 file bodySumAt))) Damaged

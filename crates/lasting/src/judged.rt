@@ -1,14 +1,14 @@
 // Any bytes judged.
 ghost use mathlib.Core.Path.{_≡_};
 ghost use Prim.Native.Nat.{_<_};
-ghost use Rattle.lasting.specs.File.{rowsOf, fileSum, sizesWrong, chosen, judged};
+ghost use Rattle.lasting.specs.File.{rowsOf, fileSum, versionWrong, sizesWrong, chosen, judged};
 use crate::BACKGROUND_AT;
 use crate::BODY_AT;
 use crate::ENTRIES_AT;
 use crate::MOST_ROWS;
 use crate::PORTIONS_AT;
 use crate::ROWS_AT;
-use crate::VERSION_AT;
+use crate::VERSION;
 use dots::BYTES_A_ROW;
 use file_parts::four_at;
 use file_parts::part;
@@ -17,6 +17,8 @@ use file_parts::two_at;
 use ground::both;
 use ground::either;
 use slots::BODY_SUM_AT;
+use slots::VERSION_AT;
+use slots::is_first;
 use slots::is_whole;
 use slots::order_of;
 use store::MOST_ENTRIES;
@@ -39,6 +41,13 @@ pub fn rows(file: &[u8]) -> usize
     ensures { λ r. ⌜ (r ≡ rowsOf (now (file .entry))) × (r < 65536) ⌝ }
 {
     two_at(file, ROWS_AT) as usize
+}
+
+fn version_wrong(file: &[u8]) -> bool
+    ensures { λ r. ⌜ r ≡ versionWrong (now (file .entry)) ⌝ }
+{
+    let version = two_at(file, VERSION_AT);
+    both(!is_first(file), version != VERSION)
 }
 
 fn sizes_wrong(file: &[u8]) -> bool
@@ -91,7 +100,7 @@ pub fn judge(file: &[u8]) -> Verdict
     if !writing::same(part(file, 0, VERSION_AT), b"Skeinferry store") {
         return Verdict::Foreign;
     }
-    if two_at(file, VERSION_AT) != 1 {
+    if version_wrong(file) {
         return Verdict::Version;
     }
     if sizes_wrong(file) {

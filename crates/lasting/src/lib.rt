@@ -24,9 +24,10 @@ use store::MOST_PORTIONS;
 // The most rows that a page may have.
 pub const MOST_ROWS: usize = 4000;
 
-// The head, behind the bytes that name the file.
-const VERSION_AT: usize = 16;
+// The version that is written. Files of version 1, made before there was a clock, are still read.
+const VERSION: u16 = 2;
 
+// The head, behind the bytes that name the file and the version.
 const ROWS_AT: usize = 18;
 
 const PORTIONS_AT: usize = 20;

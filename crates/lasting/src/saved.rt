@@ -17,7 +17,7 @@ use crate::PORTIONS_AT;
 use crate::ROWS_AT;
 use crate::STORE_AT;
 use crate::STORE_BYTES;
-use crate::VERSION_AT;
+use crate::VERSION;
 use crate::judged::file_sum;
 use crate::links::put_links;
 use crate::links::take_links;
@@ -27,6 +27,7 @@ use file_parts::put_four;
 use file_parts::put_two;
 use ground::put;
 use slots::BODY_SUM_AT;
+use slots::VERSION_AT;
 use store::MOST_ENTRIES;
 use store::MOST_PORTIONS;
 
@@ -34,7 +35,7 @@ fn put_head(file: &mut [u8], rows: u16)
     ensures { λ _. ⌜ now (file .exit) ≡ headed (now (file .entry)) rows ⌝ }
 {
     put(file, 0, b"Skeinferry store");
-    put_two(file, VERSION_AT, 1);
+    put_two(file, VERSION_AT, VERSION);
     put_two(file, ROWS_AT, rows);
     put_two(file, PORTIONS_AT, MOST_PORTIONS as u16);
     put_two(file, ENTRIES_AT, MOST_ENTRIES as u16);

@@ -7,10 +7,10 @@ use Prim.Native.Char.{code}
 use native.Mathlib.Numerals.{add-one}
 use native.Mathlib.Omega.{arith}
 use native.Mathlib.Decide.{decLt}
-use lib.Dec.{T, ltb, eqb}
+use lib.Dec.{T, leb, ltb, eqb}
 use lib.ListN.{length, getD, take, drop, length-append, length-take, length-drop}
 use lib.Seq.{take-append-seam, drop-append-seam, getD-append-seam, getD-append-add, drop-append-add, drop-cons, take-suc, getD-drop}
-use borrow.Author.Tests.{lt-ltb, le-ltb, lt-leb, eq-eqb, eqb-true, ltb-true}
+use borrow.Author.Tests.{lt-ltb, le-ltb, lt-leb, eq-eqb, eqb-true, ltb-true, leb-true}
 use Rattle.kinds.specs.Bytes.{between}
 use Rattle.classes.specs.declared.Class.{Class}
 use Rattle.classes.specs.declared.Class.the-variants.{Digit, Quoted, Named}
@@ -22,6 +22,13 @@ use Rattle.fields.specs.Field.{textAt, textFault, letterAt, wordTo, byteAt}
 use Rattle.classes.proofs.Laws.{in-range, above-range, inside, and-T}
 use Rattle.numbers.proofs.Laws.{number-is, number-small, signed-found}
 use Rattle.fields.proofs.Laws.{text-is, word-comma, letter-found}
+use Rattle.formats.specs.declared.Format.{Format}
+use Rattle.formats.specs.declared.Stamp.{Stamp}
+use Rattle.formats.specs.Formats.{unit, newUnit}
+use Rattle.format_field.specs.declared.Spot.the-variants.{Letters, Fault}
+use Rattle.format_field.specs.declared.Found.the-variants.{Whole}
+use Rattle.format_field.specs.Reading.{width, fieldOf, cutAt, fieldAt, withFirst, formatAt, formatField}
+use Rattle.format_field.proofs.Laws.{format-read}
 use Rattle.parts.specs.Names.{capital}
 use Rattle.writing.specs.Writing.{digitByte, digits, decimal, signed, kept, cased}
 use Rattle.writing.proofs.Writes.{digits-room, digits-less, cased-append}
@@ -283,6 +290,26 @@ text-fits s at n e h = go (eqb (getD s at 0) (code "\"")) (eqb (getD s (at + 1 +
         }
     go true false p q r = absurd (let z : _≡_ {A = ℕ} 0 1 = cc in omega arith)
     go false b p q r = absurd (let z : _≡_ {A = ℕ} 0 1 = cc in omega arith)
+
+-- a format starts within the line, with the letters of a field
+pub record Formatted (st : Stamp) (s : List ℕ) (at : ℕ) : Type 0 where
+  pub within : at + width st ≤ length s
+  pub letters : newUnit 0 0 (unit st (fieldOf st (getD s at 0) (getD s (at + 1) 0))) ≡ true
+
+pub format-fits : (st : Stamp) (s : List ℕ) (at v e : ℕ) → formatField st s at ≡ Is v e → Formatted st s at
+unfolding formatAt fieldAt
+format-fits st s at v e h =
+    let r = format-read st s at v e h in
+    go (leb (at + width st) (length s)) (newUnit 0 0 (unit st (fieldOf st (getD s at 0) (getD s (at + 1) 0)))) refl refl (r .found) (r .reads)
+  where
+    go : (a b : Bool) → leb (at + width st) (length s) ≡ a → newUnit 0 0 (unit st (fieldOf st (getD s at 0) (getD s (at + 1) 0))) ≡ b
+        → (f : Format)
+        → withFirst st s (cond a (cond b (Letters (fieldOf st (getD s at 0) (getD s (at + 1) 0)) (at + width st)) (Fault at)) (Fault (cutAt s 0 0 at)))
+        ≡ Whole f
+        → Formatted st s at
+    go true true p q f k = record { within = leb-true (at + width st) (length s) p; letters = q }
+    go true false p q f k = absurd (let z : _≡_ {A = ℕ} 0 1 = cc in omega arith)
+    go false b p q f k = absurd (let z : _≡_ {A = ℕ} 0 1 = cc in omega arith)
 
 -- ---- capitals stay within the classes of a text and of a name
 

@@ -16,7 +16,9 @@ use Rattle.fields.specs.declared.Field.{Field}
 use Rattle.fields.specs.declared.Field.the-variants.{Is, Not}
 use Rattle.elements.specs.declared.Part.{Part}
 use Rattle.elements.specs.declared.Part.the-variants.{Whole, First, Last, Middle}
-use Rattle.elements.specs.declared.What.the-variants.{Text, Variable, Counter}
+use Rattle.elements.specs.declared.What.the-variants.{Text, Variable, Counter, Stamped}
+use Rattle.formats.specs.declared.Stamp.{Stamp}
+use Rattle.formats.specs.declared.Stamp.the-variants.{Date, Time}
 use Rattle.elements.specs.declared.Element.{Element}
 use Rattle.elements.specs.declared.Step.{Step}
 use Rattle.elements.specs.declared.Step.the-variants.{Next, Stop}
@@ -26,14 +28,14 @@ use Rattle.data_field.specs.declared.Limits.the-variants.{Within, Outside}
 use Rattle.classes.specs.Bytes.{inClass}
 use Rattle.numbers.specs.Number.{digitOf, numberAt, Small}
 use Rattle.fields.specs.Field.{textAt, byteAt, pointed}
-use Rattle.elements.specs.Elements.{first, last, middle, middle-dot, middle-n, modifierAt, quotedFrom, heldFrom, modified, heldAt, elementAt, after, elements}
+use Rattle.elements.specs.Elements.{first, last, middle, middle-dot, middle-n, modifierAt, quotedFrom, heldFrom, modified, heldAt, stampedFrom, stampedAt, elementAt, after, elements}
 use Rattle.data_field.specs.Data.{total, stopped, dataAt, whatGood, limits}
 use Rattle.classes.proofs.Laws.{in-range}
 use Rattle.numbers.proofs.Laws.{digit-small, number-small}
 use Rattle.elements.proofs.Steps.{element-past, elements-next, elements-stop, Took, element-took}
 use Rattle.data_field.proofs.Steps.{total-next}
 use Rattle.writing.specs.Writing.{digitByte, decimal, kept}
-use Rattle.normal.specs.Written.{partWritten, whatWritten, elementWritten, dataWritten}
+use Rattle.normal.specs.Written.{partWritten, stampWritten, whatWritten, elementWritten, dataWritten}
 use Rattle.normal.specs.Contents.{pieces}
 use Rattle.writing.proofs.Writes.{digits-last}
 use Rattle.normal.proofs.Back.{number-back, text-back, byte-back, text-fits, kept-back}
@@ -86,11 +88,12 @@ modifier-fits s at = go (eqb (getD s at 0) (code "L")) (eqb (getD s at 0) (code 
     go false false true = middle-fits s (at + 1) (numberAt s (at + 1)) (number-small s (at + 1))
     go false false false = tt
 
--- a quoted text, or the digit and the modifier of a variable or a counter
+-- a quoted text, the digit and the modifier of a variable or a counter, or the date or the time of day
 pub data Fits (s : List ℕ) (at : ℕ) : Element → Type 0 where
   a-text : (n e : ℕ) → textAt s at ≡ Is n e → Fits s at (record { what = Text; at = at; length = n + 2 })
   a-variable : (k : ℕ) (p : Part) (n : ℕ) → k < 10 → PartFits p → Fits s at (record { what = Variable k p; at = at; length = n })
   a-counter : (k : ℕ) (p : Part) (n : ℕ) → k < 10 → PartFits p → Fits s at (record { what = Counter k p; at = at; length = n })
+  a-stamp : (st : Stamp) → Fits s at (record { what = Stamped st; at = at; length = 2 })
 
 abbrev StepFits : List ℕ → ℕ → Step → Type 0
 StepFits s at (Next e) = Fits s at e
@@ -114,15 +117,26 @@ held-fits counter s at = go (between (code "0") (code "9") (getD s (at + 1) 0))
     go true = modified-fits counter (getD s (at + 1) 0) s at (modifierAt s (at + 2)) (modifier-fits s (at + 2))
     go false = tt
 
+stamped-fits : (s : List ℕ) (at : ℕ) → StepFits s at (stampedAt s at)
+unfolding stampedAt
+stamped-fits s at = go (eqb (getD s (at + 1) 0) (code "D")) (eqb (getD s (at + 1) 0) (code "T"))
+  where
+    go : (a b : Bool) → StepFits s at (cond a (stampedFrom at Date) (cond b (stampedFrom at Time) (Stop (pointed s at (at + 1)))))
+    go true b = a-stamp Date
+    go false true = a-stamp Time
+    go false false = tt
+
 step-fits : (s : List ℕ) (at : ℕ) → StepFits s at (elementAt s at)
 unfolding elementAt
-step-fits s at = go (eqb (getD s at 0) (code "\"")) (eqb (getD s at 0) (code "V")) (eqb (getD s at 0) (code "C"))
+step-fits s at = go (eqb (getD s at 0) (code "\"")) (eqb (getD s at 0) (code "V")) (eqb (getD s at 0) (code "C")) (eqb (getD s at 0) (code "T"))
   where
-    go : (a b c : Bool) → StepFits s at (cond a (quotedFrom at (textAt s at)) (cond b (heldAt false s at) (cond c (heldAt true s at) (Stop at))))
-    go true b c = quoted-fits s at (textAt s at) refl
-    go false true c = held-fits false s at
-    go false false true = held-fits true s at
-    go false false false = tt
+    go : (a b c d : Bool)
+        → StepFits s at (cond a (quotedFrom at (textAt s at)) (cond b (heldAt false s at) (cond c (heldAt true s at) (cond d (stampedAt s at) (Stop at)))))
+    go true b c d = quoted-fits s at (textAt s at) refl
+    go false true c d = held-fits false s at
+    go false false true d = held-fits true s at
+    go false false false true = stamped-fits s at
+    go false false false false = tt
 
 pub element-fits : (s : List ℕ) (at : ℕ) (e : Element) → elementAt s at ≡ Next e → Fits s at e
 element-fits s at e h = rw h at (step-fits s at)
@@ -147,6 +161,9 @@ opens-variable = record { no-digit = unfold between in refl; no-first = refl; no
 
 opens-counter : Opens (code "C")
 opens-counter = record { no-digit = unfold between in refl; no-first = refl; no-last = refl; no-middle = refl }
+
+opens-stamp : Opens (code "T")
+opens-stamp = record { no-digit = unfold between in refl; no-first = refl; no-last = refl; no-middle = refl }
 
 -- a number, and a byte, after one more byte
 number-then : (pre rest : List ℕ) (b v : ℕ) → v < 1000000000 → inClass Digit (getD rest 0 0) ≡ false
@@ -205,6 +222,11 @@ held-back counter pre rest b k p h f o =
 digit-back : (k : ℕ) → k < 10 → digitOf (digitByte k) ≡ k
 digit-back k h = rw (in-range (code "0") (code "9") (digitByte k) (omega arith) (omega arith)) (omega arith)
 
+stamp-back : (st : Stamp) (pre rest : List ℕ) → stampedAt (pre ++ (stampWritten st ++ rest)) (length pre) ≡ stampedFrom (length pre) st
+unfolding stampedAt
+stamp-back Date pre rest = rw (getD-append-add pre (code "T" ∷ code "D" ∷ rest) 1 0)
+stamp-back Time pre rest = rw (getD-append-add pre (code "T" ∷ code "T" ∷ rest) 1 0)
+
 pub element-back : (s : List ℕ) (at : ℕ) (e : Element) (pre rest : List ℕ) → Fits s at e → Opens (getD rest 0 0)
     → elementAt (pre ++ (elementWritten s e ++ rest)) (length pre) ≡ Next (placed s (length pre) e)
 unfolding elementAt whatWritten
@@ -218,6 +240,8 @@ element-back s at e pre rest (a-variable k p n h f) o =
     rw (getD-append-seam pre (code "V") ((decimal k ++ partWritten p) ++ rest) 0, held-back false pre rest (code "V") k p h f o, digit-back k h)
 element-back s at e pre rest (a-counter k p n h f) o =
     rw (getD-append-seam pre (code "C") ((decimal k ++ partWritten p) ++ rest) 0, held-back true pre rest (code "C") k p h f o, digit-back k h)
+element-back s at e pre rest (a-stamp Date) o = rw (getD-append-seam pre (code "T") (code "D" ∷ rest) 0, stamp-back Date pre rest)
+element-back s at e pre rest (a-stamp Time) o = rw (getD-append-seam pre (code "T") (code "T" ∷ rest) 0, stamp-back Time pre rest)
 
 -- an element's first byte
 pub element-opens : (s : List ℕ) (at : ℕ) (e : Element) (rest : List ℕ) → Fits s at e → Opens (getD (elementWritten s e ++ rest) 0 0)
@@ -225,6 +249,8 @@ unfolding whatWritten
 element-opens s at e rest (a-text n d h) = rw (text-fits s at n d h .whole) opens-quote
 element-opens s at e rest (a-variable k p n h f) = opens-variable
 element-opens s at e rest (a-counter k p n h f) = opens-counter
+element-opens s at e rest (a-stamp Date) = opens-stamp
+element-opens s at e rest (a-stamp Time) = opens-stamp
 
 -- written again, it is the same
 pub element-again : (s : List ℕ) (at : ℕ) (e : Element) (pre rest : List ℕ) → Fits s at e
@@ -233,6 +259,7 @@ unfolding whatWritten
 element-again s at e pre rest (a-text n d h) = kept-back pre (kept s at (n + 2)) rest
 element-again s at e pre rest (a-variable k p n h f) = refl
 element-again s at e pre rest (a-counter k p n h f) = refl
+element-again s at e pre rest (a-stamp st) = refl
 
 -- ---- all elements to the end of the line
 
@@ -311,6 +338,8 @@ chain-some (ended h) l = absurd (omega arith)
 chain-some {s} {at} (then {e = e} {es = es} (a-text n d h) c) l = rw (text-fits s at n d h .whole) (omega arith)
 chain-some {s} {at} (then {e = e} {es = es} (a-variable k p n h f) c) l = omega arith
 chain-some {s} {at} (then {e = e} {es = es} (a-counter k p n h f) c) l = omega arith
+chain-some {s} {at} (then {e = e} {es = es} (a-stamp Date) c) l = omega arith
+chain-some {s} {at} (then {e = e} {es = es} (a-stamp Time) c) l = omega arith
 
 pub data-back : {s : List ℕ} {at : ℕ} {es : List Element} (pre : List ℕ) → Chain s at es → at < length s
     → dataAt (pre ++ dataWritten s es) (length pre) ≡ Is 0 (length pre + length (dataWritten s es))

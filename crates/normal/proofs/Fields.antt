@@ -8,7 +8,7 @@ use native.Mathlib.Omega.{arith}
 use native.Mathlib.Decide.{ℕ-discrete}
 use lib.Dec.{T, ltb, eqb}
 use lib.ListN.{length, getD, take, drop, length-append}
-use lib.Seq.{getD-append-seam, getD-append-add, drop-append-add, drop-cons, take-append-seam}
+use lib.Seq.{getD-append-seam, getD-append-add, drop-append-seam, drop-append-add, drop-cons, take-append-seam}
 use borrow.Author.Tests.{eq-eqb, ne-eqb, eqb-true}
 use Rattle.kinds.specs.Bytes.{between}
 use Rattle.classes.specs.declared.Class.the-variants.{Digit, Named, Mode, Side}
@@ -21,20 +21,25 @@ use Rattle.elements.specs.Elements.{elements}
 use Rattle.classes.proofs.Laws.{inside}
 use Rattle.fields.proofs.Laws.{word-comma, type-found, under-found}
 use Rattle.reader.specs.Letters.{fieldAt}
-use Rattle.row_limits.specs.Limits.{named, meets, fieldLimits}
+use Rattle.row_limits.specs.Limits.{named, dayThere, meets, fieldLimits}
 use Rattle.grammar.specs.Makers.{starred}
+use Rattle.formats.specs.declared.Stamp.{Stamp}
+use Rattle.formats.specs.declared.Stamp.the-variants.{Date, Time}
+use Rattle.format_field.specs.Reading.{formatField}
+use Rattle.format_field.proofs.Laws.{format-moved}
 use Rattle.parts.specs.Names.{capital}
 use Rattle.writing.specs.Writing.{kept, cased}
 use Rattle.normal.specs.Written.{dataWritten, wordWritten, writtenField}
 use Rattle.normal.specs.Contents.{held}
 use Rattle.writing.proofs.Writes.{cased-kept}
-use Rattle.normal.proofs.Back.{allIn, run-all, run-in, number-back, text-back, byte-back, word-back, letter-back, signed-back, kept-back, number-fits, signed-fits, byte-fits, letter-fits, text-fits, cased-quoted, cased-named, cased-length, cased-twice, cased-quotes}
+use Rattle.normal.proofs.Back.{allIn, run-all, run-in, number-back, text-back, byte-back, word-back, letter-back, signed-back, kept-back, number-fits, signed-fits, byte-fits, letter-fits, text-fits, format-fits, cased-quoted, cased-named, cased-length, cased-twice, cased-quotes}
 use Rattle.normal.proofs.Data.{chain-of, data-inside, elements-back, data-back, data-again, limits-back, pieces-back}
 
 -- a byte that stands for itself
 pub record Plain (f : ℕ) : Type 0 where
   pub no-n : eqb f (code "n") ≡ false
   pub no-w : eqb f (code "w") ≡ false
+  pub no-y : eqb f (code "y") ≡ false
   pub no-s : eqb f (code "s") ≡ false
   pub no-t : eqb f (code "t") ≡ false
   pub no-u : eqb f (code "u") ≡ false
@@ -45,10 +50,13 @@ pub record Plain (f : ℕ) : Type 0 where
   pub no-k : eqb f (code "k") ≡ false
   pub no-h : eqb f (code "h") ≡ false
   pub no-d : eqb f (code "d") ≡ false
+  pub no-f : eqb f (code "f") ≡ false
+  pub no-g : eqb f (code "g") ≡ false
 
 pub data Letter : ℕ → Type 0 where
   a-number : Letter (code "n")
   a-wide : Letter (code "w")
+  a-day : Letter (code "y")
   a-step : Letter (code "s")
   a-prompt : Letter (code "t")
   a-text : Letter (code "u")
@@ -59,50 +67,64 @@ pub data Letter : ℕ → Type 0 where
   a-type : Letter (code "k")
   a-word : Letter (code "h")
   some-data : Letter (code "d")
+  a-date : Letter (code "f")
+  a-time : Letter (code "g")
   itself : {f : ℕ} → Plain f → Letter f
 
 pub letter-of : (f : ℕ) → Letter f
 letter-of f =
-    go (ℕ-discrete f (code "n")) (ℕ-discrete f (code "w")) (ℕ-discrete f (code "s")) (ℕ-discrete f (code "t")) (ℕ-discrete f (code "u")) (ℕ-discrete f (code "a")) (ℕ-discrete f (code "z"))
+    go (ℕ-discrete f (code "n")) (ℕ-discrete f (code "w")) (ℕ-discrete f (code "y")) (ℕ-discrete f (code "s")) (ℕ-discrete f (code "t")) (ℕ-discrete f (code "u")) (ℕ-discrete f (code "a"))
+    (ℕ-discrete f (code "z"))
     (ℕ-discrete f (code "m"))
     (ℕ-discrete f (code "j"))
     (ℕ-discrete f (code "k"))
     (ℕ-discrete f (code "h"))
     (ℕ-discrete f (code "d"))
+    (ℕ-discrete f (code "f"))
+    (ℕ-discrete f (code "g"))
   where
-    go : Dec (f ≡ code "n") → Dec (f ≡ code "w") → Dec (f ≡ code "s") → Dec (f ≡ code "t") → Dec (f ≡ code "u") → Dec (f ≡ code "a") → Dec (f ≡ code "z") → Dec (f ≡ code "m")
+    go : Dec (f ≡ code "n") → Dec (f ≡ code "w") → Dec (f ≡ code "y") → Dec (f ≡ code "s") → Dec (f ≡ code "t") → Dec (f ≡ code "u") → Dec (f ≡ code "a") → Dec (f ≡ code "z")
+        → Dec (f ≡ code "m")
         → Dec (f ≡ code "j")
         → Dec (f ≡ code "k")
         → Dec (f ≡ code "h")
         → Dec (f ≡ code "d")
+        → Dec (f ≡ code "f")
+        → Dec (f ≡ code "g")
         → Letter f
-    go (yes e) b c d g h i j k l m n = rw e a-number
-    go (no a) (yes e) c d g h i j k l m n = rw e a-wide
-    go (no a) (no b) (yes e) d g h i j k l m n = rw e a-step
-    go (no a) (no b) (no c) (yes e) g h i j k l m n = rw e a-prompt
-    go (no a) (no b) (no c) (no d) (yes e) h i j k l m n = rw e a-text
-    go (no a) (no b) (no c) (no d) (no g) (yes e) i j k l m n = rw e a-name
-    go (no a) (no b) (no c) (no d) (no g) (no h) (yes e) j k l m n = rw e a-star
-    go (no a) (no b) (no c) (no d) (no g) (no h) (no i) (yes e) k l m n = rw e a-mode
-    go (no a) (no b) (no c) (no d) (no g) (no h) (no i) (no j) (yes e) l m n = rw e a-side
-    go (no a) (no b) (no c) (no d) (no g) (no h) (no i) (no j) (no k) (yes e) m n = rw e a-type
-    go (no a) (no b) (no c) (no d) (no g) (no h) (no i) (no j) (no k) (no l) (yes e) n = rw e a-word
-    go (no a) (no b) (no c) (no d) (no g) (no h) (no i) (no j) (no k) (no l) (no m) (yes e) = rw e some-data
-    go (no a) (no b) (no c) (no d) (no g) (no h) (no i) (no j) (no k) (no l) (no m) (no n) =
+    go (yes e) b c d g h i j k l m n o p q = rw e a-number
+    go (no a) (yes e) c d g h i j k l m n o p q = rw e a-wide
+    go (no a) (no b) (yes e) d g h i j k l m n o p q = rw e a-day
+    go (no a) (no b) (no c) (yes e) g h i j k l m n o p q = rw e a-step
+    go (no a) (no b) (no c) (no d) (yes e) h i j k l m n o p q = rw e a-prompt
+    go (no a) (no b) (no c) (no d) (no g) (yes e) i j k l m n o p q = rw e a-text
+    go (no a) (no b) (no c) (no d) (no g) (no h) (yes e) j k l m n o p q = rw e a-name
+    go (no a) (no b) (no c) (no d) (no g) (no h) (no i) (yes e) k l m n o p q = rw e a-star
+    go (no a) (no b) (no c) (no d) (no g) (no h) (no i) (no j) (yes e) l m n o p q = rw e a-mode
+    go (no a) (no b) (no c) (no d) (no g) (no h) (no i) (no j) (no k) (yes e) m n o p q = rw e a-side
+    go (no a) (no b) (no c) (no d) (no g) (no h) (no i) (no j) (no k) (no l) (yes e) n o p q = rw e a-type
+    go (no a) (no b) (no c) (no d) (no g) (no h) (no i) (no j) (no k) (no l) (no m) (yes e) o p q = rw e a-word
+    go (no a) (no b) (no c) (no d) (no g) (no h) (no i) (no j) (no k) (no l) (no m) (no n) (yes e) p q = rw e some-data
+    go (no a) (no b) (no c) (no d) (no g) (no h) (no i) (no j) (no k) (no l) (no m) (no n) (no o) (yes e) q = rw e a-date
+    go (no a) (no b) (no c) (no d) (no g) (no h) (no i) (no j) (no k) (no l) (no m) (no n) (no o) (no p) (yes e) = rw e a-time
+    go (no a) (no b) (no c) (no d) (no g) (no h) (no i) (no j) (no k) (no l) (no m) (no n) (no o) (no p) (no q) =
         itself
         (record {
           no-n = ne-eqb f (code "n") a;
           no-w = ne-eqb f (code "w") b;
-          no-s = ne-eqb f (code "s") c;
-          no-t = ne-eqb f (code "t") d;
-          no-u = ne-eqb f (code "u") g;
-          no-a = ne-eqb f (code "a") h;
-          no-z = ne-eqb f (code "z") i;
-          no-m = ne-eqb f (code "m") j;
-          no-j = ne-eqb f (code "j") k;
-          no-k = ne-eqb f (code "k") l;
-          no-h = ne-eqb f (code "h") m;
-          no-d = ne-eqb f (code "d") n;
+          no-y = ne-eqb f (code "y") c;
+          no-s = ne-eqb f (code "s") d;
+          no-t = ne-eqb f (code "t") g;
+          no-u = ne-eqb f (code "u") h;
+          no-a = ne-eqb f (code "a") i;
+          no-z = ne-eqb f (code "z") j;
+          no-m = ne-eqb f (code "m") k;
+          no-j = ne-eqb f (code "j") l;
+          no-k = ne-eqb f (code "k") m;
+          no-h = ne-eqb f (code "h") n;
+          no-d = ne-eqb f (code "d") o;
+          no-f = ne-eqb f (code "f") p;
+          no-g = ne-eqb f (code "g") q;
         })
 
 -- whether bytes start with a place between two commas
@@ -117,6 +139,7 @@ placeLast rest = eqb (getD rest 0 0) (code ",") && (isPlace (getD rest 1 0) && e
 abbrev pub After : {f : ℕ} → Letter f → List ℕ → Type 0
 After a-number rest = inClass Digit (getD rest 0 0) ≡ false
 After a-wide rest = inClass Digit (getD rest 0 0) ≡ false
+After a-day rest = inClass Digit (getD rest 0 0) ≡ false
 After a-step rest = inClass Digit (getD rest 0 0) ≡ false
 After a-prompt rest = Unit {0}
 After a-text rest = Unit {0}
@@ -127,13 +150,15 @@ After a-side rest = getD rest 0 0 ≡ code ","
 After a-type rest = getD rest 0 0 ≡ code ","
 After a-word rest = (getD rest 0 0 ≡ code ",") × (placeAhead rest ≡ false) × (placeLast rest ≡ false)
 After some-data rest = rest ≡ []
+After a-date rest = rest ≡ []
+After a-time rest = rest ≡ []
 After (itself p) rest = Unit {0}
 
 -- a field of value v at a place of s, in the line w at another
 pub record Moved (f : ℕ) (s : List ℕ) (v p : ℕ) (w : List ℕ) (q : ℕ) : Type 0 where
   pub read : fieldAt f w q ≡ Is v (q + length (writtenField f s v p))
   pub again : writtenField f w v q ≡ writtenField f s v p
-  pub limit : (l : ℕ × ℕ) (u : ℕ) → fieldLimits f l s u v p ≡ Within → fieldLimits f l w u v q ≡ Within
+  pub limit : (l : ℕ × ℕ) (u n : ℕ) → fieldLimits f l s u v p n ≡ Within → fieldLimits f l w u v q n ≡ Within
   pub content : held f w v q ≡ held f s v p
 
 limit-move : (t : Bool) (p q : ℕ) → cond t Within (Outside p) ≡ Within → cond t Within (Outside q) ≡ Within
@@ -318,7 +343,7 @@ type-moved s at v pre rest c (one k) =
     record {
       read = rw x (type-one pre rest (code "1") 1 is-one c);
       again = rw x (cased-kept (kept (pre ++ (code "1" ∷ rest)) (length pre) 1) ∙ kept-back pre (code "1" ∷ []) rest);
-      limit = λ l u k. refl;
+      limit = λ l u n k. refl;
       content = refl;
     }
 type-moved s at v pre rest c (two k) =
@@ -326,7 +351,7 @@ type-moved s at v pre rest c (two k) =
     record {
       read = rw x (type-one pre rest (code "2") 2 is-two c);
       again = rw x (cased-kept (kept (pre ++ (code "2" ∷ rest)) (length pre) 1) ∙ kept-back pre (code "2" ∷ []) rest);
-      limit = λ l u k. refl;
+      limit = λ l u n k. refl;
       content = refl;
     }
 type-moved s at v pre rest c (three k) =
@@ -334,7 +359,7 @@ type-moved s at v pre rest c (three k) =
     record {
       read = rw x (type-one pre rest (code "3") 3 is-three c);
       again = rw x (cased-kept (kept (pre ++ (code "3" ∷ rest)) (length pre) 1) ∙ kept-back pre (code "3" ∷ []) rest);
-      limit = λ l u k. refl;
+      limit = λ l u n k. refl;
       content = refl;
     }
 type-moved s at v pre rest c (ean k) =
@@ -343,7 +368,7 @@ type-moved s at v pre rest c (ean k) =
     record {
       read = rw x (type-ean pre rest c);
       again = rw x (cased-kept (kept (pre ++ (w ++ rest)) (length pre) 3) ∙ kept-back pre w rest);
-      limit = λ l u k. refl;
+      limit = λ l u n k. refl;
       content = refl;
     }
 
@@ -441,15 +466,15 @@ under-back pre rest v right a =
 module _ {f : ℕ} (p : Plain f) where
   pub plain-field : (s : List ℕ) (at : ℕ) → fieldAt f s at ≡ byteAt f s at
   unfolding fieldAt
-  plain-field s at = simp (p .no-n, p .no-w, p .no-s, p .no-t, p .no-u, p .no-a, p .no-z, p .no-m, p .no-j, p .no-k, p .no-h, p .no-d)
+  plain-field s at = simp (p .no-n, p .no-w, p .no-y, p .no-s, p .no-t, p .no-u, p .no-a, p .no-z, p .no-m, p .no-j, p .no-k, p .no-h, p .no-d, p .no-f, p .no-g)
 
   pub plain-written : (s : List ℕ) (v q : ℕ) → writtenField f s v q ≡ f ∷ []
   unfolding writtenField
-  plain-written s v q = simp (p .no-n, p .no-w, p .no-s, p .no-t, p .no-u, p .no-a, p .no-z, p .no-m, p .no-j, p .no-k, p .no-h, p .no-d)
+  plain-written s v q = simp (p .no-n, p .no-w, p .no-y, p .no-s, p .no-t, p .no-u, p .no-a, p .no-z, p .no-m, p .no-j, p .no-k, p .no-h, p .no-d, p .no-f, p .no-g)
 
-  plain-limits : (l : ℕ × ℕ) (s : List ℕ) (u v q : ℕ) → fieldLimits f l s u v q ≡ Within
+  plain-limits : (l : ℕ × ℕ) (s : List ℕ) (u v q n : ℕ) → fieldLimits f l s u v q n ≡ Within
   unfolding fieldLimits
-  plain-limits l s u v q = simp (p .no-n, p .no-w, p .no-s, p .no-t, p .no-a, p .no-z, p .no-d)
+  plain-limits l s u v q n = simp (p .no-n, p .no-w, p .no-y, p .no-s, p .no-t, p .no-a, p .no-z, p .no-d)
 
   plain-held : (s : List ℕ) (v q : ℕ) → held f s v q ≡ []
   unfolding held
@@ -465,9 +490,35 @@ module _ {f : ℕ} (p : Plain f) where
       (record {
         read = rw x (plain-field w (length pre) ∙ byte-back pre rest f ∙ rw o);
         again = plain-written w v (length pre) ∙ sym x;
-        limit = λ l u k. plain-limits l w u v (length pre);
+        limit = λ l u n k. plain-limits l w u v (length pre) n;
         content = plain-held w v (length pre) ∙ sym (plain-held s v at);
       })
+
+-- ---- a format
+
+-- the letter that stands for a format of the date, of the time
+abbrev pub formatLetter : Stamp → ℕ
+formatLetter Date = code "f"
+formatLetter Time = code "g"
+
+module _ (s : List ℕ) (at v e : ℕ) (pre rest : List ℕ) (a : rest ≡ []) where
+  rest-stays : pre ++ (cased false (drop at s) ++ rest) ≡ pre ++ drop at s
+  rest-stays = rw (a, cased-kept (drop at s), append-nil (drop at s))
+
+  rest-again : cased false (drop (length pre) (pre ++ (cased false (drop at s) ++ rest))) ≡ cased false (drop at s)
+  rest-again = rw (rest-stays, drop-append-seam pre (drop at s))
+
+  rest-read : (st : Stamp) → formatField st s at ≡ Is v e
+      → formatField st (pre ++ (cased false (drop at s) ++ rest)) (length pre) ≡ Is v (length pre + length (cased false (drop at s)))
+  rest-read st h =
+      let q = format-fits st s at v e h .within in
+      rw (rest-stays, cased-kept (drop at s)) (format-moved st s pre at v e (omega arith) h)
+
+  rest-moved : (st : Stamp) → formatField st s at ≡ Is v e
+      → Moved (formatLetter st) s v at (pre ++ (writtenField (formatLetter st) s v at ++ rest)) (length pre)
+  unfolding fieldAt writtenField fieldLimits held
+  rest-moved Date h = record { read = rest-read Date h; again = rest-again; limit = λ l u n k. refl; content = refl }
+  rest-moved Time h = record { read = rest-read Time h; again = rest-again; limit = λ l u n k. refl; content = refl }
 
 -- ---- each letter
 pub field-moved : {f : ℕ} (x : Letter f) (s : List ℕ) (at v e : ℕ) (pre rest : List ℕ) → fieldAt f s at ≡ Is v e → After x rest
@@ -477,14 +528,21 @@ field-moved a-number s at v e pre rest h a =
     record {
       read = number-back pre rest v (number-fits s at v e h) a;
       again = refl;
-      limit = λ l u k. limit-move (between (l .0) (l .1) v && true) at (length pre) k;
+      limit = λ l u n k. limit-move (between (l .0) (l .1) v && true) at (length pre) k;
       content = refl;
     }
 field-moved a-wide s at v e pre rest h a =
     record {
       read = number-back pre rest v (number-fits s at v e h) a;
       again = refl;
-      limit = λ l u k. limit-move (between (l .0) (l .1) v && ltb u v) at (length pre) k;
+      limit = λ l u n k. limit-move (between (l .0) (l .1) v && ltb u v) at (length pre) k;
+      content = refl;
+    }
+field-moved a-day s at v e pre rest h a =
+    record {
+      read = number-back pre rest v (number-fits s at v e h) a;
+      again = refl;
+      limit = λ l u n k. limit-move (between (l .0) (l .1) v && dayThere u v n) at (length pre) k;
       content = refl;
     }
 field-moved a-step s at v e pre rest h a =
@@ -492,28 +550,28 @@ field-moved a-step s at v e pre rest h a =
     record {
       read = signed-back pre rest v (q .0) (q .1) a;
       again = refl;
-      limit = λ l u k. limit-move (between (l .0) (l .1) v && true) at (length pre) k;
+      limit = λ l u n k. limit-move (between (l .0) (l .1) v && true) at (length pre) k;
       content = refl;
     }
 field-moved a-prompt s at v e pre rest h a =
     record {
       read = text-moved false s at v e h pre rest;
       again = text-again false s at v e h pre rest;
-      limit = λ l u k. limit-move (between (l .0) (l .1) v && true) at (length pre) k;
+      limit = λ l u n k. limit-move (between (l .0) (l .1) v && true) at (length pre) k;
       content = ap (λ (x : List ℕ). (Quote, x) ∷ []) (text-content false s at v e h pre rest);
     }
 field-moved a-text s at v e pre rest h a =
     record {
       read = text-moved false s at v e h pre rest;
       again = text-again false s at v e h pre rest;
-      limit = λ l u k. refl;
+      limit = λ l u n k. refl;
       content = ap (λ (x : List ℕ). (Quote, x) ∷ []) (text-content false s at v e h pre rest);
     }
 field-moved a-name s at v e pre rest h a =
     record {
       read = text-moved true s at v e h pre rest;
       again = text-again true s at v e h pre rest;
-      limit = λ l u k.
+      limit = λ l u n k.
           limit-both (between (l .0) (l .1) v) (named s at v) (named (pre ++ (cased true (kept s at (v + 2)) ++ rest)) (length pre) v) at (length pre)
           (name-moved true s at v e h pre rest)
           k;
@@ -524,7 +582,7 @@ field-moved a-star s at v e pre rest h a =
     record {
       read = text-moved true s at v e h pre rest;
       again = text-again true s at v e h pre rest;
-      limit = λ l u k.
+      limit = λ l u n k.
           limit-both (between (l .0) (l .1) v) (named s at v || starred s at v) (named w (length pre) v || starred w (length pre) v) at (length pre)
           (or-move (named s at v) (starred s at v) (named w (length pre) v) (starred w (length pre) v)
           (name-moved true s at v e h pre rest)
@@ -538,7 +596,7 @@ field-moved a-mode s at v e pre rest h a =
     record {
       read = rw x (letter-back pre rest Mode v (q .0) a);
       again = rw x (cased-kept (kept (pre ++ (v ∷ rest)) (length pre) 1) ∙ kept-back pre (v ∷ []) rest);
-      limit = λ l u k. refl;
+      limit = λ l u n k. refl;
       content = refl;
     }
 field-moved a-side s at v e pre rest h a =
@@ -547,7 +605,7 @@ field-moved a-side s at v e pre rest h a =
     record {
       read = rw x (letter-back pre rest Side v (q .0) a);
       again = rw x (cased-kept (kept (pre ++ (v ∷ rest)) (length pre) 1) ∙ kept-back pre (v ∷ []) rest);
-      limit = λ l u k. refl;
+      limit = λ l u n k. refl;
       content = refl;
     }
 field-moved a-type s at v e pre rest h a = type-moved s at v pre rest a (type-fits s at v e h)
@@ -555,7 +613,7 @@ field-moved a-word s at v e pre rest h a =
     record {
       read = under-back pre rest v (word-fits s at v e h .letter) a;
       again = refl;
-      limit = λ l u k. refl;
+      limit = λ l u n k. refl;
       content = refl;
     }
 field-moved some-data s at v e pre rest h a =
@@ -567,7 +625,9 @@ field-moved some-data s at v e pre rest h a =
     record {
       read = rw (z, o) (data-back pre c (i .1));
       again = rw (z, elements-back pre c) (data-again pre c);
-      limit = λ l u k. rw (z, elements-back pre c) (limits-back s (length pre) (elements s at) k);
+      limit = λ l u n k. rw (z, elements-back pre c) (limits-back s (length pre) (elements s at) k);
       content = rw (z, elements-back pre c) (pieces-back pre c);
     }
+field-moved a-date s at v e pre rest h a = rest-moved s at v e pre rest a Date h
+field-moved a-time s at v e pre rest h a = rest-moved s at v e pre rest a Time h
 field-moved (itself p) s at v e pre rest h a = plain-moved p s at v e pre rest h

@@ -4,4 +4,5 @@ pub mod Data
 pub mod Fields
 pub mod Starts
 pub mod Round
+pub mod Stays
 pub mod Short

@@ -24,7 +24,7 @@ use Rattle.row_limits.specs.Limits.{fieldLimits, firstOf, limitsFrom}
 use Rattle.read.specs.Commands.{readOf, headed as headRead, judged, decided}
 use Rattle.grammar.specs.declared.Item.{Item}
 use Rattle.grammar.specs.declared.Command.{Command}
-use Rattle.grammar.specs.declared.Command.the-variants.{Item as item, End, Page, Forms, Pictures, Values, Listing}
+use Rattle.grammar.specs.declared.Command.the-variants.{Item as item, End, Page, Forms, Pictures, Values, Listing, Clock}
 use Rattle.read.specs.declared.Read.the-variants.{Taken}
 use Rattle.heads.specs.declared.Head.{Head}
 use Rattle.heads.specs.declared.Head.the-variants.{Row, Unknown}
@@ -34,7 +34,7 @@ use Rattle.normal.specs.Written.{dataWritten, writtenField, writtenFrom,
 use Rattle.normal.specs.Contents.{unplaced, heldBy, contentsOf, headContents, contents}
 use Rattle.normal.specs.Promise.{Normal}
 use Rattle.normal.proofs.Back.{T-true}
-use Rattle.normal.proofs.Fields.{Letter, letter-of, a-number, a-wide, a-step, a-prompt, a-text, a-name, a-star, a-mode, a-side, a-type, a-word, some-data, itself, After, Moved, field-moved, Plain, plain-written}
+use Rattle.normal.proofs.Fields.{Letter, letter-of, a-number, a-wide, a-day, a-step, a-prompt, a-text, a-name, a-star, a-mode, a-side, a-type, a-word, some-data, a-date, a-time, itself, After, Moved, field-moved, Plain, plain-written}
 use Rattle.normal.proofs.Data.{chain-of, data-inside}
 use Rattle.normal.proofs.Starts.{starts, every, every-among, written-split, start-of, data-placeless}
 
@@ -43,11 +43,11 @@ use Rattle.normal.proofs.Starts.{starts, every, every-among, written-sp
 -- whether a byte may stand behind the field of the letter f: a number ends where no digit follows, a word where a comma does
 abbrev follows : ℕ → ℕ → Bool
 follows f x =
-    cond (eqb f (code "n") || (eqb f (code "w") || eqb f (code "s"))) (not (inClass Digit x))
+    cond (eqb f (code "n") || (eqb f (code "w") || (eqb f (code "y") || eqb f (code "s")))) (not (inClass Digit x))
     (cond (eqb f (code "m") || (eqb f (code "j") || eqb f (code "k"))) (eqb x (code ","))
     true)
 
--- data goes to the end of the line
+-- data goes to the end of the line, and so does a format
 abbrev isEnd : List ℕ → Bool
 isEnd [] = true
 isEnd (f ∷ fs) = false
@@ -59,7 +59,7 @@ isData (f ∷ []) = false
 isData (f ∷ (g ∷ fs)) = eqb f (code ",") && (eqb g (code "d") && isEnd fs)
 
 abbrev ends : ℕ → List ℕ → Bool
-ends f fs = cond (eqb f (code "d")) (isEnd fs) (cond (eqb f (code "h")) (isData fs) true)
+ends f fs = cond (eqb f (code "d") || (eqb f (code "f") || eqb f (code "g"))) (isEnd fs) (cond (eqb f (code "h")) (isData fs) true)
 
 unfoldable sound : List ℕ → Bool
 sound [] = true
@@ -104,6 +104,7 @@ after-of : {f : ℕ} (x : Letter f) (fs s : List ℕ) (at : ℕ) (vs ps : List �
     → T (follows f (getD (writtenFrom fs s vs ps) 0 0)) → T (ends f fs) → After x (writtenFrom fs s vs ps)
 after-of a-number fs s at vs ps o h k = not-T (inClass Digit (getD (writtenFrom fs s vs ps) 0 0)) h
 after-of a-wide fs s at vs ps o h k = not-T (inClass Digit (getD (writtenFrom fs s vs ps) 0 0)) h
+after-of a-day fs s at vs ps o h k = not-T (inClass Digit (getD (writtenFrom fs s vs ps) 0 0)) h
 after-of a-step fs s at vs ps o h k = not-T (inClass Digit (getD (writtenFrom fs s vs ps) 0 0)) h
 after-of a-prompt fs s at vs ps o h k = tt
 after-of a-text fs s at vs ps o h k = tt
@@ -114,6 +115,8 @@ after-of a-side fs s at vs ps o h k = comma-T (getD (writtenFrom fs s vs ps) 0 0
 after-of a-type fs s at vs ps o h k = comma-T (getD (writtenFrom fs s vs ps) 0 0) h
 after-of a-word fs s at vs ps o h k = word-after fs s at vs ps k o
 after-of some-data fs s at vs ps o h k = end-after fs s vs ps k
+after-of a-date fs s at vs ps o h k = end-after fs s vs ps k
+after-of a-time fs s at vs ps o h k = end-after fs s vs ps k
 after-of (itself p) fs s at vs ps o h k = tt
 
 -- ---- the fields of a form, after pre
@@ -159,10 +162,10 @@ kept-cons f fs s at v vs ps pre m r =
       read = rw (m .read, r .read);
       again = rw (m .again, r .again);
       limit = λ ls u h.
-          first-move (fieldLimits f (getD ls 0 free) s u v at) (limitsFrom fs (drop 1 ls) s (cond (isNumber f) v u) vs ps)
-          (fieldLimits f (getD ls 0 free) w u v (length pre))
+          first-move (fieldLimits f (getD ls 0 free) s u v at (getD vs 1 0)) (limitsFrom fs (drop 1 ls) s (cond (isNumber f) v u) vs ps)
+          (fieldLimits f (getD ls 0 free) w u v (length pre) (getD vs 1 0))
           (limitsFrom fs (drop 1 ls) w (cond (isNumber f) v u) vs (r .places))
-          (m .limit (getD ls 0 free) u)
+          (m .limit (getD ls 0 free) u (getD vs 1 0))
           (r .limit (drop 1 ls) (cond (isNumber f) v u))
           h;
       content = rw (m .content, r .content);
@@ -239,6 +242,7 @@ head-plain : {a : ℕ} → Letter a → T (isHead a) → Plain a
 unfolding between
 head-plain a-number h = absurd h
 head-plain a-wide h = absurd h
+head-plain a-day h = absurd h
 head-plain a-step h = absurd h
 head-plain a-prompt h = absurd h
 head-plain a-text h = absurd h
@@ -249,6 +253,8 @@ head-plain a-side h = absurd h
 head-plain a-type h = absurd h
 head-plain a-word h = absurd h
 head-plain some-data h = absurd h
+head-plain a-date h = absurd h
+head-plain a-time h = absurd h
 head-plain (itself p) h = p
 
 capital-head : (a : ℕ) → T (isCapital a) → T (isHead a)
@@ -361,6 +367,7 @@ bare (Forms c) = End
 bare (Pictures c) = End
 bare (Values c) = End
 bare (Listing c) = End
+bare (Clock c) = End
 
 -- the numbers and letters of an item do not depend on its line and its places
 Steady : ℕ → Form → Type 0
@@ -370,6 +377,9 @@ every-steady : Each Steady forms
 unfolding Steady
 every-steady =
     (λ s w v p q. refl)
+    & (λ s w v p q. refl)
+    & (λ s w v p q. refl)
+    & (λ s w v p q. refl)
     & (λ s w v p q. refl)
     & (λ s w v p q. refl)
     & (λ s w v p q. refl)
@@ -420,6 +430,7 @@ made-again row s w vs ps qs i h = go (commandOf row w vs qs) refl (sym (each-row
     go (Pictures c) e k = absurd (let z : _≡_ {A = ℕ} 0 1 = cc in omega arith)
     go (Values c) e k = absurd (let z : _≡_ {A = ℕ} 0 1 = cc in omega arith)
     go (Listing c) e k = absurd (let z : _≡_ {A = ℕ} 0 1 = cc in omega arith)
+    go (Clock c) e k = absurd (let z : _≡_ {A = ℕ} 0 1 = cc in omega arith)
 
 normal-row : (rows : ℕ) (s : List ℕ) (i : Item) (row : ℕ) (vs ps : List ℕ) → headOf s ≡ Row row
     → fieldsFrom (rowOf row .fields) s 0 ≡ good vs ps → limitsFrom (rowOf row .fields) (boundsOf row rows) s 0 vs ps ≡ Within
@@ -484,6 +495,9 @@ every-rowless : Each Rowless forms
 unfolding Rowless
 every-rowless =
     (λ s v p i h r r′. absurd (let z : _≡_ {A = ℕ} 0 1 = cc in omega arith))
+    & (λ s v p i h r r′. refl)
+    & (λ s v p i h r r′. refl)
+    & (λ s v p i h r r′. refl)
     & (λ s v p i h r r′. refl)
     & (λ s v p i h r r′. refl)
     & (λ s v p i h r r′. refl)

@@ -9,7 +9,7 @@ use native.Mathlib.Nat.{add-zero, pow-suc}
 use native.Mathlib.Omega.{arith}
 use native.Mathlib.Decide.{decLt}
 use lib.Dec.{T, leb, ltb, eqb, lit<}
-use lib.ListN.{length, getD, drop, length-append, length-take}
+use lib.ListN.{length, getD, drop, length-append, length-take, length-drop}
 use borrow.Author.Tests.{lt-ltb, le-ltb, leb-true, eqb-true}
 use Rattle.kinds.specs.Bytes.{between}
 use Rattle.classes.specs.declared.Class.{Class}
@@ -26,11 +26,15 @@ use Rattle.data_field.specs.declared.Limits.the-variants.{Within, Outside}
 use Rattle.classes.specs.Bytes.{inClass, part, runAt}
 use Rattle.numbers.specs.Number.{digitOf, valueFrom, numberAt, signedAt, plus, minus, nought, Small}
 use Rattle.fields.specs.Field.{textAt, letterAt, typeAt, byteAt, pointed}
-use Rattle.elements.specs.Elements.{first, last, middle, middle-dot, middle-n, modifierAt, quotedFrom, modified, heldAt, elementAt, after, follow, elementsFrom, elements}
+use Rattle.elements.specs.Elements.{first, last, middle, middle-dot, middle-n, modifierAt, quotedFrom, modified, heldAt, stampedFrom, stampedAt, elementAt, after, follow, elementsFrom, elements}
 use Rattle.data_field.specs.Data.{total, stopped, dataAt}
 use Rattle.numbers.proofs.Laws.{digit-small, value-fits, number-small, signed-found}
 use Rattle.fields.proofs.Laws.{letter-found, type-found}
 use Rattle.classes.proofs.Laws.{and-T}
+use Rattle.formats.specs.declared.Stamp.{Stamp}
+use Rattle.formats.specs.declared.Stamp.the-variants.{Date, Time}
+use Rattle.format_field.specs.Reading.{formatField}
+use Rattle.format_field.proofs.Laws.{format-read}
 use Rattle.grammar.specs.Forms.{Form, forms, none, rowOf, boundsOf, spread, free, isNumber}
 use Rattle.reader.specs.Letters.{fieldAt}
 use Rattle.row_fields.specs.Reading.{fieldsFrom, good, bad}
@@ -43,8 +47,8 @@ use Rattle.row_fields.proofs.Rows.{fields-split}
 use Rattle.writing.specs.Writing.{decimal, signed, kept, cased}
 use Rattle.normal.specs.Written.{partWritten, whatWritten, elementWritten, dataWritten, writtenField, writtenFrom, normal}
 use Rattle.writing.proofs.Writes.{digits-last}
-use Rattle.normal.proofs.Back.{T-true, digits-count, number-fits, signed-fits, text-fits, cased-length}
-use Rattle.normal.proofs.Fields.{Letter, letter-of, a-number, a-wide, a-step, a-prompt, a-text, a-name, a-star, a-mode, a-side, a-type, a-word, some-data, itself, plain-field, plain-written, word-fits}
+use Rattle.normal.proofs.Back.{T-true, digits-count, number-fits, signed-fits, text-fits, format-fits, cased-length}
+use Rattle.normal.proofs.Fields.{Letter, letter-of, a-number, a-wide, a-day, a-step, a-prompt, a-text, a-name, a-star, a-mode, a-side, a-type, a-word, some-data, a-date, a-time, itself, plain-field, plain-written, word-fits}
 use Rattle.normal.proofs.Round.{normal-is, item-parted}
 
 -- ---- a number
@@ -168,15 +172,26 @@ module _ (s : List ℕ) (at : ℕ) where
       go true = modified-shorter counter (getD s (at + 1) 0) (modifierAt s (at + 2)) (modifier-shorter s (at + 2))
       go false = tt
 
+  stamped-shorter : StepShorter s (stampedAt s at)
+  unfolding stampedAt whatWritten
+  stamped-shorter = go (eqb (getD s (at + 1) 0) (code "D")) (eqb (getD s (at + 1) 0) (code "T"))
+    where
+      go : (a b : Bool) → StepShorter s (cond a (stampedFrom at Date) (cond b (stampedFrom at Time) (Stop (pointed s at (at + 1)))))
+      go true b = omega arith
+      go false true = omega arith
+      go false false = tt
+
   element-shorter : StepShorter s (elementAt s at)
   unfolding elementAt
-  element-shorter = go (eqb (getD s at 0) (code "\"")) (eqb (getD s at 0) (code "V")) (eqb (getD s at 0) (code "C"))
+  element-shorter = go (eqb (getD s at 0) (code "\"")) (eqb (getD s at 0) (code "V")) (eqb (getD s at 0) (code "C")) (eqb (getD s at 0) (code "T"))
     where
-      go : (a b c : Bool) → StepShorter s (cond a (quotedFrom at (textAt s at)) (cond b (heldAt false s at) (cond c (heldAt true s at) (Stop at))))
-      go true b c = quoted-shorter (textAt s at)
-      go false true c = held-shorter false
-      go false false true = held-shorter true
-      go false false false = tt
+      go : (a b c d : Bool)
+          → StepShorter s (cond a (quotedFrom at (textAt s at)) (cond b (heldAt false s at) (cond c (heldAt true s at) (cond d (stampedAt s at) (Stop at)))))
+      go true b c d = quoted-shorter (textAt s at)
+      go false true c d = held-shorter false
+      go false false true d = held-shorter true
+      go false false false true = stamped-shorter
+      go false false false false = tt
 
 elements-shorter : (n : ℕ) (s : List ℕ) (at : ℕ) → length (dataWritten s (elementsFrom n s at)) ≤ total (elementsFrom n s at)
 unfolding elementsFrom dataWritten total
@@ -270,6 +285,13 @@ type-end s at v e h =
 text-length : (t : Bool) (s : List ℕ) (at v e : ℕ) → textAt s at ≡ Is v e → at + length (cased t (kept s at (v + 2))) ≤ e + 0
 text-length t s at v e h = let q = text-fits s at v e h .ends in let l = kept-length t s at (v + 2) in omega arith
 
+format-length : (st : Stamp) (s : List ℕ) (at v e : ℕ) → formatField st s at ≡ Is v e → at + length (cased false (drop at s)) ≤ e + 0
+format-length st s at v e h =
+    let i = format-fits st s at v e h .within in
+    let n = format-read st s at v e h .ends in
+    let l = length-drop at s in
+    rw (cased-length false (drop at s)) (omega arith)
+
 -- how many bytes a field may grow by
 abbrev grows : ℕ → ℕ
 grows f = cond (eqb f (code "s")) 1 0
@@ -278,6 +300,7 @@ field-length : {f : ℕ} (x : Letter f) (s : List ℕ) (at v e : ℕ) → fieldA
 unfolding fieldAt writtenField
 field-length a-number s at v e h = let l = number-length s at v e h in omega arith
 field-length a-wide s at v e h = let l = number-length s at v e h in omega arith
+field-length a-day s at v e h = let l = number-length s at v e h in omega arith
 field-length a-step s at v e h = signed-length s at v e h
 field-length a-prompt s at v e h = text-length false s at v e h
 field-length a-text s at v e h = text-length false s at v e h
@@ -288,6 +311,8 @@ field-length a-side s at v e h = let q = letter-end Side s at v e h in let l = k
 field-length a-type s at v e h = let q = type-end s at v e h in let l = kept-length false s at (cond (eqb v 30) 3 1) in omega arith
 field-length a-word s at v e h = let q = word-fits s at v e h .ends in omega arith
 field-length some-data s at v e h = let l = data-shorter s at v e h in omega arith
+field-length a-date s at v e h = format-length Date s at v e h
+field-length a-time s at v e h = format-length Time s at v e h
 field-length {f} (itself p) s at v e h =
     let q = byte-end f s at v e (sym (plain-field p s at) ∙ h) in
     rw (plain-written p s v at, p .no-s) (omega arith)
@@ -325,7 +350,7 @@ fields-length (f ∷ fs) s at vs ps h =
 
 -- letters of no more bytes than `widest`
 abbrev narrow : ℕ → Bool
-narrow f = not (eqb f (code "a") || (eqb f (code "z") || (eqb f (code "u") || (eqb f (code "k") || (eqb f (code "h") || eqb f (code "d"))))))
+narrow f = not (eqb f (code "a") || (eqb f (code "z") || (eqb f (code "u") || (eqb f (code "k") || (eqb f (code "h") || (eqb f (code "d") || (eqb f (code "f") || eqb f (code "g"))))))))
 
 abbrev widest : ℕ → ℕ × ℕ → ℕ
 widest f l = cond (isNumber f) 9 (cond (eqb f (code "s")) 10 (cond (eqb f (code "t")) (l .1 + 2) 1))
@@ -350,26 +375,29 @@ signed-narrow v h k = go (decLt v nought)
     go (yes m) = rw (lt-ltb v nought m) (let l = decimal-narrow (nought - v) (omega arith) in omega arith)
     go (no m) = rw (le-ltb v nought (omega arith)) (let l = decimal-narrow (v - nought) (omega arith) in omega arith)
 
-field-narrow : {f : ℕ} (x : Letter f) (s : List ℕ) (at v e : ℕ) (l : ℕ × ℕ) (u : ℕ) → T (narrow f) → fieldAt f s at ≡ Is v e
-    → fieldLimits f l s u v at ≡ Within
+field-narrow : {f : ℕ} (x : Letter f) (s : List ℕ) (at v e : ℕ) (l : ℕ × ℕ) (u n : ℕ) → T (narrow f) → fieldAt f s at ≡ Is v e
+    → fieldLimits f l s u v at n ≡ Within
     → length (writtenField f s v at) ≤ widest f l
 unfolding fieldAt writtenField fieldLimits meets
-field-narrow a-number s at v e l u t h k = decimal-narrow v (number-fits s at v e h)
-field-narrow a-wide s at v e l u t h k = decimal-narrow v (number-fits s at v e h)
-field-narrow a-step s at v e l u t h k = let q = signed-fits s at v e h in signed-narrow v (q .0) (q .1)
-field-narrow a-prompt s at v e l u t h k =
+field-narrow a-number s at v e l u n t h k = decimal-narrow v (number-fits s at v e h)
+field-narrow a-wide s at v e l u n t h k = decimal-narrow v (number-fits s at v e h)
+field-narrow a-day s at v e l u n t h k = decimal-narrow v (number-fits s at v e h)
+field-narrow a-step s at v e l u n t h k = let q = signed-fits s at v e h in signed-narrow v (q .0) (q .1)
+field-narrow a-prompt s at v e l u n t h k =
     let q = within-high (l .0) (l .1) v at true k in
     let m = kept-length false s at (v + 2) in
     omega arith
-field-narrow a-text s at v e l u t h k = absurd t
-field-narrow a-name s at v e l u t h k = absurd t
-field-narrow a-star s at v e l u t h k = absurd t
-field-narrow a-mode s at v e l u t h k = kept-length false s at 1
-field-narrow a-side s at v e l u t h k = kept-length false s at 1
-field-narrow a-type s at v e l u t h k = absurd t
-field-narrow a-word s at v e l u t h k = absurd t
-field-narrow some-data s at v e l u t h k = absurd t
-field-narrow (itself p) s at v e l u t h k = rw (plain-written p s v at, p .no-n, p .no-w, p .no-s, p .no-t) (omega arith)
+field-narrow a-text s at v e l u n t h k = absurd t
+field-narrow a-name s at v e l u n t h k = absurd t
+field-narrow a-star s at v e l u n t h k = absurd t
+field-narrow a-mode s at v e l u n t h k = kept-length false s at 1
+field-narrow a-side s at v e l u n t h k = kept-length false s at 1
+field-narrow a-type s at v e l u n t h k = absurd t
+field-narrow a-word s at v e l u n t h k = absurd t
+field-narrow some-data s at v e l u n t h k = absurd t
+field-narrow a-date s at v e l u n t h k = absurd t
+field-narrow a-time s at v e l u n t h k = absurd t
+field-narrow (itself p) s at v e l u n t h k = rw (plain-written p s v at, p .no-n, p .no-w, p .no-y, p .no-s, p .no-t) (omega arith)
 
 unfoldable allNarrow : List ℕ → Bool
 allNarrow [] = true
@@ -385,10 +413,10 @@ first-within (Outside p) b h = absurd (let z : _≡_ {A = ℕ} 0 1 = cc in omega
 
 split-within : (f : ℕ) (fs s ws qs : List ℕ) (v at : ℕ) (vs ps : List ℕ) (ls : List (ℕ × ℕ)) (u : ℕ) → ws ≡ v ∷ vs → qs ≡ at ∷ ps
     → limitsFrom (f ∷ fs) ls s u ws qs ≡ Within
-    → (fieldLimits f (getD ls 0 free) s u v at ≡ Within) × (limitsFrom fs (drop 1 ls) s (cond (isNumber f) v u) vs ps ≡ Within)
+    → (fieldLimits f (getD ls 0 free) s u v at (getD vs 1 0) ≡ Within) × (limitsFrom fs (drop 1 ls) s (cond (isNumber f) v u) vs ps ≡ Within)
 unfolding limitsFrom
 split-within f fs s ws qs v at vs ps ls u a b h =
-    first-within (fieldLimits f (getD ls 0 free) s u v at) (limitsFrom fs (drop 1 ls) s (cond (isNumber f) v u) vs ps) (rw (a, b) at h)
+    first-within (fieldLimits f (getD ls 0 free) s u v at (getD vs 1 0)) (limitsFrom fs (drop 1 ls) s (cond (isNumber f) v u) vs ps) (rw (a, b) at h)
 
 fields-narrow : (fs s : List ℕ) (at : ℕ) (vs ps : List ℕ) (ls : List (ℕ × ℕ)) (u : ℕ) → T (allNarrow fs) → fieldsFrom fs s at ≡ good vs ps
     → limitsFrom fs ls s u vs ps ≡ Within
@@ -399,7 +427,7 @@ fields-narrow (f ∷ fs) s at vs ps ls u t h k =
     let x = fields-split f fs s at vs ps h in
     let n = and-T (narrow f) (allNarrow fs) t in
     let w = split-within f fs s vs ps (x .v) at (x .vs) (x .ps) ls u (x .values) (x .places) k in
-    let a = field-narrow (letter-of f) s at (x .v) (x .e) (getD ls 0 free) u (n .0) (x .first) (w .0) in
+    let a = field-narrow (letter-of f) s at (x .v) (x .e) (getD ls 0 free) u (getD (x .vs) 1 0) (n .0) (x .first) (w .0) in
     let r = fields-narrow fs s (x .e) (x .vs) (x .ps) (drop 1 ls) (cond (isNumber f) (x .v) u) (n .1) (x .others) (w .1) in
     let z = split-length f fs s vs ps (x .v) at (x .vs) (x .ps) (x .values) (x .places) in
     omega arith

@@ -8,6 +8,7 @@ use native.Mathlib.Omega.{arith}
 use native.Mathlib.Decide.{ℕ-discrete, decLt}
 use lib.Dec.{T, ltb, eqb}
 use lib.ListN.{length, getD, drop}
+use lib.Seq.{drop-cons}
 use borrow.Author.Tests.{eq-eqb, ne-eqb, lt-leb}
 use Rattle.kinds.specs.Bytes.{between}
 use Rattle.kinds.specs.Text.{bytes}
@@ -19,30 +20,35 @@ use Rattle.fields.specs.Field.{textAt}
 use Rattle.numbers.specs.Number.{nought}
 use Rattle.elements.specs.Elements.{elements}
 use Rattle.elements.specs.declared.Element.{Element}
+use Rattle.formats.specs.declared.Stamp.the-variants.{Date, Time}
+use Rattle.formats.specs.Formats.{unit, newUnit}
+use Rattle.format_field.specs.Reading.{letter, yearField, monthField, dayField, dateField, timeField}
 use Rattle.reader.specs.Letters.{fieldAt}
 use Rattle.row_fields.specs.Reading.{fieldsFrom, good}
 use Rattle.row_fields.proofs.Rows.{fields-split}
 use Rattle.writing.specs.Writing.{digitByte, decimal, signed, kept, cased}
 use Rattle.normal.specs.Written.{partWritten, whatWritten, dataWritten, wordWritten, writtenField, writtenFrom}
 use Rattle.writing.proofs.Writes.{cased-kept, digits-last}
-use Rattle.normal.proofs.Back.{allIn, T-true, holds-at, number-fits, digits-class, digits-count, letter-fits, text-fits, cased-quotes}
-use Rattle.normal.proofs.Data.{a-text as is-text, a-variable as is-variable, a-counter as is-counter, Chain, ended, then, chain-of, data-inside}
-use Rattle.normal.proofs.Fields.{Letter, letter-of, a-number, a-wide, a-step, a-prompt, a-text, a-name, a-star, a-mode, a-side, a-type, a-word, some-data, itself, Plain, plain-written, TypeFits, one, two, three, ean, type-fits, Word, nothing, left, centre, right, word-fits, placeAhead, placeLast}
+use Rattle.normal.proofs.Back.{allIn, T-true, holds-at, number-fits, digits-class, digits-count, letter-fits, text-fits, format-fits, cased-quotes}
+use Rattle.normal.proofs.Data.{a-text as is-text, a-variable as is-variable, a-counter as is-counter, a-stamp as is-stamp, Chain, ended, then, chain-of, data-inside}
+use Rattle.normal.proofs.Fields.{Letter, letter-of, a-number, a-wide, a-day, a-step, a-prompt, a-text, a-name, a-star, a-mode, a-side, a-type, a-word, some-data, a-date, a-time, itself, Plain, plain-written, TypeFits, one, two, three, ean, type-fits, Word, nothing, left, centre, right, word-fits, placeAhead, placeLast}
 
 -- ---- the bytes that may stand first, by the letters of the grammar
 
 -- in a field of the letter f. A piece that may be absent would have those of its own and then `next`, those that may stand first behind it
 abbrev pub startsOf : ℕ → List ℕ → List ℕ
 startsOf f next =
-    cond (eqb f (code "n") || eqb f (code "w")) (bytes "0123456789")
+    cond (eqb f (code "n") || (eqb f (code "w") || eqb f (code "y"))) (bytes "0123456789")
     (cond (eqb f (code "s")) (bytes "+-")
     (cond (eqb f (code "t") || (eqb f (code "u") || (eqb f (code "a") || eqb f (code "z")))) (bytes "\"")
     (cond (eqb f (code "m")) (bytes "NR")
     (cond (eqb f (code "j")) (bytes "LRCNZ")
     (cond (eqb f (code "k")) (bytes "123E")
     (cond (eqb f (code "h")) (bytes "NB")
-    (cond (eqb f (code "d")) (bytes "\"VC")
-    (f ∷ []))))))))
+    (cond (eqb f (code "d")) (bytes "\"VCT")
+    (cond (eqb f (code "f")) (bytes "YyMmDd")
+    (cond (eqb f (code "g")) (bytes "HhMmSs")
+    (f ∷ []))))))))))
 
 -- in the fields of a form; past the last stands nothing
 unfoldable pub starts : List ℕ → List ℕ
@@ -141,12 +147,48 @@ word-starts v rest centre = tt
 word-starts v rest right = tt
 
 data-starts : {s : List ℕ} {at : ℕ} {es : List Element} (rest : List ℕ) → Chain s at es → at < length s
-    → T (among (getD (dataWritten s es ++ rest) 0 0) (bytes "\"VC"))
+    → T (among (getD (dataWritten s es ++ rest) 0 0) (bytes "\"VCT"))
 unfolding dataWritten whatWritten
 data-starts rest (ended h) l = absurd (omega arith)
 data-starts {s} {at} rest (then (is-text n d h) c) l = rw (text-fits s at n d h .whole) tt
 data-starts rest (then (is-variable k p n h f) c) l = tt
 data-starts rest (then (is-counter k p n h f) c) l = tt
+data-starts rest (then (is-stamp Date) c) l = tt
+data-starts rest (then (is-stamp Time) c) l = tt
+
+-- the first letter of a date's field, of a time's
+date-among : (a b : ℕ) → newUnit 0 0 (unit Date (dateField a b)) ≡ true → T (among a (bytes "YyMmDd"))
+unfolding newUnit unit dateField letter between
+date-among a b h =
+    go (eqb a (code "Y")) (eqb a (code "y")) (eqb a (code "M")) (eqb a (code "m")) (eqb a (code "D")) (eqb a (code "d")) (yearField b) (monthField b) (dayField b) h
+  where
+    go : (a b c d e f : Bool) (x y z : ℕ) → newUnit 0 0 (unit Date (cond (a || b) x (cond (c || d) y (cond (e || f) z 0)))) ≡ true
+        → T (a || (b || (c || (d || (e || (f || false))))))
+    go true b c d e f x y z k = tt
+    go false true c d e f x y z k = tt
+    go false false true d e f x y z k = tt
+    go false false false true e f x y z k = tt
+    go false false false false true f x y z k = tt
+    go false false false false false true x y z k = tt
+    go false false false false false false x y z k = absurd (false≢true k)
+
+time-among : (a : ℕ) → newUnit 0 0 (unit Time (timeField a)) ≡ true → T (among a (bytes "HhMmSs"))
+unfolding newUnit unit timeField letter between
+time-among a h = go (eqb a (code "H")) (eqb a (code "h")) (eqb a (code "M")) (eqb a (code "m")) (eqb a (code "S")) (eqb a (code "s")) h
+  where
+    go : (a b c d e f : Bool) → newUnit 0 0 (unit Time (cond (a || b) 1 (cond (c || d) 2 (cond (e || f) 3 0)))) ≡ true
+        → T (a || (b || (c || (d || (e || (f || false))))))
+    go true b c d e f k = tt
+    go false true c d e f k = tt
+    go false false true d e f k = tt
+    go false false false true e f k = tt
+    go false false false false true f k = tt
+    go false false false false false true k = tt
+    go false false false false false false k = absurd (false≢true k)
+
+-- what stays to the end of the line starts with the byte at its place
+rest-starts : (s : List ℕ) (at : ℕ) (rest ls : List ℕ) → at < length s → T (among (getD s at 0) ls) → T (among (getD (cased false (drop at s) ++ rest) 0 0) ls)
+rest-starts s at rest ls l h = rw (cased-kept (drop at s), drop-cons s at 0 l) h
 
 above-two : (n : ℕ) → eqb (suc (suc (suc n))) 2 ≡ false
 above-two n = ne-eqb (suc (suc (suc n))) 2 (λ e. omega (arith, e))
@@ -158,13 +200,15 @@ unfolding dataWritten whatWritten
 data-placeless (ended h) l = absurd (omega arith)
 data-placeless {s} {at} (then (is-text n d h) c) l = rw (text-fits s at n d h .whole) (refl, refl)
 data-placeless (then (is-variable k p n h f) c) l = (refl, refl)
+data-placeless (then (is-stamp Date) c) l = (refl, refl)
+data-placeless (then (is-stamp Time) c) l = (refl, refl)
 data-placeless {s} (then {es = es} (is-counter k p n h f) c) l =
     rw (digits-last 19 k [] (omega arith)) (ne-eqb (digitByte k) (code ",") (λ e. omega arith), above-two (length (partWritten p ++ dataWritten s es)))
 
 plain-starts : {f : ℕ} (p : Plain f) (s : List ℕ) (v q : ℕ) (rest next : List ℕ) → T (among (getD (writtenField f s v q ++ rest) 0 0) (startsOf f next))
 plain-starts {f} p s v q rest next =
     let e : startsOf f next ≡ f ∷ [] =
-    simp (p .no-n, p .no-w, p .no-s, p .no-t, p .no-u, p .no-a, p .no-z, p .no-m, p .no-j, p .no-k, p .no-h, p .no-d) in
+    simp (p .no-n, p .no-w, p .no-y, p .no-s, p .no-t, p .no-u, p .no-a, p .no-z, p .no-m, p .no-j, p .no-k, p .no-h, p .no-d, p .no-f, p .no-g) in
     rw (plain-written p s v q, e, eq-eqb f f refl) tt
 
 pub field-starts : {f : ℕ} (x : Letter f) (s : List ℕ) (at v e : ℕ) (rest next : List ℕ) → fieldAt f s at ≡ Is v e → T (among (getD rest 0 0) next)
@@ -172,6 +216,7 @@ pub field-starts : {f : ℕ} (x : Letter f) (s : List ℕ) (at v e : ℕ) (rest 
 unfolding fieldAt writtenField
 field-starts a-number s at v e rest next h k = number-starts v rest (number-fits s at v e h)
 field-starts a-wide s at v e rest next h k = number-starts v rest (number-fits s at v e h)
+field-starts a-day s at v e rest next h k = number-starts v rest (number-fits s at v e h)
 field-starts a-step s at v e rest next h k = step-starts v rest
 field-starts a-prompt s at v e rest next h k = text-starts false s at v e rest h
 field-starts a-text s at v e rest next h k = text-starts false s at v e rest h
@@ -182,6 +227,12 @@ field-starts a-side s at v e rest next h k = let q = letter-fits Side s at v e h
 field-starts a-type s at v e rest next h k = type-starts s at v rest (type-fits s at v e h)
 field-starts a-word s at v e rest next h k = word-starts v rest (word-fits s at v e h .letter)
 field-starts some-data s at v e rest next h k = data-starts rest (chain-of s at v e h) (data-inside s at v e h .1)
+field-starts a-date s at v e rest next h k =
+    let q = format-fits Date s at v e h in
+    rest-starts s at rest (bytes "YyMmDd") (omega arith) (date-among (getD s at 0) (getD s (at + 1) 0) (q .letters))
+field-starts a-time s at v e rest next h k =
+    let q = format-fits Time s at v e h in
+    rest-starts s at rest (bytes "HhMmSs") (omega arith) (time-among (getD s at 0) (q .letters))
 field-starts (itself p) s at v e rest next h k = plain-starts p s v at rest next
 
 -- ---- the fields of a form

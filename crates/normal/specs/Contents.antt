@@ -16,7 +16,7 @@ use Rattle.heads.specs.Heads.{headOf}
 use Rattle.heads.specs.declared.Head.{Head}
 use Rattle.heads.specs.declared.Head.the-variants.{Row, Unknown}
 use Rattle.grammar.specs.declared.Item.{Item}
-use Rattle.grammar.specs.declared.Item.the-variants.{Origin, Variable, Counter, Text, Bars, Box, Frame, Slant, Picture}
+use Rattle.grammar.specs.declared.Item.the-variants.{Origin, Variable, Counter, Text, Bars, Box, Frame, Slant, Picture, Format}
 use Rattle.writing.specs.Writing.{kept, cased}
 use Rattle.normal.specs.Written.{elementWritten}
 
@@ -30,6 +30,7 @@ unplaced (Bars x) = Bars (record { x = x .x; y = x .y; r = x .r; kind = x .kind;
 unplaced (Box b) = Box b
 unplaced (Frame f) = Frame f
 unplaced (Slant l) = Slant l
+unplaced (Format f) = Format f
 unplaced (Picture x) = Picture (record { a = x .a; b = x .b; at = 0; length = x .length })
 
 -- the elements of data: what each is, and its bytes as they are written

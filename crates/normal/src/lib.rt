@@ -12,12 +12,13 @@ ghost use lib.Dec.{eqb};
 ghost use Rattle.elements.specs.Elements.{elements};
 ghost use Rattle.grammar.specs.Forms.{rowOf, Form};
 ghost use Rattle.writing.specs.Writing.{Wrote, decimal, cased, kept};
-ghost use Rattle.normal.specs.Written.{partWritten, whatWritten, dataWritten, placedWritten, wordWritten, writtenField, writtenFrom, normal};
+ghost use Rattle.normal.specs.Written.{partWritten, stampWritten, whatWritten, dataWritten, placedWritten, wordWritten, writtenField, writtenFrom, normal};
 use elements::Part;
 use elements::Step;
 use elements::What;
 use elements::element_at;
 use fields::word;
+use formats::Stamp;
 use grammar::table::line_up;
 use heads::Head;
 use heads::head_of;
@@ -64,6 +65,18 @@ fn put_held(letter: u8, k: usize, part: Part, out: &mut [u8], at: usize) -> usiz
     put_part(part, out, next)
 }
 
+// Writes the two letters of the date or of the time of day.
+fn put_stamp(stamp: Stamp, out: &mut [u8], at: usize) -> usize
+    requires { ⌜ at ≤ length (now out) ⌝ }
+    ensures { λ r. ⌜ Wrote (now (out .entry)) at (stampWritten stamp) r (now (out .exit)) ⌝ }
+{
+    let next = put(out, at, b'T');
+    match stamp {
+        Stamp::Date => put(out, next, b'D'),
+        Stamp::Time => put(out, next, b'T'),
+    }
+}
+
 // Writes an element of the line.
 fn put_element(
     line: &[u8],
@@ -80,6 +93,7 @@ fn put_element(
         What::Text => copy(first(rest(line, from), count), false, out, at),
         What::Variable(k, part) => put_held(b'V', k, part, out, at),
         What::Counter(k, part) => put_held(b'C', k, part, out, at),
+        What::Stamped(stamp) => put_stamp(stamp, out, at),
     }
 }
 
@@ -150,6 +164,7 @@ fn put_field(line: &[u8], f: u8, v: usize, p: usize, out: &mut [u8], at: usize) 
     match f {
         b'n' => put_decimal(v, out, at),
         b'w' => put_decimal(v, out, at),
+        b'y' => put_decimal(v, out, at),
         b't' => put_text(line, p, v, false, out, at),
         b'u' => put_text(line, p, v, false, out, at),
         b'a' => put_text(line, p, v, true, out, at),
@@ -160,6 +175,8 @@ fn put_field(line: &[u8], f: u8, v: usize, p: usize, out: &mut [u8], at: usize) 
         b'k' => copy(first(rest(line, p), type_length(v)), false, out, at),
         b'h' => put_word(v, out, at),
         b'd' => put_data(line, p, out, at),
+        b'f' => copy(rest(line, p), false, out, at),
+        b'g' => copy(rest(line, p), false, out, at),
         _ => put(out, at, f),
     }
 }

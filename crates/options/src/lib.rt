@@ -1,8 +1,13 @@
-// The words of the command line: what each option is, the number of rows, and what -fits asks for.
+// The words of the command line: what each option is, the number of rows, the zone, and what -fits asks for.
 ghost use mathlib.Core.Path.{_≡_};
-ghost use Rattle.options.specs.Options.{wordOf, wholeNumber, rowsOf, kindOf};
+ghost use Rattle.options.specs.Options.{wordOf, wholeFrom, wholeNumber, rowsOf, zoneOf, kindOf};
 use fields::Field;
+use ground::both;
+use numbers::NOUGHT;
 use writing::same;
+
+// The minutes of a day but one.
+const MOST_MINUTES: usize = 1439;
 
 pub enum Word {
     Rows,
@@ -10,6 +15,8 @@ pub enum Word {
     Out,
     Store,
     Quiet,
+    Zone,
+    NoClock,
     Fits,
     Unknown,
     File,
@@ -47,6 +54,12 @@ pub fn word_of(text: &[u8]) -> Word
     if same(text, b"-quiet") {
         return Word::Quiet;
     }
+    if same(text, b"-zone") {
+        return Word::Zone;
+    }
+    if same(text, b"-noclock") {
+        return Word::NoClock;
+    }
     if same(text, b"-fits") {
         return Word::Fits;
     }
@@ -56,17 +69,24 @@ pub fn word_of(text: &[u8]) -> Word
     Word::File
 }
 
-// A number of 1 to 9 digits that fills the text.
-pub fn whole_number(text: &[u8]) -> Number
-    ensures { λ r. ⌜ r ≡ wholeNumber (now (text .entry)) ⌝ }
+// A number that was found at the front of a text, where it fills it.
+fn filling(text: &[u8], found: Field) -> Number
+    ensures { λ r. ⌜ r ≡ wholeFrom (now (text .entry)) found ⌝ }
 {
-    let Field::Is(n, end) = numbers::number(text, 0) else {
+    let Field::Is(n, end) = found else {
         return Number::Nothing;
     };
     if end < text.len() {
         return Number::Nothing;
     }
     Number::Of(n)
+}
+
+// A number of 1 to 9 digits that fills the text.
+pub fn whole_number(text: &[u8]) -> Number
+    ensures { λ r. ⌜ r ≡ wholeNumber (now (text .entry)) ⌝ }
+{
+    filling(text, numbers::number(text, 0))
 }
 
 // A number of rows, 1 to 4,000, written in decimal; 0 where the text is none.
@@ -80,6 +100,19 @@ pub fn rows(text: &[u8]) -> usize
         return 0;
     }
     n
+}
+
+// A zone in minutes ahead of UTC, with or without sign and less than a day, as a number with a sign counts; 0 where the text is none.
+pub fn zone(text: &[u8]) -> usize
+    ensures { λ r. ⌜ r ≡ zoneOf (now (text .entry)) ⌝ }
+{
+    let Number::Of(v) = filling(text, numbers::signed(text, 0)) else {
+        return 0;
+    };
+    if both(NOUGHT - MOST_MINUTES <= v, v <= NOUGHT + MOST_MINUTES) {
+        return v;
+    }
+    0
 }
 
 // What the word behind -fits asks for.

@@ -6,6 +6,13 @@ use native.Mathlib.Omega.{arith}
 use native.Mathlib.Decide.{decLe}
 use lib.ListN.{length, take, drop, replicate, length-append, length-replicate}
 use lib.Seq.{sets, sets-eq, length-sets, take-at}
+use Rattle.calendar.specs.declared.Clock.{Clock}
+use Rattle.formats.specs.declared.Format.{Format}
+use Rattle.formats.specs.declared.Stamp.{Stamp}
+use Rattle.stamps.specs.declared.Text.{Text}
+use Rattle.stamps.specs.Texts.{stampText}
+use Rattle.stamps.specs.Laying.{laid as laidText}
+use Rattle.stamps.proofs.Shown.{stamp-front}
 use Rattle.elements.specs.declared.What.{What}
 use Rattle.elements.specs.declared.Element.{Element}
 use Rattle.ground.proofs.Stores.{sets-out, sets-append}
@@ -29,6 +36,9 @@ digits-front n w h =
 
 pub counter-shown : (g : List ℕ) (n w m x : ℕ) → g ≡ digitsOf n w → w ≡ min x 9 → n ≡ m → take w g ≡ digits (min x 9) m
 counter-shown g n w m x p q r = rw p (digits-front n w (omega arith) ∙ rw (q, r))
+
+pub stamp-shown : (t : Text) (st : Stamp) (c : Clock) (f g : Format) → t ≡ laidText (stampText st c f) → f ≡ g → take (t .length) (t .bytes) ≡ stampText st c g
+stamp-shown t st c f g p q = rw (p, q) (stamp-front st c g)
 
 -- ---- what is laid out
 

@@ -4,10 +4,13 @@ use Prim.Native.Nat.{ℕ, _+_, _-_, min}
 use mathlib.Core.List.{List, [], _∷_, _++_}
 use lib.ListN.{length, take, drop}
 use lib.Seq.{sets}
+use Rattle.calendar.specs.declared.Clock.{Clock}
+use Rattle.formats.specs.Formats.{formatOf}
+use Rattle.stamps.specs.Texts.{stampText}
 use Rattle.elements.specs.declared.Part.{Part}
 use Rattle.elements.specs.declared.Part.the-variants.{Whole, First, Last, Middle}
 use Rattle.elements.specs.declared.What.{What}
-use Rattle.elements.specs.declared.What.the-variants.{Text, Variable, Counter}
+use Rattle.elements.specs.declared.What.the-variants.{Text, Variable, Counter, Stamped}
 use Rattle.elements.specs.declared.Element.{Element}
 use Rattle.elements.specs.Elements.{elements}
 use Rattle.declarations.specs.declared.Declared.{Declared}
@@ -34,6 +37,7 @@ abbrev pub pieceFrom : What → List ℕ → List ℕ → Element → List ℕ
 pieceFrom Text line value e = textIn line e
 pieceFrom (Variable k p) line value e = partOf p value
 pieceFrom (Counter k p) line value e = partOf p value
+pieceFrom (Stamped st) line value e = value
 
 -- "Each piece is shown as a part of the line or of the value"
 unfoldable pub pieceOf : List ℕ → List ℕ → Element → List ℕ
@@ -41,16 +45,18 @@ pieceOf line value e = pieceFrom (e .what) line value e
 
 -- ---- data
 
--- a set of values: each variable's stored bytes, each counter's number
+-- a set of values: each variable's stored bytes, each counter's number, and the clock
 pub record Values : Type 0 where
   pub variable : ℕ → List ℕ
   pub counter : ℕ → ℕ
+  pub clock : Clock
 
--- the value that an element shows a part of; "a counter's is a part of its digits"
+-- the value that an element shows a part of; "a counter's is a part of its digits". Date and time are shown whole, in the format in force
 abbrev pub valueOf : Declared → Values → What → List ℕ
 valueOf d v Text = []
 valueOf d v (Variable k p) = v .variable k
 valueOf d v (Counter k p) = digits (widthAt d k) (v .counter k)
+valueOf d v (Stamped st) = stampText st (v .clock) (formatOf (d .formats) st)
 
 -- what an element shows of a set of values
 abbrev pub pieceAt : List ℕ → Declared → Values → Element → List ℕ
@@ -67,9 +73,9 @@ dataOf line at d v = assembled line d v (elements line at)
 
 -- ---- in a row of bytes
 
--- the values that are lent, and the session's counters
-abbrev pub valuesIn : List ℕ → Counters → Values
-valuesIn values c = record { variable = variableIn values; counter = counterValue c }
+-- the values that are lent, the session's counters and its clock
+abbrev pub valuesIn : List ℕ → Counters → Clock → Values
+valuesIn values c clock = record { variable = variableIn values; counter = counterValue c; clock = clock }
 
 -- serves the code alone, as the rest of this file. How far a row of bytes is filled, and the row
 pub record Laid : Type 0 where

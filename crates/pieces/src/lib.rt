@@ -2,10 +2,11 @@
 //
 // "One or more elements side by side": "Each piece is shown as a part of the line or of the value; a counter's is a part of its digits." `piece` hands such
 // a part back as it lies, in the line or in the value, and `assemble` lays the pieces of a line's data one behind another, for the values that are
-// lent and the session's counters. What is laid is the definition's data (specs/Data.antt), whatever the line and the values hold. The elements of a
+// lent, the session's counters and its clock. What is laid is the definition's data (specs/Data.antt), whatever the line and the values hold. The elements of a
 // line are read in crate `fields`, and which data may stand in a form is judged in crate `fitness`.
 ghost use mathlib.Core.Path.{_≡_};
 ghost use Rattle.pieces.specs.Data.{partOf, pieceOf, pieceAt, dataOf, valuesIn, row, shown, lay};
+use calendar::Clock;
 use counters::Counters;
 use counters::digits_of;
 use declarations::Declared;
@@ -18,6 +19,7 @@ use ground::front;
 use ground::least;
 use ground::less;
 use ground::put;
+use stamps::stamp_text;
 use stored_values::variable_at;
 
 // What a modifier takes of a value.
@@ -41,6 +43,7 @@ pub fn piece<'a>(line: &'a [u8], value: &'a [u8], e: Element) -> &'a [u8]
         What::Text => front(back(back(line, e.at), 1), less(e.length, 2)),
         What::Variable(_, p) => part_of(value, p),
         What::Counter(_, p) => part_of(value, p),
+        What::Stamped(_) => value,
     }
 }
 
@@ -60,11 +63,12 @@ fn lay_element<'a>(
     d: Declared,
     values: &'a [u8],
     c: Counters,
+    clock: Clock,
     e: Element,
     out: &mut [u8],
     at: usize,
 ) -> usize
-    ensures { λ r. ⌜ row r (now (out .exit)) ≡ lay (pieceAt (now (line .entry)) d (valuesIn (now (values .entry)) c) e) (row at (now (out .entry))) ⌝ }
+    ensures { λ r. ⌜ row r (now (out .exit)) ≡ lay (pieceAt (now (line .entry)) d (valuesIn (now (values .entry)) c clock) e) (row at (now (out .entry))) ⌝ }
 {
     let what = e.what;
     match what {
@@ -74,6 +78,11 @@ fn lay_element<'a>(
             let w = d.width_at(k);
             let digits = digits_of(c.value_at(k), w);
             lay_piece(out, at, piece(line, front(&digits, w), e))
+        }
+        What::Stamped(stamp) => {
+            let formats = d.formats;
+            let text = stamp_text(stamp, clock, formats.of(stamp));
+            lay_piece(out, at, piece(line, front(&text.bytes, text.length), e))
         }
     }
 }
@@ -85,9 +94,10 @@ pub fn assemble<'a>(
     d: Declared,
     values: &'a [u8],
     c: Counters,
+    clock: Clock,
     out: &mut [u8],
 ) -> usize
-    ensures { λ r. ⌜ row r (now (out .exit)) ≡ shown (dataOf (now (line .entry)) at d (valuesIn (now (values .entry)) c)) (now (out .entry)) ⌝ }
+    ensures { λ r. ⌜ row r (now (out .exit)) ≡ shown (dataOf (now (line .entry)) at d (valuesIn (now (values .entry)) c clock)) (now (out .entry)) ⌝ }
 {
     let mut n: usize = 0;
     let mut i = at;
@@ -95,7 +105,7 @@ pub fn assemble<'a>(
         let Step::Next(e) = elements::element_at(line, i) else {
             return n;
         };
-        n = lay_element(line, d, values, c, e, out, n);
+        n = lay_element(line, d, values, c, clock, e, out, n);
         i = e.at + e.length;
     }
     n

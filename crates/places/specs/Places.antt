@@ -1,9 +1,9 @@
 -- "While recording only R, V, C, A, B, LO, LE, LW, X, GG and FE have a place; otherwise all but V, C and FE." Paper 02, §8:
--- "LS may be recorded."
+-- "LS may be recorded." §10: "TD and TT may be recorded", "TS has no place while recording."
 -- Assumes nothing.
 use mathlib.Core.Bool.{Bool, true, false, not}
 use Rattle.grammar.specs.declared.Command.{Command}
-use Rattle.grammar.specs.declared.Command.the-variants.{Item as item, End, Page, Forms, Pictures, Values, Listing}
+use Rattle.grammar.specs.declared.Command.the-variants.{Item as item, End, Page, Forms, Pictures, Values, Listing, Clock}
 use Rattle.recording.specs.Judged.{declaration}
 
 -- whether a command has a place while a form is recorded, and whether otherwise
@@ -25,3 +25,4 @@ placesOf (Forms c) = outside
 placesOf (Pictures c) = outside
 placesOf (Values c) = outside
 placesOf (Listing c) = outside
+placesOf (Clock c) = outside

@@ -149,7 +149,7 @@ place-no-data s i n h = go (ℕ-discrete (getD s i 0) (code "C"))
         stop (pointed s i (i + 1)) (element-counter s i e ∙ held-other s i (omega arith) true s z)
     go (no c) =
         let e = place (getD s i 0) c h in
-        stop i (element-none s i (λ q. omega arith) (λ q. omega arith) (λ q. omega arith))
+        stop i (element-none s i (λ q. omega arith) (λ q. omega arith) (λ q. omega arith) (λ q. omega arith))
 
 cut-wrong : (s : List ℕ) (at : ℕ) → placeCut s at ≡ true → Wrong (plainFieldsFrom (code "," ∷ (code "d" ∷ [])) s (at + 1))
 unfolding plainFieldsFrom plainFieldAt

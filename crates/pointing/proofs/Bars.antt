@@ -1,4 +1,4 @@
--- Data, which ends a row, and what stands under bars, with the data behind it.
+-- What stands under bars, with the data behind it, which ends a row.
 use mathlib.Core.Path.{_≡_, _∙_, refl, sym}
 use mathlib.Core.Bool.{false}
 use mathlib.Core.List.{List, [], _∷_, _++_, append-nil}
@@ -13,47 +13,19 @@ use Rattle.classes.proofs.Laws.{past}
 use Rattle.fields.specs.Field.{stopOf, isPlace, wordTo, byteAt, underAt}
 use Rattle.fields.specs.declared.Field.{Field}
 use Rattle.fields.specs.declared.Field.the-variants.{Is, Not}
-use Rattle.data_field.specs.Data.{dataAt}
 use Rattle.reader.specs.Letters.{fieldAt}
 use Rattle.row_fields.specs.Reading.{fieldsFrom}
 use Rattle.pointing.proofs.Pieces.{Sits, comma}
 use Rattle.pointing.proofs.Texts.{byte-here}
 use Rattle.pointing.proofs.Words.{word-sits, word-firm, word-is, word-not, word-ended, word-behind}
-use Rattle.pointing.proofs.Data.{data-piece, data-empty, data-rest}
+use Rattle.pointing.proofs.Data.{quotes, data-last}
 use Rattle.pointing.proofs.Under.{Below, letter, place, none, absent, cut, begun, below, under-nothing}
-use Rattle.pointing.proofs.Points.{Good, Faulty, Where, here, later, where-of, good-later, Finished, Points, none-fault, none-good, points-none, sits-within, firm-within, filled, go-on, points-byte}
-
--- ---- data
-pub is-data : (s : List ℕ) (at : ℕ) → fieldAt (code "d") s at ≡ dataAt s at
-unfolding fieldAt
-is-data s at = refl
-
-abbrev quotes : List ℕ
-quotes = code "\"" ∷ (code "\"" ∷ [])
+use Rattle.pointing.proofs.Points.{Good, Faulty, Where, here, later, where-of, good-later, Finished, Points, sits-within, firm-within, filled, go-on, points-byte, points-last}
 
 -- data at the end of a row points rightly
 pub points-data : Points (code "d" ∷ []) quotes
-points-data =
-    record {
-      within = λ s at p h k. sits-within (code "d") [] [] points-none s at p (rw (is-data s at) (data-piece .sits s at h)) k;
-      firm = λ s m at p h k l.
-          firm-within (code "d") [] [] points-none s m at p (rw (is-data s at) (data-piece .sits s at h))
-          (λ i. is-data (s ++ m) at ∙ data-piece .firm s m at h (rw (is-data s at) at i) ∙ sym (is-data s at))
-          k
-          l;
-      fills = λ s. filled (code "d") [] [] points-none s quotes (length s) 0 (is-data (s ++ quotes) (length s) ∙ data-empty s);
-      soon = soon;
-    }
-  where
-    soon : (s : List ℕ) (at : ℕ) → at ≤ length s → Faulty (fieldsFrom (code "d" ∷ []) s at) (length s) → Finished (code "d" ∷ []) s at
-    soon s at h k = go (where-of (code "d") [] s at (length s) k)
-      where
-        go : Where (code "d") [] s at (length s) → Finished (code "d" ∷ []) s at
-        go (here e) =
-            let r = data-rest s at h (sym (is-data s at) ∙ e) in
-            let t : List ℕ = s ++ r .tail in
-            record { more = r .tail; whole = good-later (code "d") [] t at 0 (length t) (is-data t at ∙ r .whole) (none-good t) }
-        go (later v e q r) = absurd (let z = none-fault s e (length s) r in z .1 (z .0))
+unfolding fieldAt
+points-data = points-last (code "d") quotes data-last
 
 -- ---- under bars
 pub is-under : (s : List ℕ) (at : ℕ) → fieldAt (code "h") s at ≡ underAt s at

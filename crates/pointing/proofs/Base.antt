@@ -17,17 +17,17 @@ use Rattle.heads.specs.declared.Head.the-variants.{Row, Unknown}
 use Rattle.row_fields.specs.Reading.{Got, good, bad, fieldsFrom}
 use Rattle.read.specs.Commands.{judged, headed, readOf}
 use Rattle.pointing.specs.Base.{plainFieldAt, plainFieldsFrom, plainHeaded, plainReadOf, placeless}
-use Rattle.pointing.proofs.Rows.{ending, last, thenData, then-data, fine, every-fine, both-no}
+use Rattle.pointing.proofs.Rows.{toEnd, ending, last, thenData, then-data, fine, every-fine, both-no}
 use Rattle.pointing.proofs.Alike.{Alike, Close, equal, close-cond, close-alike, letter-close, type-close, signed-close, under-close}
 
 -- ---- the letters of a row
 
 -- the letter c of a field is followed by a comma, or by nothing
-ends-at : (c f : ℕ) (fs : List ℕ) → eqb c (code "h") ≡ false → eqb c (code "d") ≡ false → isField c ≡ true → T (fine (f ∷ fs)) → eqb f c ≡ true → T (ending fs)
+ends-at : (c f : ℕ) (fs : List ℕ) → eqb c (code "h") ≡ false → toEnd c ≡ false → isField c ≡ true → T (fine (f ∷ fs)) → eqb f c ≡ true → T (ending fs)
 unfolding fine
 ends-at c f fs p q r h e =
     let k : T (fine (c ∷ fs)) = rw (eqb-true f c e) at h in
-    let x = both-no (eqb c (code "h")) (eqb c (code "d")) (thenData fs) (last fs) ((ending fs || not (isField c)) && fine fs) p q k in
+    let x = both-no (eqb c (code "h")) (toEnd c) (thenData fs) (last fs) ((ending fs || not (isField c)) && fine fs) p q k in
     let y = and-T (ending fs || not (isField c)) (fine fs) x .0 in
     go (ending fs) (rw r at y)
   where
@@ -41,7 +41,7 @@ under-at f fs h e = then-data fs (let k : T (fine (code "h" ∷ fs)) = rw (eqb-t
 
 fine-tail : (f : ℕ) (fs : List ℕ) → T (fine (f ∷ fs)) → T (fine fs)
 unfolding fine
-fine-tail f fs h = go (eqb f (code "h")) (eqb f (code "d")) h
+fine-tail f fs h = go (eqb f (code "h")) (toEnd f) h
   where
     done : (fs : List ℕ) → T (last fs) → T (fine fs)
     done [] k = tt
@@ -55,7 +55,7 @@ fine-tail f fs h = go (eqb f (code "h")) (eqb f (code "d")) h
 field-close : (f : ℕ) (fs : List ℕ) → T (fine (f ∷ fs)) → (s : List ℕ) (at : ℕ) → Close fs s (fieldAt f s at) (plainFieldAt f s at)
 unfolding fieldAt plainFieldAt
 field-close f fs h s at =
-    close-cond fs s _ _ _ _ (eqb f (code "n") || eqb f (code "w")) (λ e. equal _)
+    close-cond fs s _ _ _ _ (eqb f (code "n") || (eqb f (code "w") || eqb f (code "y"))) (λ e. equal _)
     (λ e.
     close-cond fs s _ _ _ _ (eqb f (code "t") || (eqb f (code "a") || (eqb f (code "z") || eqb f (code "u")))) (λ e. equal _)
     (λ e.

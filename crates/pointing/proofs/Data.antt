@@ -18,7 +18,7 @@ use Rattle.elements.proofs.Steps.{Took, element-took, element-past}
 use Rattle.data_field.specs.Data.{total, dataAt}
 use Rattle.data_field.proofs.Steps.{total-next, data-stop, data-end, data-past}
 use Rattle.pointing.proofs.Runs.{longer}
-use Rattle.pointing.proofs.Pieces.{Sits, Piece}
+use Rattle.pointing.proofs.Pieces.{Sits, LastRest, Last}
 use Rattle.pointing.proofs.Texts.{text-empty}
 use Rattle.pointing.proofs.Elements.{stepStop, element-text, element-steps}
 
@@ -109,41 +109,40 @@ data-firm s m at h k = go (elements-of s at)
         data-stop (s ++ m) i at p (walk-total (walk-firm m l w)) (longer s m i l) f ∙ sym e
     go (none l e) = absurd (let z : at < length s = rw e at k in omega arith)
 
--- what stops before the line ends stops there whatever follows
-pub data-piece : Piece dataAt
-data-piece = record { sits = data-sits; firm = data-firm }
-
 -- an element that ends with the line, behind others
 ended : (s : List ℕ) (at i : ℕ) (e : Element) → at < length s → Walk s at i → elementAt s i ≡ Next e → after e ≡ length s → dataAt s at ≡ Is 0 (length s)
 ended s at i e l w h k = data-end s (after e) at (walk-total w ∙ total-next s i e h) l k ∙ ap (Is 0) k
 
--- an empty text as data behind s
-pub data-empty : (s : List ℕ) → dataAt (s ++ (code "\"" ∷ (code "\"" ∷ []))) (length s) ≡ Is 0 (length s + 2)
+-- an empty text
+abbrev pub quotes : List ℕ
+quotes = code "\"" ∷ (code "\"" ∷ [])
+
+-- as data behind s
+data-empty : (s : List ℕ) → dataAt (s ++ quotes) (length s) ≡ Is 0 (length s + 2)
 data-empty s =
-    let t : List ℕ = s ++ (code "\"" ∷ (code "\"" ∷ [])) in
+    let t : List ℕ = s ++ quotes in
     let n : length t ≡ length s + 2 = simp length-append in
     let x : Element = record { what = Text; at = length s; length = 2 } in
     let h : elementAt t (length s) ≡ Next x = element-text t (length s) (getD-append-seam s (code "\"") (code "\"" ∷ []) 0) ∙ rw (text-empty s []) in
     ended t (length s) (length s) x (omega arith) here h (sym n) ∙ ap (Is 0) n
 
--- what makes data whole that ends too soon
-pub record DataRest (s : List ℕ) (at : ℕ) : Type 0 where
-  pub tail : List ℕ
-  pub whole : dataAt (s ++ tail) at ≡ Is 0 (length (s ++ tail))
-
 -- data that the line cuts off can be made whole
-pub data-rest : (s : List ℕ) (at : ℕ) → at ≤ length s → dataAt s at ≡ Not (length s) → DataRest s at
+data-rest : (s : List ℕ) (at : ℕ) → at ≤ length s → dataAt s at ≡ Not (length s) → LastRest dataAt s at
 data-rest s at h k = go (elements-of s at)
   where
-    go : Elements s at → DataRest s at
+    go : Elements s at → LastRest dataAt s at
     go (all l e) = absurd (let z : _≡_ {A = ℕ} 0 1 = cc in omega arith)
     go (some i p w l q e) =
         let j : p ≡ length s = cc in
         let r = element-steps s i l .rest (rw j at q) in
         let n : after (r .element) ≡ length (s ++ r .tail) = simp length-append (r .ends) in
         let c = walk-low w in
-        record { tail = r .tail; whole = ended (s ++ r .tail) at i (r .element) (longer s (r .tail) at (omega arith)) (walk-firm (r .tail) l w) (r .whole) n }
+        record { tail = r .tail; value = 0; whole = ended (s ++ r .tail) at i (r .element) (longer s (r .tail) at (omega arith)) (walk-firm (r .tail) l w) (r .whole) n }
     go (none l e) =
         let j : at ≡ length s = omega arith in
-        let n : length (s ++ (code "\"" ∷ (code "\"" ∷ []))) ≡ length s + 2 = simp length-append in
-        record { tail = code "\"" ∷ (code "\"" ∷ []); whole = rw j (data-empty s ∙ ap (Is 0) (sym n)) }
+        let n : length (s ++ quotes) ≡ length s + 2 = simp length-append in
+        record { tail = quotes; value = 0; whole = rw j (data-empty s ∙ ap (Is 0) (sym n)) }
+
+-- what is asked of a field that runs to the end of its line holds of data
+pub data-last : Last dataAt quotes
+data-last = record { piece = record { sits = data-sits; firm = data-firm }; value = 0; empty = data-empty; rest = data-rest }

@@ -15,9 +15,11 @@ use Rattle.fields.specs.Field.{pointed, textAt}
 use Rattle.fields.specs.declared.Field.{Field}
 use Rattle.fields.specs.declared.Field.the-variants.{Is, Not}
 use Rattle.fields.proofs.Laws.{text-ends}
-use Rattle.elements.specs.Elements.{modifierAt, quotedFrom, heldFrom, modified, heldAt, elementAt, after}
+use Rattle.elements.specs.Elements.{modifierAt, quotedFrom, heldFrom, modified, heldAt, stampedFrom, stampedAt, elementAt, after}
 use Rattle.elements.specs.declared.Part.the-variants.{Whole}
-use Rattle.elements.specs.declared.What.the-variants.{Text}
+use Rattle.elements.specs.declared.What.the-variants.{Text, Stamped}
+use Rattle.formats.specs.declared.Stamp.{Stamp}
+use Rattle.formats.specs.declared.Stamp.the-variants.{Date, Time}
 use Rattle.elements.specs.declared.Element.{Element}
 use Rattle.elements.specs.declared.Step.{Step}
 use Rattle.elements.specs.declared.Step.the-variants.{Next, Stop}
@@ -190,6 +192,63 @@ module _ (s : List ℕ) (at : ℕ) (h : at < length s) where
                 };
           }
 
+  -- after `T`
+  stamped-date : (t : List ℕ) → getD t (at + 1) 0 ≡ code "D" → stampedAt t at ≡ stampedFrom at Date
+  unfolding stampedAt
+  stamped-date t e = rw e
+
+  stamped-time : (t : List ℕ) → getD t (at + 1) 0 ≡ code "T" → stampedAt t at ≡ stampedFrom at Time
+  unfolding stampedAt
+  stamped-time t e = rw e
+
+  stamped-other : (t : List ℕ) → (getD t (at + 1) 0 ≡ code "D" → ⊥) → (getD t (at + 1) 0 ≡ code "T" → ⊥) → stampedAt t at ≡ Stop (pointed t at (at + 1))
+  unfolding stampedAt
+  stamped-other t a b = rw (ne-eqb (getD t (at + 1) 0) (code "D") a, ne-eqb (getD t (at + 1) 0) (code "T") b)
+
+  stamped-steps : Steps s at (λ t. stampedAt t at)
+  stamped-steps = go (decLt (at + 1) (length s)) (ℕ-discrete (getD s (at + 1) 0) (code "D")) (ℕ-discrete (getD s (at + 1) 0) (code "T"))
+    where
+      -- both letters stand there
+      there : (st : Stamp) → at + 1 < length s → ((m : List ℕ) → stampedAt (s ++ m) at ≡ stampedFrom at st) → Steps s at (λ t. stampedAt t at)
+      there st l z =
+          let y : stampedAt s at ≡ stampedFrom at st = rw append-nil at (z []) in
+          record {
+            low = rw y (omega arith);
+            high = rw y (omega arith);
+            firm = λ m k. z m ∙ sym y;
+            rest = λ k. absurd (let w : _≡_ {A = ℕ} 0 1 = cc in omega arith);
+          }
+
+      go : Dec (at + 1 < length s) → Dec (getD s (at + 1) 0 ≡ code "D") → Dec (getD s (at + 1) 0 ≡ code "T") → Steps s at (λ t. stampedAt t at)
+      go (yes l) (yes d) t = there Date l (λ m. stamped-date (s ++ m) (byte-kept s m (at + 1) l (code "D") d))
+      go (yes l) (no d) (yes t) = there Time l (λ m. stamped-time (s ++ m) (byte-kept s m (at + 1) l (code "T") t))
+      go (yes l) (no d) (no t) =
+          let z : (m : List ℕ) → stampedAt (s ++ m) at ≡ Stop at =
+          (λ m. stamped-other (s ++ m) (byte-other s m (at + 1) l (code "D") d) (byte-other s m (at + 1) l (code "T") t) ∙ rw (lt-ltb (at + 1) (length (s ++ m)) (longer s m (at + 1) l))) in
+          let y : stampedAt s at ≡ Stop at = rw append-nil at (z []) in
+          record {
+            low = rw y (omega arith);
+            high = rw y (omega arith);
+            firm = λ m k. z m ∙ sym y;
+            rest = λ k. absurd (let w : at ≡ length s = cc in omega arith);
+          }
+      go (no l) d t =
+          let e = past s (at + 1) (omega arith) in
+          let y : stampedAt s at ≡ Stop (at + 1) = stamped-other s (λ q. omega arith) (λ q. omega arith) ∙ rw (le-ltb (at + 1) (length s) (omega arith)) in
+          let n : at + 1 ≡ length s = omega arith in
+          record {
+            low = rw y (omega arith);
+            high = rw y (omega arith);
+            firm = λ m k. absurd (let w = rw y at k in omega arith);
+            rest = λ k.
+                record {
+                  tail = code "D" ∷ [];
+                  element = record { what = Stamped Date; at = at; length = 2 };
+                  whole = stamped-date (s ++ (code "D" ∷ [])) (rw n (getD-append-seam s (code "D") [] 0));
+                  ends = omega arith;
+                };
+          }
+
 module _ (t : List ℕ) (at : ℕ) where
   -- a quote starts a text
   pub element-text : getD t at 0 ≡ code "\"" → elementAt t at ≡ quotedFrom at (textAt t at)
@@ -205,23 +264,30 @@ module _ (t : List ℕ) (at : ℕ) where
   unfolding elementAt
   element-counter h = rw h
 
-  -- no other byte starts an element
-  pub element-none : (getD t at 0 ≡ code "\"" → ⊥) → (getD t at 0 ≡ code "V" → ⊥) → (getD t at 0 ≡ code "C" → ⊥) → elementAt t at ≡ Stop at
+  element-stamped : getD t at 0 ≡ code "T" → elementAt t at ≡ stampedAt t at
   unfolding elementAt
-  element-none a b c = rw (ne-eqb (getD t at 0) (code "\"") a, ne-eqb (getD t at 0) (code "V") b, ne-eqb (getD t at 0) (code "C") c)
+  element-stamped h = rw h
+
+  -- no other byte starts an element
+  pub element-none : (getD t at 0 ≡ code "\"" → ⊥) → (getD t at 0 ≡ code "V" → ⊥) → (getD t at 0 ≡ code "C" → ⊥) → (getD t at 0 ≡ code "T" → ⊥) → elementAt t at ≡ Stop at
+  unfolding elementAt
+  element-none a b c d =
+      rw (ne-eqb (getD t at 0) (code "\"") a, ne-eqb (getD t at 0) (code "V") b, ne-eqb (getD t at 0) (code "C") c, ne-eqb (getD t at 0) (code "T") d)
 
 -- what is asked of an element holds of every element
 pub element-steps : (s : List ℕ) (at : ℕ) → at < length s → Steps s at (λ t. elementAt t at)
-element-steps s at h = go (ℕ-discrete (getD s at 0) (code "\"")) (ℕ-discrete (getD s at 0) (code "V")) (ℕ-discrete (getD s at 0) (code "C"))
+element-steps s at h =
+    go (ℕ-discrete (getD s at 0) (code "\"")) (ℕ-discrete (getD s at 0) (code "V")) (ℕ-discrete (getD s at 0) (code "C")) (ℕ-discrete (getD s at 0) (code "T"))
   where
-    go : Dec (getD s at 0 ≡ code "\"") → Dec (getD s at 0 ≡ code "V") → Dec (getD s at 0 ≡ code "C") → Steps s at (λ t. elementAt t at)
-    go (yes e) b c = steps-as s at (λ t. elementAt t at) (λ t. quotedFrom at (textAt t at)) (λ m. element-text (s ++ m) at (byte-kept s m at h (code "\"") e)) (quoted-steps s at h)
-    go (no a) (yes e) c = steps-as s at (λ t. elementAt t at) (λ t. heldAt false t at) (λ m. element-variable (s ++ m) at (byte-kept s m at h (code "V") e)) (held-steps s at h false)
-    go (no a) (no b) (yes e) = steps-as s at (λ t. elementAt t at) (λ t. heldAt true t at) (λ m. element-counter (s ++ m) at (byte-kept s m at h (code "C") e)) (held-steps s at h true)
-    go (no a) (no b) (no c) =
+    go : Dec (getD s at 0 ≡ code "\"") → Dec (getD s at 0 ≡ code "V") → Dec (getD s at 0 ≡ code "C") → Dec (getD s at 0 ≡ code "T") → Steps s at (λ t. elementAt t at)
+    go (yes e) b c d = steps-as s at (λ t. elementAt t at) (λ t. quotedFrom at (textAt t at)) (λ m. element-text (s ++ m) at (byte-kept s m at h (code "\"") e)) (quoted-steps s at h)
+    go (no a) (yes e) c d = steps-as s at (λ t. elementAt t at) (λ t. heldAt false t at) (λ m. element-variable (s ++ m) at (byte-kept s m at h (code "V") e)) (held-steps s at h false)
+    go (no a) (no b) (yes e) d = steps-as s at (λ t. elementAt t at) (λ t. heldAt true t at) (λ m. element-counter (s ++ m) at (byte-kept s m at h (code "C") e)) (held-steps s at h true)
+    go (no a) (no b) (no c) (yes e) = steps-as s at (λ t. elementAt t at) (λ t. stampedAt t at) (λ m. element-stamped (s ++ m) at (byte-kept s m at h (code "T") e)) (stamped-steps s at h)
+    go (no a) (no b) (no c) (no d) =
         let z : (m : List ℕ) → elementAt (s ++ m) at ≡ Stop at =
-        (λ m. element-none (s ++ m) at (byte-other s m at h (code "\"") a) (byte-other s m at h (code "V") b) (byte-other s m at h (code "C") c)) in
-        let y = element-none s at a b c in
+        (λ m. element-none (s ++ m) at (byte-other s m at h (code "\"") a) (byte-other s m at h (code "V") b) (byte-other s m at h (code "C") c) (byte-other s m at h (code "T") d)) in
+        let y = element-none s at a b c d in
         record {
           low = rw y (omega arith);
           high = rw y (omega arith);

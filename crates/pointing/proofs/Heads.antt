@@ -130,6 +130,7 @@ rests =
     ∷ (code "C", bytes "0,0,0,\"\"")
     ∷ (code "?", bytes "C0,0")
     ∷ (code "P", bytes "0")
+    ∷ (code "T", bytes "S0,0,0,0,0,0")
     ∷ []
 
 abbrev restOf : List (ℕ × List ℕ) → ℕ → List ℕ

@@ -66,9 +66,9 @@ element-inside (suc n) s at p h = go (elementAt s at) (element-took s at) h (λ 
         pick false j = let z : e .at ≡ p = cc in omega arith
 
 -- a field's place, or that of an element of data
-field-inside : (f : ℕ) (l : ℕ × ℕ) (s : List ℕ) (u v at p : ℕ) → at < length s → fieldLimits f l s u v at ≡ Outside p → p < length s
+field-inside : (f : ℕ) (l : ℕ × ℕ) (s : List ℕ) (u v at n p : ℕ) → at < length s → fieldLimits f l s u v at n ≡ Outside p → p < length s
 unfolding fieldLimits
-field-inside f l s u v at p h k = go (eqb f (code "d")) (limited f) (between (l .0) (l .1) v && meets f s u v at) k
+field-inside f l s u v at n p h k = go (eqb f (code "d")) (limited f) (between (l .0) (l .1) v && meets f s u v at n) k
   where
     go : (a b c : Bool) → cond a (limits (elements s at)) (cond b (cond c Within (Outside at)) Within) ≡ Outside p → p < length s
     go true b c j = element-inside (length s - at) s at p (unfold elements in j)
@@ -83,18 +83,18 @@ fields-inside [] s at u ls vs ps p h k j = absurd (let z : _≡_ {A = ℕ} 0 1 =
 fields-inside (f ∷ fs) s at u ls vs ps p h k j =
     let x = fields-split f fs s at vs ps k in
     let y : Sits s at (Is (x .v) (x .e)) = rw (x .first) at (field-sits f s at h) in
-    go (x .v) (x .vs) (x .ps) (fieldLimits f (getD ls 0 free) s u (x .v) at) refl (split (x .v) (x .vs) (x .ps) (x .values) (x .places)) (omega arith) (λ w. fields-inside fs s (x .e) w (drop 1 ls) (x .vs) (x .ps) p (y .1) (x .others))
+    go (x .v) (x .vs) (x .ps) (fieldLimits f (getD ls 0 free) s u (x .v) at (getD (x .vs) 1 0)) refl (split (x .v) (x .vs) (x .ps) (x .values) (x .places)) (omega arith) (λ w. fields-inside fs s (x .e) w (drop 1 ls) (x .vs) (x .ps) p (y .1) (x .others))
   where
     split : (v : ℕ) (ws qs : List ℕ) → vs ≡ v ∷ ws → ps ≡ at ∷ qs
-        → firstOf (fieldLimits f (getD ls 0 free) s u v at) (limitsFrom fs (drop 1 ls) s (cond (isNumber f) v u) ws qs) ≡ Outside p
+        → firstOf (fieldLimits f (getD ls 0 free) s u v at (getD ws 1 0)) (limitsFrom fs (drop 1 ls) s (cond (isNumber f) v u) ws qs) ≡ Outside p
     split v ws qs a b = rw (a, b) at j
 
-    go : (v : ℕ) (ws qs : List ℕ) (m : Limits) → fieldLimits f (getD ls 0 free) s u v at ≡ m
+    go : (v : ℕ) (ws qs : List ℕ) (m : Limits) → fieldLimits f (getD ls 0 free) s u v at (getD ws 1 0) ≡ m
         → firstOf m (limitsFrom fs (drop 1 ls) s (cond (isNumber f) v u) ws qs) ≡ Outside p → at < length s
         → ((w : ℕ) → limitsFrom fs (drop 1 ls) s w ws qs ≡ Outside p → p < length s)
         → p < length s
     go v ws qs Within q i l r = r (cond (isNumber f) v u) i
-    go v ws qs (Outside c) q i l r = field-inside f (getD ls 0 free) s u v at p l (q ∙ i)
+    go v ws qs (Outside c) q i l r = field-inside f (getD ls 0 free) s u v at (getD ws 1 0) p l (q ∙ i)
 
 -- the place of what is outside its limits is a byte of the line
 pub limit-inside : (rows : ℕ) (s : List ℕ) (p : ℕ) → readOf rows s ≡ Refused (Limit p) → p < length s

@@ -8,6 +8,7 @@ pub mod Types
 pub mod Modifiers
 pub mod Elements
 pub mod Data
+pub mod Shown
 pub mod Points
 pub mod Under
 pub mod Bars

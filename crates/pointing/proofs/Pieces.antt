@@ -33,6 +33,19 @@ pub record Piece (R : Reading) : Type 0 where
   pub sits : (s : List ℕ) (at : ℕ) → at ≤ length s → Sits s at (R s at)
   pub firm : (s m : List ℕ) (at : ℕ) → at ≤ length s → stopOf (R s at) < length s → R (s ++ m) at ≡ R s at
 
+-- what makes a field whole that runs to the end of its line and ends too soon
+pub record LastRest (R : Reading) (s : List ℕ) (at : ℕ) : Type 0 where
+  pub tail : List ℕ
+  pub value : ℕ
+  pub whole : R (s ++ tail) at ≡ Is value (length (s ++ tail))
+
+-- a field that runs to the end of its line: one that is not there yet, for which these bytes may stand, and one that the line cuts off
+pub record Last (R : Reading) (blank : List ℕ) : Type 0 where
+  pub piece : Piece R
+  pub value : ℕ
+  pub empty : (s : List ℕ) → R (s ++ blank) (length s) ≡ Is value (length s + length blank)
+  pub rest : (s : List ℕ) (at : ℕ) → at ≤ length s → R s at ≡ Not (length s) → LastRest R s at
+
 -- a field that a comma ends: one that ends with the line, one that is not there yet, and one of which a part is
 pub record Full (R : Reading) : Type 0 where
   pub piece : Piece R

@@ -14,7 +14,7 @@ use Rattle.fields.specs.declared.Field.the-variants.{Is, Not}
 use Rattle.reader.specs.Letters.{fieldAt}
 use Rattle.row_fields.specs.Reading.{Got, good, bad, ahead, next, fieldsFrom}
 use Rattle.pointing.proofs.Runs.{longer}
-use Rattle.pointing.proofs.Pieces.{Sits, Ended, nothing, comma, Full}
+use Rattle.pointing.proofs.Pieces.{Sits, Ended, nothing, comma, Last, Full}
 use Rattle.pointing.proofs.Texts.{byte-piece, byte-stays, byte-one, byte-not}
 
 -- ---- what reading a row comes to
@@ -209,3 +209,26 @@ points-field f fs filler F P x =
             record { more = r .tail ++ filler; whole = filled f fs filler P s (r .tail) at (r .value) (r .whole filler x) }
         go (here e) (no l) = let z : at ≡ length s = omega arith in record { more = F .blank ++ filler; whole = rw z (blank s) }
         go (later v e q r) d = let z : Sits s at (Is v e) = rw q at (F .piece .sits s at h) in on v e q r (z .1) (decLt e (length s))
+
+-- a field that runs to the end of its line, at the end of a row
+pub points-last : (f : ℕ) (filler : List ℕ) → Last (fieldAt f) filler → Points (f ∷ []) filler
+points-last f filler F =
+    record {
+      within = λ s at p h k. sits-within f [] [] points-none s at p (F .piece .sits s at h) k;
+      firm = λ s m at p h k l. firm-within f [] [] points-none s m at p (F .piece .sits s at h) (F .piece .firm s m at h) k l;
+      fills = blank;
+      soon = soon;
+    }
+  where
+    blank : (s : List ℕ) → Good (fieldsFrom (f ∷ []) (s ++ filler) (length s))
+    blank s = rw (append-nil filler) at (filled f [] [] points-none s filler (length s) (F .value) (rw (append-nil filler) (F .empty s)))
+
+    soon : (s : List ℕ) (at : ℕ) → at ≤ length s → Faulty (fieldsFrom (f ∷ []) s at) (length s) → Finished (f ∷ []) s at
+    soon s at h k = go (where-of f [] s at (length s) k)
+      where
+        go : Where f [] s at (length s) → Finished (f ∷ []) s at
+        go (here e) =
+            let r = F .rest s at h e in
+            let t : List ℕ = s ++ r .tail in
+            record { more = r .tail; whole = good-later f [] t at (r .value) (length t) (r .whole) (none-good t) }
+        go (later v e q r) = absurd (let z = none-fault s e (length s) r in z .1 (z .0))

@@ -1,5 +1,5 @@
--- Reading as it was before refusals pointed: a word ends with its letters whatever follows, and a fault has a place only by the way. Numbers, texts and data are
--- those of today.
+-- Reading as it was before refusals pointed: a word ends with its letters whatever follows, and a fault has a place only by the way. Numbers, texts, data and
+-- formats are those of today.
 -- Assumes nothing.
 use Prim.Native.Nat.{ℕ, _+_}
 use Prim.Native.Char.{code}
@@ -15,6 +15,8 @@ use Rattle.fields.specs.declared.Field.{Field}
 use Rattle.fields.specs.declared.Field.the-variants.{Is, Not}
 use Rattle.numbers.specs.Number.{numberAt, plus, minus}
 use Rattle.data_field.specs.Data.{dataAt}
+use Rattle.formats.specs.declared.Stamp.the-variants.{Date, Time}
+use Rattle.format_field.specs.Reading.{formatField}
 use Rattle.grammar.specs.Forms.{rowOf}
 use Rattle.heads.specs.Heads.{headOf}
 use Rattle.heads.specs.declared.Head.{Head}
@@ -53,7 +55,7 @@ plainSignedAt s at =
 -- the field that a letter of the grammar stands for
 unfoldable pub plainFieldAt : ℕ → List ℕ → ℕ → Field
 plainFieldAt f s at =
-    cond (eqb f (code "n") || eqb f (code "w")) (numberAt s at)
+    cond (eqb f (code "n") || (eqb f (code "w") || eqb f (code "y"))) (numberAt s at)
     (cond (eqb f (code "t") || (eqb f (code "a") || (eqb f (code "z") || eqb f (code "u")))) (textAt s at)
     (cond (eqb f (code "s")) (plainSignedAt s at)
     (cond (eqb f (code "m")) (plainLetterAt Mode s at)
@@ -61,7 +63,9 @@ plainFieldAt f s at =
     (cond (eqb f (code "k")) (plainTypeAt s at)
     (cond (eqb f (code "h")) (plainUnderAt s at)
     (cond (eqb f (code "d")) (dataAt s at)
-    (byteAt f s at))))))))
+    (cond (eqb f (code "f")) (formatField Date s at)
+    (cond (eqb f (code "g")) (formatField Time s at)
+    (byteAt f s at))))))))))
 
 -- the fields of a row, a line whose letters name a row or none, and any line
 unfoldable pub plainFieldsFrom : List ℕ → List ℕ → ℕ → Got

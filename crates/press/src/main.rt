@@ -1,11 +1,11 @@
 // The station as a tool: commands from standard input or from files, labels as picture files, and a store that lasts.
 //
-//     press [-rows N] [-font F] [-out PREFIX] [-store FILE] [-quiet] [FILE ..]
+//     press [-rows N] [-font F] [-out PREFIX] [-store FILE] [-zone MINUTES] [-noclock] [-quiet] [FILE ..]
 //     press [-rows N] [-store FILE] [-quiet] -fits form NAME | picture NAME SIZE
 //
 // It is thin: what a command does is crate `station`, what is said and what the command line is crate `press_settings`, how the store lasts crate
-// `press_store`, how commands are read crate `press_input`, how labels become files crate `press_labels`, and the question of the second line crate `press_fits`.
-// Here is the room that they are lent, and whose turn it is.
+// `press_store`, how the clock goes crate `press_clock`, how commands are read crate `press_input`, how labels become files crate `press_labels`, and the
+// question of the second line crate `press_fits`. Here is the room that they are lent, and whose turn it is.
 use ground::front;
 use lasting::DIRECTORY_BYTES;
 use lent::BYTES_OF_VALUES;
@@ -15,7 +15,8 @@ use press_store::Run;
 use press_store::rooms;
 use store::MOST_PORTIONS;
 
-// One turn: a label where one is owed, else a step towards the next command, and the command once it is at hand.
+// One turn: the clock is moved, then a label where one is owed, else a step towards the next command, and the command once it is at hand. Waiting for input ends a
+// turn, so that what comes is done at the moment at which it came.
 fn turn(
     s: Settings,
     run: Run,
@@ -28,11 +29,12 @@ fn turn(
     window: &mut [u8],
     file: &mut [u8],
 ) -> Run {
-    let owed = run.session.owed;
+    let now = press_clock::tick(s, run);
+    let owed = now.session.owed;
     if 0 < owed {
         return press_labels::one(
             s,
-            run,
+            now,
             font,
             background,
             store,
@@ -42,7 +44,7 @@ fn turn(
             file,
         );
     }
-    let next = press_input::ahead(s, run, window);
+    let next = press_input::ahead(s, now, window);
     if !next.ready {
         return next;
     }
@@ -122,7 +124,7 @@ fn work(s: Settings, n: usize, known: usize, font: &[u8], file: &mut [u8]) {
     );
     let last = turns(
         s,
-        first,
+        press_clock::start(s, first),
         font,
         rooms::cut(&mut background, n),
         &mut store,

@@ -1,6 +1,6 @@
 // The settings of a run, and what a run says.
 //
-//     press [-rows N] [-font F] [-out PREFIX] [-store FILE] [-quiet] [FILE ..]
+//     press [-rows N] [-font F] [-out PREFIX] [-store FILE] [-zone MINUTES] [-noclock] [-quiet] [FILE ..]
 //     press [-rows N] [-store FILE] [-quiet] -fits form NAME | picture NAME SIZE
 //
 // What the words of the command line are is crate `options`, what is said in words crates `words` and `reports`. Here arguments, font and files are found
@@ -20,7 +20,8 @@ pub struct Question {
     pub size: usize,
 }
 
-// What the command line says. font, out, store and files are numbers of arguments, 0 where none is given; rows is 0 where none is given.
+// What the command line says. font, out, store and files are numbers of arguments, 0 where none is given; rows is 0 where none is given. zone is in minutes ahead of
+// UTC, as a number with a sign counts; clock says that the machine's clock is the station's.
 pub struct Settings {
     pub rows: usize,
     pub font: usize,
@@ -29,6 +30,8 @@ pub struct Settings {
     pub files: usize,
     pub count: usize,
     pub asked: Question,
+    pub zone: usize,
+    pub clock: bool,
     pub quiet: bool,
     pub several: bool,
     pub good: bool,

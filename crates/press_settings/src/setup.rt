@@ -6,12 +6,15 @@ use crate::saying::failed;
 use crate::saying::wrong;
 use ground::capped_sum;
 use ground::front;
+use numbers::NOUGHT;
 use options::Kind;
 use options::Number;
 use options::Word;
 
 fn usage(s: Settings) -> Settings {
-    complain(b"usage: press [-rows N] [-font F] [-out PREFIX] [-store FILE] [-quiet] [FILE ..]\n");
+    complain(
+        b"usage: press [-rows N] [-font F] [-out PREFIX] [-store FILE] [-zone MINUTES] [-noclock] [-quiet] [FILE ..]\n",
+    );
     complain(
         b"   or: press [-rows N] [-store FILE] [-quiet] -fits form NAME | picture NAME SIZE\n",
     );
@@ -36,6 +39,23 @@ fn number_of_rows(s: Settings) -> Settings {
     }
     let mut next = s;
     next.rows = rows;
+    next.at = capped_sum(s.at, 2);
+    next
+}
+
+fn zone(s: Settings) -> Settings {
+    let mut text = io::buffer();
+    let n = os::arg(capped_sum(s.at, 1), &mut text);
+    let zone = options::zone(front(&text, n));
+    if zone == 0 {
+        return refuse(
+            s,
+            b"-zone",
+            b" needs the minutes ahead of UTC, from -1439 to +1439\n",
+        );
+    }
+    let mut next = s;
+    next.zone = zone;
     next.at = capped_sum(s.at, 2);
     next
 }
@@ -128,6 +148,20 @@ fn first_file(s: Settings, text: &[u8]) -> Settings {
     next
 }
 
+fn quiet(s: Settings) -> Settings {
+    let mut next = s;
+    next.quiet = true;
+    next.at = capped_sum(s.at, 1);
+    next
+}
+
+fn without_clock(s: Settings) -> Settings {
+    let mut next = s;
+    next.clock = false;
+    next.at = capped_sum(s.at, 1);
+    next
+}
+
 fn option(s: Settings) -> Settings {
     let mut text = io::buffer();
     let n = os::arg(s.at, &mut text);
@@ -152,12 +186,9 @@ fn option(s: Settings) -> Settings {
             next.store = capped_sum(s.at, 1);
             next
         }
-        Word::Quiet => {
-            let mut next = s;
-            next.quiet = true;
-            next.at = capped_sum(s.at, 1);
-            next
-        }
+        Word::Quiet => quiet(s),
+        Word::Zone => zone(s),
+        Word::NoClock => without_clock(s),
         Word::Fits => question(s),
         Word::Unknown => refuse(s, word, b" is no option\n"),
         Word::File => first_file(s, word),
@@ -177,6 +208,8 @@ pub fn command_line() -> Settings {
             picture: false,
             size: 0,
         },
+        zone: NOUGHT,
+        clock: true,
         quiet: false,
         several: false,
         good: true,

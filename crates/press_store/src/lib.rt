@@ -21,7 +21,7 @@ use session::Session;
 use session::sixteen_bits;
 
 // What is known between two turns. A descriptor that is not there is -1; store is the argument that names the store, 0 for none, and file the one that is read,
-// 0 for standard input; ready says that a command stands at the front of what is read.
+// 0 for standard input; ready says that a command stands at the front of what is read. moment is the machine's second up to which the clock was moved.
 pub struct Run {
     pub session: Session,
     pub store: usize,
@@ -39,6 +39,7 @@ pub struct Run {
     pub pictures: u32,
     pub order: u32,
     pub kept: i32,
+    pub moment: usize,
     pub over: bool,
     pub failed: bool,
 }
@@ -178,6 +179,7 @@ fn idle(s: Settings, session: Session) -> Run {
         pictures: 0,
         order: 0,
         kept: -1,
+        moment: 0,
         over: false,
         failed: false,
     }
@@ -286,7 +288,8 @@ fn save_state(run: Run, values: &[u8], file: &mut [u8]) -> Run {
     stopped(run)
 }
 
-// What is changed, saved where there is a store: all of it into a new file, session and values alone into the file that is kept open.
+// What is changed, saved where there is a store: all of it into a new file, session and values alone into the file that is kept open. A file of version 1 has no room
+// for the formats, so that a command makes a whole new one of it; a label changes none.
 pub fn save(
     run: Run,
     changed: bool,
@@ -304,7 +307,8 @@ pub fn save(
     let n = lasting::place(&mut next, background, store, links, directory);
     let body = lasting::BODY_AT;
     let same = writing::same(back(front(&next, n), body), back(front(file, n), body));
-    if both(same, both(0 <= run.kept, run.order < LAST)) {
+    let current = !slots::is_first(file);
+    if both(both(same, current), both(0 <= run.kept, run.order < LAST)) {
         return save_state(run, values, file);
     }
     save_all(run, n, values, file, &mut next)

@@ -8,7 +8,7 @@ use lib.Dec.{ltb}
 use Rattle.elements.specs.declared.Part.{Part}
 use Rattle.elements.specs.declared.Part.the-variants.{Whole, First, Last, Middle}
 use Rattle.elements.specs.declared.What.{What}
-use Rattle.elements.specs.declared.What.the-variants.{Text, Variable, Counter}
+use Rattle.elements.specs.declared.What.the-variants.{Text, Variable, Counter, Stamped}
 use Rattle.elements.specs.declared.Element.{Element}
 use Rattle.declarations.specs.declared.Declared.{Declared}
 use Rattle.declarations.specs.Declarations.{lengthAt, widthAt, variableDeclared, counterDeclared}
@@ -31,12 +31,14 @@ unfoldable pub undeclaredBy : Declared → What → Bool
 undeclaredBy d Text = false
 undeclaredBy d (Variable k p) = not (variableDeclared d k)
 undeclaredBy d (Counter k p) = not (counterDeclared d k)
+undeclaredBy d (Stamped st) = false
 
 -- [14] "a modifier reaches past the declared length"; a counter's length is its width
 unfoldable pub pastBy : Declared → What → Bool
 pastBy d Text = false
 pastBy d (Variable k p) = reachesPast p (lengthAt d k)
 pastBy d (Counter k p) = reachesPast p (widthAt d k)
+pastBy d (Stamped st) = false
 
 -- the test holds of an element's kind, anywhere in the data
 abbrev pub someOf : (What → Bool) → List Element → Bool

@@ -10,7 +10,7 @@ use Rattle.kinds.specs.Text.{bytes}
 use Rattle.classes.specs.Bytes.{run}
 use Rattle.numbers.specs.Number.{valueFrom, numberAt}
 use Rattle.fields.specs.Field.{textAt, byteAt}
-use Rattle.elements.specs.Elements.{modifierAt, heldAt, elementAt, elementsFrom, elements}
+use Rattle.elements.specs.Elements.{modifierAt, heldAt, stampedAt, elementAt, elementsFrom, elements}
 use Rattle.declarations.specs.declared.Declared.{Declared}
 use Rattle.declarations.specs.Declarations.{nothing, withVariable, withCounter}
 use Rattle.reach.specs.declared.DataAnswer.{DataAnswer}
@@ -35,3 +35,8 @@ case-13-14 = refl
 case-leftmost : answerOf "V0V1C1" ∷ answerOf "C0V0L6C0R3" ∷ [] ≡ Undeclared 2 ∷ Past 2 ∷ []
 unfolding answerOf dataAnswer undeclaredBy pastBy reachesPast declared withCounter withVariable nothing between run valueFrom numberAt textAt byteAt modifierAt heldAt elementAt elementsFrom elements
 case-leftmost = refl
+
+-- paper 02, §10: date and time need no declaration and reach nowhere; what stands beside them is asked as before
+case-stamps : answerOf "TDTT" ∷ answerOf "TDV1TT" ∷ answerOf "TTC0R3" ∷ [] ≡ Good ∷ Undeclared 2 ∷ Past 2 ∷ []
+unfolding answerOf dataAnswer undeclaredBy pastBy reachesPast declared withCounter withVariable nothing between run valueFrom numberAt textAt byteAt modifierAt heldAt elementAt stampedAt elementsFrom elements
+case-stamps = refl

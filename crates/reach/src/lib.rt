@@ -49,6 +49,7 @@ pub fn undeclared_by(d: Declared, what: What) -> bool
         What::Text => false,
         What::Variable(k, _) => !d.variable_declared(k),
         What::Counter(k, _) => !d.counter_declared(k),
+        What::Stamped(_) => false,
     }
 }
 
@@ -60,6 +61,7 @@ pub fn past_by(d: Declared, what: What) -> bool
         What::Text => false,
         What::Variable(k, p) => reaches_past(p, d.length_at(k)),
         What::Counter(k, p) => reaches_past(p, d.width_at(k)),
+        What::Stamped(_) => false,
     }
 }
 

@@ -1,5 +1,7 @@
--- Lines of paper 01, and what reading them gives: antt computes each.
+-- Lines of papers 01 and 02, and what reading them gives: antt computes each.
 -- Assumes nothing.
+use Prim.Native.Char.{code}
+use Prim.Native.String.{String}
 use mathlib.Core.Path.{_≡_, refl}
 use mathlib.Core.Bool.{true, false}
 use Rattle.kinds.specs.Bytes.{between}
@@ -9,8 +11,8 @@ use Rattle.kinds.specs.declared.Under.the-variants.{Nothing, Line}
 use Rattle.kinds.specs.Text.{bytes}
 use Rattle.classes.specs.Bytes.{run}
 use Rattle.numbers.specs.Number.{valueFrom, numberAt, signedAt}
-use Rattle.fields.specs.Field.{textAt, byteAt, typeAt, kindFrom, underAt, underFrom}
-use Rattle.elements.specs.Elements.{modifierAt, heldAt, elementAt, elementsFrom, elements}
+use Rattle.fields.specs.Field.{textAt, byteAt, letterAt, typeAt, kindFrom, underAt, underFrom}
+use Rattle.elements.specs.Elements.{modifierAt, heldAt, stampedAt, elementAt, elementsFrom, elements}
 use Rattle.data_field.specs.Data.{total, dataAt, limits}
 use Rattle.reader.specs.Letters.{fieldAt}
 use Rattle.grammar.specs.Forms.{spread, inOrder}
@@ -18,8 +20,14 @@ use Rattle.heads.specs.Heads.{headOf, headBy, find}
 use Rattle.row_fields.specs.Reading.{fieldsFrom}
 use Rattle.row_limits.specs.Limits.{meets, fieldLimits, limitsFrom}
 use Rattle.read.specs.Commands.{readOf, headed, judged}
-use Rattle.grammar.specs.declared.Item.the-variants.{Counter, Bars}
-use Rattle.grammar.specs.declared.Command.the-variants.{Item as item, Page, Forms}
+use Rattle.calendar.specs.Clock.{leap, thirty, daysIn}
+use Rattle.formats.specs.declared.Format.{Format}
+use Rattle.formats.specs.declared.Stamp.{Stamp}
+use Rattle.formats.specs.declared.Stamp.the-variants.{Date, Time}
+use Rattle.formats.specs.Formats.{format, unit, newUnit, separator, example, packed, unpacked}
+use Rattle.format_field.specs.Reading.{letter, unitOf, dateField, timeField, cutAt, fieldAt as formatFieldAt, furtherAt, formatAt, formatField}
+use Rattle.grammar.specs.declared.Item.the-variants.{Counter, Bars, Text, Format as Shown}
+use Rattle.grammar.specs.declared.Command.the-variants.{Item as item, Page, Forms, Clock}
 use Rattle.grammar.specs.declared.PageCommand.the-variants.{Width}
 use Rattle.grammar.specs.declared.FormCommand.the-variants.{Erase as EraseForm}
 use Rattle.read.specs.declared.Fault.the-variants.{Form as form, Limit}
@@ -108,3 +116,33 @@ all-forms = refl
 star : readOf 240 (bytes "FS\"*\"") ≡ Refused (Limit 2)
 unfolding readOf headed judged headOf headBy find fieldsFrom fieldAt limitsFrom fieldLimits meets spread inOrder byteAt textAt run between valueFrom
 star = refl
+
+-- paper 02, §10: "`TS` with month, day, year 0..99 .. hour, minute, second": the manual's `TS04,2,04,14,10,12`, the last second of 2099, and 29 February 2004
+clock : readOf 240 (bytes "TS04,2,04,14,10,12") ≡ Taken (Clock (record { month = 4; day = 2; year = 4; hour = 14; minute = 10; second = 12 }))
+unfolding readOf headed judged headOf headBy find fieldsFrom fieldAt limitsFrom fieldLimits meets daysIn leap thirty spread inOrder numberAt byteAt run between valueFrom
+clock = refl
+
+last-second : readOf 240 (bytes "TS12,31,99,23,59,59") ≡ Taken (Clock (record { month = 12; day = 31; year = 99; hour = 23; minute = 59; second = 59 }))
+unfolding readOf headed judged headOf headBy find fieldsFrom fieldAt limitsFrom fieldLimits meets daysIn leap thirty spread inOrder numberAt byteAt run between valueFrom
+last-second = refl
+
+leap-day : readOf 240 (bytes "TS2,29,4,0,0,0") ≡ Taken (Clock (record { month = 2; day = 29; year = 4; hour = 0; minute = 0; second = 0 }))
+unfolding readOf headed judged headOf headBy find fieldsFrom fieldAt limitsFrom fieldLimits meets daysIn leap thirty spread inOrder numberAt byteAt run between valueFrom
+leap-day = refl
+
+-- "`TD` and `TT` with the manual's formats": the manual's examples; letters of either case, a comma as separator; `TThms` is hour, separator m, second
+abbrev Sets : String → Stamp → Format → Type 0
+Sets line st f = readOf 240 (bytes line) ≡ Taken (item (Shown (record { stamp = st; format = f })))
+
+date-formats : Sets "TDdd-me-y4" Date (example Date) × Sets "TDY2,Mn" Date (format 1 (code ",") 4 0 0)
+unfolding readOf headed judged headOf headBy find fieldsFrom fieldAt limitsFrom fieldLimits meets spread inOrder byteAt run between formatField formatAt formatFieldAt furtherAt cutAt dateField letter unitOf unit newUnit separator example packed unpacked
+date-formats = (refl, refl)
+
+time-formats : Sets "TTh:m:s" Time (example Time) × Sets "TThms" Time (format 1 (code "m") 3 0 0) × Sets "TTS" Time (format 3 0 0 0 0)
+unfolding readOf headed judged headOf headBy find fieldsFrom fieldAt limitsFrom fieldLimits meets spread inOrder byteAt run between formatField formatAt formatFieldAt furtherAt cutAt timeField letter unitOf unit newUnit separator example packed unpacked
+time-formats = (refl, refl, refl)
+
+-- "In data, `TD` and `TT` become elements"
+stamps : readOf 240 (bytes "A0,0,0,1,1,N,TD\" \"TT") ≡ Taken (item (Text (record { x = 0; y = 0; r = 0; h = 1; v = 1; reverse = false; at = 13 })))
+unfolding readOf headed judged headOf headBy find fieldsFrom fieldAt limitsFrom fieldLimits meets spread inOrder numberAt byteAt letterAt textAt dataAt total limits elements elementsFrom elementAt stampedAt run between valueFrom
+stamps = refl

@@ -1,4 +1,4 @@
--- Paper 02, §2: what a refusal points to, sentence by sentence, with lines that show it: antt computes each.
+-- Paper 02, §2, and §10 for the clock's lines: what a refusal points to, sentence by sentence, with lines that show it: antt computes each.
 -- Assumes nothing.
 use Prim.Native.Nat.{ℕ}
 use Prim.Native.String.{String}
@@ -9,9 +9,12 @@ use Rattle.kinds.specs.Text.{bytes}
 use Rattle.classes.specs.Bytes.{run}
 use Rattle.numbers.specs.Number.{valueFrom, numberAt, signedAt}
 use Rattle.fields.specs.Field.{textAt, byteAt, letterAt, typeAt, underAt}
-use Rattle.elements.specs.Elements.{modifierAt, heldAt, elementAt, elementsFrom, elements}
+use Rattle.elements.specs.Elements.{modifierAt, heldAt, stampedAt, elementAt, elementsFrom, elements}
 use Rattle.data_field.specs.Data.{total, dataAt, limits}
 use Rattle.reader.specs.Letters.{fieldAt}
+use Rattle.calendar.specs.Clock.{leap, thirty, daysIn}
+use Rattle.formats.specs.Formats.{unit, newUnit, separator, packed}
+use Rattle.format_field.specs.Reading.{letter, unitOf, dateField, timeField, cutAt, fieldAt as formatFieldAt, furtherAt, formatAt, formatField}
 use Rattle.grammar.specs.Forms.{spread, inOrder}
 use Rattle.heads.specs.Heads.{headOf, headBy, find, lettersFault}
 use Rattle.row_fields.specs.Reading.{fieldsFrom}
@@ -67,6 +70,21 @@ signs : Unformed "C0,1,+x" 5 × Unformed "C0,1,-1234567890,\"\"" 5
 unfolding readOf headed judged headOf headBy find fieldsFrom fieldAt numberAt byteAt signedAt run between valueFrom
 signs = (refl, refl)
 
+-- `TD` and `TT` are such elements too; they take no modifier, so that a byte behind them starts another
+stamps : Unformed "A0,0,0,1,1,N,Tx" 13 × Unformed "A0,0,0,1,1,N,td" 13 × Unformed "A0,0,0,1,1,N,TDL2" 15 × Unformed "A0,0,0,1,1,N,T" 14
+unfolding readOf headed judged headOf headBy find fieldsFrom fieldAt numberAt byteAt letterAt dataAt total elements elementsFrom elementAt stampedAt run between valueFrom
+stamps = (refl, refl, refl, refl)
+
+-- a format's field or separator at fault points to itself, a field that comes again too, and what stands behind the third field
+formats : Unformed "TDdd me" 4 × Unformed "TDdd\"mn" 4 × Unformed "TDy3" 2 × Unformed "TDy2-y4" 5 × Unformed "TDdd-d" 5 × Unformed "TDdd-mn-y2-" 10 × Unformed "TTx" 2 × Unformed "TTh:m:h" 6
+unfolding readOf headed judged headOf headBy find fieldsFrom fieldAt byteAt run formatField formatAt formatFieldAt furtherAt cutAt dateField timeField letter unitOf unit newUnit separator between packed
+formats = (refl, refl, refl, refl, refl, refl, refl, refl)
+
+-- a format that ends too soon
+formats-short : Unformed "T" 1 × Unformed "TD" 2 × Unformed "TDd" 3 × Unformed "TDdd-" 5 × Unformed "TDdd-m" 6 × Unformed "TT" 2 × Unformed "TTh:m:" 6
+unfolding readOf headed judged headOf headBy find lettersFault fieldsFrom fieldAt byteAt run formatField formatAt formatFieldAt furtherAt cutAt dateField timeField letter unitOf unit newUnit separator between packed
+formats-short = (refl, refl, refl, refl, refl, refl, refl)
+
 -- a line that ends too soon, as some line of the written form starts with it, points to its LF
 too-soon : Unformed "L" 1 × Unformed "LO1,2" 5 × Unformed "B0,0,0,E3" 9 × Unformed "B0,0,0,3,2,3,50,B,R" 19 × Unformed "A0,0,0,1,1,N,\"ab" 16 × Unformed "A0,0,0,1,1,N,V0M1." 18 × Unformed "C0,1,+" 6
 unfolding readOf headed judged headOf headBy find lettersFault fieldsFrom fieldAt numberAt byteAt letterAt typeAt underAt textAt signedAt dataAt total elements elementsFrom elementAt heldAt modifierAt run between valueFrom
@@ -103,3 +121,13 @@ limits-sign = refl
 limits-modifier : Outside "A0,0,0,1,1,N,\"a\"V0L33" 16
 unfolding readOf headed judged headOf headBy find fieldsFrom fieldAt limitsFrom fieldLimits meets spread inOrder numberAt byteAt letterAt textAt dataAt total limits elements elementsFrom elementAt heldAt modifierAt run between valueFrom
 limits-modifier = refl
+
+-- a day that its month has not, in that year, points to itself, whatever stands behind the year; where the month or the year is itself outside, that one is at fault
+limits-day : Outside "TS2,30,4,0,0,0" 4 × Outside "TS2,29,3,0,0,0" 4 × Outside "TS4,31,4,0,0,0" 4 × Outside "TS2,30,4,25,0,0" 4 × Outside "TS13,31,4,0,0,0" 2 × Outside "TS2,30,100,0,0,0" 7 × Outside "TS2,32,100,0,0,0" 4
+unfolding readOf headed judged headOf headBy find fieldsFrom fieldAt limitsFrom fieldLimits meets daysIn leap thirty spread inOrder numberAt byteAt run between valueFrom
+limits-day = (refl, refl, refl, refl, refl, refl, refl)
+
+-- the clock's other numbers
+limits-clock : Outside "TS0,1,4,0,0,0" 2 × Outside "TS1,0,4,0,0,0" 4 × Outside "TS1,1,4,24,0,0" 8 × Outside "TS1,1,4,0,60,0" 10 × Outside "TS1,1,4,0,0,60" 12
+unfolding readOf headed judged headOf headBy find fieldsFrom fieldAt limitsFrom fieldLimits meets daysIn leap thirty spread inOrder numberAt byteAt run between valueFrom
+limits-clock = (refl, refl, refl, refl, refl)

@@ -8,6 +8,8 @@ ghost use mathlib.Core.Path.{_≡_};
 ghost use Rattle.reader.specs.Letters.{fieldAt};
 use classes::Class;
 use fields::Field;
+use format_field::format_form;
+use formats::Stamp;
 
 pub struct Reader<'a> {
     pub line: &'a [u8],
@@ -21,6 +23,7 @@ fn field_at(line: &[u8], f: u8, at: usize) -> Field
     match f {
         b'n' => numbers::number(line, at),
         b'w' => numbers::number(line, at),
+        b'y' => numbers::number(line, at),
         b't' => fields::text(line, at),
         b'a' => fields::text(line, at),
         b'z' => fields::text(line, at),
@@ -31,6 +34,8 @@ fn field_at(line: &[u8], f: u8, at: usize) -> Field
         b'k' => fields::bar_type(line, at),
         b'h' => fields::under(line, at),
         b'd' => data_field::data_form(line, at),
+        b'f' => format_form(line, Stamp::Date, at),
+        b'g' => format_form(line, Stamp::Time, at),
         _ => fields::literal(line, f, at),
     }
 }

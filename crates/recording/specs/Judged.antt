@@ -9,7 +9,7 @@ use Rattle.kinds.specs.declared.Kind.the-variants.{Shown}
 use Rattle.declarations.specs.declared.Declared.{Declared}
 use Rattle.reach.specs.declared.DataAnswer.{DataAnswer}
 use Rattle.reach.specs.declared.DataAnswer.the-variants.{Good, Undeclared as NotDeclared, Past as Reaches}
-use Rattle.declarations.specs.Declarations.{variableDeclared, counterDeclared, withVariable, withCounter}
+use Rattle.declarations.specs.Declarations.{variableDeclared, counterDeclared, withVariable, withCounter, formatted}
 use Rattle.elements.specs.Elements.{elements}
 use Rattle.reach.specs.Answers.{dataAnswer}
 use Rattle.summary.specs.Summary.{judged as fitAlways}
@@ -17,7 +17,7 @@ use Rattle.finding.specs.Find.{isAt, titledAt}
 use Rattle.parts.specs.Names.{packedOf}
 use Rattle.grammar.specs.Named.{DECLARED-AT}
 use Rattle.grammar.specs.declared.Item.{Item}
-use Rattle.grammar.specs.declared.Item.the-variants.{Origin, Variable, Counter, Text, Bars, Box, Frame, Slant, Picture}
+use Rattle.grammar.specs.declared.Item.the-variants.{Origin, Variable, Counter, Text, Bars, Box, Frame, Slant, Picture, Format}
 use Rattle.recording.specs.declared.Verdict.{Verdict}
 use Rattle.recording.specs.declared.Verdict.the-variants.{Taken, Again, Undeclared, Past, Unfit}
 
@@ -43,8 +43,9 @@ judged d line (Box r) = Taken
 judged d line (Frame f) = Taken
 judged d line (Slant l) = Taken
 judged d line (Picture p) = Taken
+judged d line (Format f) = Taken
 
--- what is declared after an item
+-- what is declared after an item, and the formats in force: "TD and TT may be recorded and then hold for the rest of that label" (paper 02, §10)
 unfoldable pub declares : Declared → Item → Declared
 declares d (Origin o) = d
 declares d (Variable v) = withVariable d (v .n) (v .m) (v .j)
@@ -55,6 +56,7 @@ declares d (Box r) = d
 declares d (Frame f) = d
 declares d (Slant l) = d
 declares d (Picture p) = d
+declares d (Format f) = formatted d (f .stamp) (f .format)
 
 -- "otherwise all but V, C and FE": an item that has a place in a form alone
 unfoldable pub declaration : Item → Bool
@@ -67,6 +69,7 @@ declaration (Box r) = false
 declaration (Frame f) = false
 declaration (Slant l) = false
 declaration (Picture p) = false
+declaration (Format f) = false
 
 -- recording takes it
 abbrev pub isTaken : Verdict → Bool
@@ -88,4 +91,5 @@ hasPicture directory line (Bars b) = true
 hasPicture directory line (Box r) = true
 hasPicture directory line (Frame f) = true
 hasPicture directory line (Slant l) = true
+hasPicture directory line (Format f) = true
 hasPicture directory line (Picture p) = isAt (titledAt directory true (packedOf line (p .at) (p .length)))

@@ -64,6 +64,7 @@ pub fn judge(line: &[u8], item: Item, d: Declared) -> Verdict
         Item::Frame(_) => Verdict::Taken,
         Item::Slant(_) => Verdict::Taken,
         Item::Picture(_) => Verdict::Taken,
+        Item::Format(_) => Verdict::Taken,
     }
 }
 
@@ -81,6 +82,7 @@ pub fn is_declaration(item: Item) -> bool
         Item::Frame(_) => false,
         Item::Slant(_) => false,
         Item::Picture(_) => false,
+        Item::Format(_) => false,
     }
 }
 
@@ -104,6 +106,7 @@ pub fn has_picture(directory: &[u8], line: &[u8], item: Item) -> bool
         Item::Frame(_) => true,
         Item::Slant(_) => true,
         Item::Picture(p) => has_named(directory, line, p.at, p.length),
+        Item::Format(_) => true,
     }
 }
 
@@ -120,7 +123,7 @@ pub fn is_taken(v: Verdict) -> bool
     }
 }
 
-// What is declared after an item.
+// What is declared after an item, and the formats in force.
 pub fn declare(d: Declared, item: Item) -> Declared
     ensures { λ r. ⌜ r ≡ declares d item ⌝ }
 {
@@ -134,5 +137,10 @@ pub fn declare(d: Declared, item: Item) -> Declared
         Item::Frame(_) => d,
         Item::Slant(_) => d,
         Item::Picture(_) => d,
+        Item::Format(f) => {
+            let stamp = f.stamp;
+            let format = f.format;
+            d.formatted(stamp, format)
+        }
     }
 }

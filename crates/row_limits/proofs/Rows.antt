@@ -14,17 +14,17 @@ use Rattle.row_limits.specs.Limits.{fieldLimits, firstOf, limitsFrom}
 
 -- ---- the limits, field by field
 module _ (fs : List ℕ) (ls : List (ℕ × ℕ)) (s : List ℕ) (u : ℕ) (vs ps : List ℕ) (i : ℕ) (h : i < length fs) where
-  pub limits-more : fieldLimits (getD fs i 32) (getD ls i free) s u (getD vs i 0) (getD ps i 0) ≡ Within
+  pub limits-more : fieldLimits (getD fs i 32) (getD ls i free) s u (getD vs i 0) (getD ps i 0) (getD vs (i + 2) 0) ≡ Within
       → limitsFrom (drop i fs) (drop i ls) s u (drop i vs) (drop i ps)
       ≡ limitsFrom (drop (i + 1) fs) (drop (i + 1) ls) s (cond (isNumber (getD fs i 32)) (getD vs i 0) u) (drop (i + 1) vs) (drop (i + 1) ps)
   unfolding limitsFrom
   limits-more k =
-      rw (drop-cons fs i 32 h, getD-drop i ls 0 free, getD-drop i vs 0 0, getD-drop i ps 0 0, add-zero, k, drop-drop 1 i ls, drop-drop 1 i vs, drop-drop 1 i ps, add-one i)
+      rw (drop-cons fs i 32 h, getD-drop i ls 0 free, getD-drop i vs 0 0, getD-drop i vs 2 0, getD-drop i ps 0 0, add-zero, k, drop-drop 1 i ls, drop-drop 1 i vs, drop-drop 1 i ps, add-one i)
 
-  pub limits-out : (p : ℕ) → fieldLimits (getD fs i 32) (getD ls i free) s u (getD vs i 0) (getD ps i 0) ≡ Outside p
+  pub limits-out : (p : ℕ) → fieldLimits (getD fs i 32) (getD ls i free) s u (getD vs i 0) (getD ps i 0) (getD vs (i + 2) 0) ≡ Outside p
       → limitsFrom (drop i fs) (drop i ls) s u (drop i vs) (drop i ps) ≡ Outside p
   unfolding limitsFrom
-  limits-out p k = rw (drop-cons fs i 32 h, getD-drop i ls 0 free, getD-drop i vs 0 0, getD-drop i ps 0 0, add-zero, k)
+  limits-out p k = rw (drop-cons fs i 32 h, getD-drop i ls 0 free, getD-drop i vs 0 0, getD-drop i vs 2 0, getD-drop i ps 0 0, add-zero, k)
 
 pub limits-done : (fs : List ℕ) (ls : List (ℕ × ℕ)) (s : List ℕ) (u : ℕ) (vs ps : List ℕ) (i : ℕ) → length fs ≤ i
     → limitsFrom (drop i fs) (drop i ls) s u (drop i vs) (drop i ps) ≡ Within
@@ -37,7 +37,7 @@ pub limits-same : (fs : List ℕ) (ls : List (ℕ × ℕ)) (s : List ℕ) (u : �
 unfolding limitsFrom
 limits-same [] ls s u vs ws ps qs h k = refl
 limits-same (f ∷ fs) ls s u vs ws ps qs h k =
-    rw (h 0, k 0)
-    (ap (firstOf (fieldLimits f (getD ls 0 free) s u (getD ws 0 0) (getD qs 0 0)))
+    rw (h 0, h 2, k 0)
+    (ap (firstOf (fieldLimits f (getD ls 0 free) s u (getD ws 0 0) (getD qs 0 0) (getD ws 2 0)))
     (limits-same fs (drop 1 ls) s (cond (isNumber f) (getD ws 0 0) u) (drop 1 vs) (drop 1 ws) (drop 1 ps) (drop 1 qs) (same-drop vs ws h)
     (same-drop ps qs k)))

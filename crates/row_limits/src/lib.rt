@@ -4,13 +4,15 @@
 // such field of a line, or that all are within.
 ghost use mathlib.Core.Path.{_≡_};
 ghost use mathlib.Core.Bool.{_||_, cond};
+ghost use lib.ListN.{getD};
 ghost use Rattle.bounds.specs.Letters.{boundBy};
 ghost use Rattle.bounds.specs.declared.Bounds.{Bounds};
 ghost use Rattle.kinds.specs.Bytes.{between};
 ghost use Rattle.grammar.specs.Makers.{starred};
 ghost use Rattle.grammar.specs.Forms.{rowOf, Form, boundsOf, limited, isNumber};
-ghost use Rattle.row_limits.specs.Limits.{named, meets, fieldLimits, limitsFrom};
+ghost use Rattle.row_limits.specs.Limits.{named, dayThere, meets, fieldLimits, limitsFrom};
 use bounds::bound_by;
+use calendar::days_in;
 use classes::Class;
 use data_field::Limits;
 use grammar::makers::is_star;
@@ -37,12 +39,23 @@ fn is_either(line: &[u8], p: usize, n: usize) -> bool
     is_star(line, p, n)
 }
 
+// Whether a day is one of its month, where the year is within its limits.
+fn is_day(month: usize, day: usize, year: usize) -> bool
+    ensures { λ r. ⌜ r ≡ dayThere month day year ⌝ }
+{
+    if 99 < year {
+        return true;
+    }
+    day <= days_in(year, month)
+}
+
 // Whether a field meets what is asked of it beside its bounds.
-fn is_met(line: &[u8], f: u8, before: usize, v: usize, p: usize) -> bool
-    ensures { λ r. ⌜ r ≡ meets f (now (line .entry)) before v p ⌝ }
+fn is_met(line: &[u8], f: u8, before: usize, v: usize, p: usize, behind: usize) -> bool
+    ensures { λ r. ⌜ r ≡ meets f (now (line .entry)) before v p behind ⌝ }
 {
     match f {
         b'w' => before < v,
+        b'y' => is_day(before, v, behind),
         b'a' => is_name(line, p, v),
         b'z' => is_either(line, p, v),
         _ => true,
@@ -64,6 +77,7 @@ fn is_limited(f: u8) -> bool
     match f {
         b'n' => true,
         b'w' => true,
+        b'y' => true,
         b's' => true,
         b't' => true,
         b'a' => true,
@@ -81,8 +95,9 @@ fn field_limits(
     before: usize,
     v: usize,
     p: usize,
+    behind: usize,
 ) -> Limits
-    ensures { λ r. ⌜ r ≡ fieldLimits f (boundBy letter rows .low, boundBy letter rows .high) (now (line .entry)) before v p ⌝ }
+    ensures { λ r. ⌜ r ≡ fieldLimits f (boundBy letter rows .low, boundBy letter rows .high) (now (line .entry)) before v p behind ⌝ }
 {
     if f == b'd' {
         return data_field::data_limits(line, p);
@@ -90,7 +105,7 @@ fn field_limits(
     if is_limited(f) {
         let b = bound_by(letter, rows);
         if is_within(b.low, b.high, v) {
-            if is_met(line, f, before, v, p) {
+            if is_met(line, f, before, v, p, behind) {
                 return Limits::Within;
             }
             return Limits::Outside(p);
@@ -106,8 +121,16 @@ fn number_after(f: u8, v: usize, before: usize) -> usize
     match f {
         b'n' => v,
         b'w' => v,
+        b'y' => v,
         _ => before,
     }
+}
+
+// The value of a slot, 0 past the last.
+fn value_at(vs: &[usize], i: usize) -> usize
+    ensures { λ r. ⌜ r ≡ getD (now (vs .entry)) i 0 ⌝ }
+{
+    if i < vs.len() { vs[i] } else { 0 }
 }
 
 // The first field of a row outside its limits.
@@ -131,7 +154,9 @@ pub fn row_limits(
         let letter = up[18 + i];
         let v = vs[i];
         let p = ps[i];
-        if let Limits::Outside(fault) = field_limits(line, f, letter, rows, before, v, p) {
+        // A comma stands between two fields.
+        let behind = value_at(vs, i + 2);
+        if let Limits::Outside(fault) = field_limits(line, f, letter, rows, before, v, p, behind) {
             return Limits::Outside(fault);
         }
         before = number_after(f, v, before);

@@ -18,10 +18,10 @@ use Rattle.session.specs.Label.{turnedBy, labelOn, labelPage, labelSessi
 module _ (font : List ℕ) (s : Session) (w : World) (page : List ℕ) where
   pub label-made :
       (p q r : List ℕ) (d : Declared) (m t : Session) → p ≡ copied page (w .background) →
-      q ≡ formDrawn (setting font (w .store) (w .links) (w .directory) (w .values) (s .counters) (s .width) (s .length)) (s .x) (s .y) (activeOf w s) p →
+      q ≡ formDrawn (setting font (w .store) (w .links) (w .directory) (w .values) (s .counters) (s .clock) (s .width) (s .length)) (s .x) (s .y) (activeOf w s) p →
       r ≡ turnedBy (s .turn) (s .width) (s .length) q → d ≡ activeDeclared w s → m ≡ moved s d → t ≡ counted m → printed t r ≡ printedOn font s w page
   unfolding printedOn labelSession
-  label-made p q r d m t a b c e f g = (λ i. printed ((g ∙ ap counted (f ∙ ap (moved s) e)) i) ((c ∙ ap (turnedBy (s .turn) (s .width) (s .length)) (b ∙ ap (formDrawn (setting font (w .store) (w .links) (w .directory) (w .values) (s .counters) (s .width) (s .length)) (s .x) (s .y) (activeOf w s)) a)) i))
+  label-made p q r d m t a b c e f g = (λ i. printed ((g ∙ ap counted (f ∙ ap (moved s) e)) i) ((c ∙ ap (turnedBy (s .turn) (s .width) (s .length)) (b ∙ ap (formDrawn (setting font (w .store) (w .links) (w .directory) (w .values) (s .counters) (s .clock) (s .width) (s .length)) (s .x) (s .y) (activeOf w s)) a)) i))
 
   -- "copies the background": on a page of its length the label is `labelPage`
   pub label-whole : length page ≡ length (w .background) → printedOn font s w page ≡ printed (labelSession s w) (labelPage font s w)

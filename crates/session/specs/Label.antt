@@ -23,7 +23,7 @@ turnedBy turn width length page = cond (eqb turn 1) (turned width length page) p
 abbrev pub labelOn : List ℕ → Session → World → List ℕ → List ℕ
 labelOn font s w page =
     turnedBy (s .turn) (s .width) (s .length)
-    (formDrawn (setting font (w .store) (w .links) (w .directory) (w .values) (s .counters) (s .width) (s .length)) (s .x) (s .y) (activeOf w s) page)
+    (formDrawn (setting font (w .store) (w .links) (w .directory) (w .values) (s .counters) (s .clock) (s .width) (s .length)) (s .x) (s .y) (activeOf w s) page)
 
 -- "copies the background": what stood on the page does not matter
 unfoldable pub labelPage : List ℕ → Session → World → List ℕ

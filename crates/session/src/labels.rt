@@ -34,6 +34,7 @@ impl Session {
         pages::copy(page, background);
         let active = self.active;
         let counters = self.counters;
+        let clock = self.clock;
         active_form::draw(
             page,
             font,
@@ -42,6 +43,7 @@ impl Session {
             directory,
             values,
             counters,
+            clock,
             self.width,
             self.length,
             self.x,

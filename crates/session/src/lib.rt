@@ -1,16 +1,20 @@
 // The session, and its methods.
 //
 // Paper 01, "What is lent": "The session holds width, length, turn, origin, counters with set or unset (then 0), active form, labels owed
-// and drawn"; and since paper 02, §6, the number of free portions. It is plain unsigned numbers by value, so that any bytes are some session and
-// sound alone judges it; a number that goes into it is cut to its 16 bits by one function for all, so that no caller is asked for anything. What
-// changes it is a method that takes the session and hands the next one back: the origin replaced, the counters moved, a label drawn (`labels`).
-// Whether a session is sound with the memory beside it is left to crate `sound`, and when a method is called to crate `station`.
+// and drawn"; and since paper 02, §6, the number of free portions, and §10, the clock and the formats of date and time outside forms. It is plain
+// unsigned numbers by value, so that any bytes are some session and sound alone judges it; a number that goes into it is cut to its 16 bits by one
+// function for all, so that no caller is asked for anything. What changes it is a method that takes the session and hands the next one back: the
+// origin replaced, the counters moved, a label drawn (`labels`). Whether a session is sound with the memory beside it is left to crate `sound`, and
+// when a method is called to crate `station`.
 ghost use mathlib.Core.Path.{_≡_};
-ghost use Rattle.session.specs.Session.{fresh, none, blank, sized, turning, based, activated, counting, roomed, owing, moved, counted, sixteenBits};
+ghost use Rattle.session.specs.Session.{fresh, none, blank, sized, turning, based, activated, counting, roomed, noClock, noFormat, noFormats, clocked, formatted, owing, moved, counted, sixteenBits};
 pub use active_form::NO_FORM;
 use answers::Answer;
+use calendar::Clock;
 use counters::Counters;
 use declarations::Declared;
+use formats::Format;
+use formats::Formats;
 
 mod labels; // one label drawn
 
@@ -38,6 +42,8 @@ pub struct Session {
     pub drawn: u16,
     pub counters: Counters,
     pub free: u16,
+    pub clock: Clock,
+    pub formats: Formats,
 }
 
 // What opening and a label call answer.
@@ -63,6 +69,41 @@ fn unset() -> Counters
     }
 }
 
+// Zeros where a clock stands.
+fn no_clock() -> Clock
+    ensures { λ r. ⌜ r ≡ noClock ⌝ }
+{
+    Clock {
+        year: 0,
+        month: 0,
+        day: 0,
+        hour: 0,
+        minute: 0,
+        second: 0,
+    }
+}
+
+fn no_format() -> Format
+    ensures { λ r. ⌜ r ≡ noFormat ⌝ }
+{
+    Format {
+        first: 0,
+        mark1: 0,
+        second: 0,
+        mark2: 0,
+        third: 0,
+    }
+}
+
+fn no_formats() -> Formats
+    ensures { λ r. ⌜ r ≡ noFormats ⌝ }
+{
+    Formats {
+        date: no_format(),
+        time: no_format(),
+    }
+}
+
 impl Session {
     // "Opening .. frees all portions, and sets width 608, length N, origin 0,0, ZT, nothing owed."
     pub fn fresh(rows: u16, portions: u16) -> Session
@@ -80,6 +121,8 @@ impl Session {
             drawn: 0,
             counters: counters,
             free: portions,
+            clock: Clock::fresh(),
+            formats: Formats::examples(),
         }
     }
 
@@ -99,6 +142,8 @@ impl Session {
             drawn: 0,
             counters: counters,
             free: 0,
+            clock: no_clock(),
+            formats: no_formats(),
         }
     }
 
@@ -156,6 +201,24 @@ impl Session {
     {
         let mut s = self;
         s.free = free;
+        s
+    }
+
+    // TS, and the clock call.
+    pub fn clocked(self, clock: Clock) -> Session
+        ensures { λ r. ⌜ r ≡ clocked self clock ⌝ }
+    {
+        let mut s = self;
+        s.clock = clock;
+        s
+    }
+
+    // TD and TT outside a form.
+    pub fn formatted(self, formats: Formats) -> Session
+        ensures { λ r. ⌜ r ≡ formatted self formats ⌝ }
+    {
+        let mut s = self;
+        s.formats = formats;
         s
     }
 

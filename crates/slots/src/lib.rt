@@ -1,20 +1,24 @@
 // The two slots of a lasting store's file: session, values and how many pictures were written, each under an order and a sum.
 //
 // What changes session and values alone, as each label does, goes into the slot that does not hold the last state, so that a cut leaves that one whole
-// (specs/Slots.antt). A slot's sum starts from the sum of head and body, so that it is not taken for one of another body.
+// (specs/Slots.antt). A slot's sum starts from the sum of head and body, so that it is not taken for one of another body. A file of version 1 was made before there
+// was a clock: its slots have less of a session's image, and its session is given the clock and the formats of an opening.
 ghost use mathlib.Core.Path.{_≡_};
 ghost use Prim.Native.Nat.{_+_};
 ghost use lib.ListN.{take};
 ghost use lib.Seq.{sets};
 ghost use Rattle.low_first.specs.Low.{numberAt};
-ghost use Rattle.image.specs.Image.{sessionOf, imageOf};
+ghost use Rattle.image.specs.Image.{imageOf};
 ghost use Rattle.lent.specs.Lent.{bytesOfValues};
 ghost use Rattle.file_parts.specs.Sums.{partOf};
-ghost use Rattle.slots.specs.Slots.{slotOf, picturesAt, imageAt, heldImage, valuesAt, filled, slotted, whole, tornAt};
+ghost use Rattle.slots.specs.Slots.{slotOf, picturesAt, imageAt, isFirst, heldImage, valuesAt, sumAt, dated, sessionIn, filled, slotted, whole, tornAt};
+use calendar::Clock;
 use file_parts::four_at;
 use file_parts::part;
 use file_parts::put_four;
 use file_parts::sum;
+use file_parts::two_at;
+use formats::Formats;
 use ground::both;
 use ground::front;
 use ground::put;
@@ -25,6 +29,9 @@ use session::Session;
 // The head and each slot have a page of their own, so that a cut while one is written leaves the others whole.
 pub const PAGE: usize = 4096;
 
+// Where the head has the file's version.
+pub const VERSION_AT: usize = 16;
+
 // Where the head has the sum of head and body.
 pub const BODY_SUM_AT: usize = 24;
 
@@ -33,15 +40,11 @@ const PICTURES_AT: usize = 4;
 
 const IMAGE_AT: usize = 8;
 
-// The image without its last number, that of free portions: the links in the file's body say it, and files keep their format.
-const HELD_IMAGE: usize = 65;
+// Version 1 has the image up to the number of free portions, which the links in the file's body say.
+const FIRST_IMAGE: usize = 65;
 
-const VALUES_AT: usize = IMAGE_AT + HELD_IMAGE;
-
-const SUM_AT: usize = VALUES_AT + BYTES_OF_VALUES;
-
-// The bytes of a slot.
-pub const SLOT: usize = SUM_AT + 4;
+// The bytes of a slot; one of version 1 has fewer.
+pub const SLOT: usize = IMAGE_AT + IMAGE + BYTES_OF_VALUES + 4;
 
 // Where slot k stands.
 fn page_of(k: usize) -> usize
@@ -57,22 +60,49 @@ pub fn slot_at(order: u32) -> usize
     page_of(order as usize)
 }
 
-fn put_session(file: &mut [u8], at: usize, session: Session)
-    ensures { λ _. ⌜ now (file .exit) ≡ sets (now (file .entry)) at (take heldImage (imageOf session)) ⌝ }
+// Whether a file is of version 1.
+pub fn is_first(file: &[u8]) -> bool
+    ensures { λ r. ⌜ r ≡ isFirst (now (file .entry)) ⌝ }
+{
+    two_at(file, VERSION_AT) == 1
+}
+
+// How much of a session's image a slot has.
+fn held_image(file: &[u8]) -> usize
+    ensures { λ r. ⌜ r ≡ heldImage (now (file .entry)) ⌝ }
+{
+    if is_first(file) { FIRST_IMAGE } else { IMAGE }
+}
+
+fn values_at(file: &[u8]) -> usize
+    ensures { λ r. ⌜ r ≡ valuesAt (now (file .entry)) ⌝ }
+{
+    IMAGE_AT + held_image(file)
+}
+
+fn sum_at(file: &[u8]) -> usize
+    ensures { λ r. ⌜ r ≡ sumAt (now (file .entry)) ⌝ }
+{
+    values_at(file) + BYTES_OF_VALUES
+}
+
+fn put_session(file: &mut [u8], at: usize, held: usize, session: Session)
+    ensures { λ _. ⌜ now (file .exit) ≡ sets (now (file .entry)) at (take held (imageOf session)) ⌝ }
 {
     let mut image = [0u8; IMAGE];
     image::encode(session, &mut image);
-    put(file, at, front(&image, HELD_IMAGE));
+    put(file, at, front(&image, held));
 }
 
 fn fill_slot(file: &mut [u8], order: u32, pictures: u32, session: Session, values: &[u8])
     ensures { λ _. ⌜ now (file .exit) ≡ filled (now (file .entry)) (slotOf order) order pictures session (now (values .entry)) ⌝ }
 {
     let at = slot_at(order);
+    let held = held_image(file);
     put_four(file, at, order);
     put_four(file, at + PICTURES_AT, pictures);
-    put_session(file, at + IMAGE_AT, session);
-    put(file, at + VALUES_AT, front(values, BYTES_OF_VALUES));
+    put_session(file, at + IMAGE_AT, held, session);
+    put(file, at + (IMAGE_AT + held), front(values, BYTES_OF_VALUES));
 }
 
 // Session and values in the slot of their order.
@@ -81,9 +111,10 @@ pub fn put_slot(file: &mut [u8], order: u32, pictures: u32, session: Session, va
 {
     fill_slot(file, order, pictures, session, values);
     let at = slot_at(order);
+    let n = sum_at(file);
     let mark = four_at(file, BODY_SUM_AT);
-    let s = sum(mark, part(file, at, SUM_AT));
-    put_four(file, at + SUM_AT, s);
+    let s = sum(mark, part(file, at, n));
+    put_four(file, at + n, s);
 }
 
 // The order of slot k, which 0 never is.
@@ -100,21 +131,31 @@ pub fn pictures_of(file: &[u8], k: usize) -> u32
     four_at(file, page_of(k) + PICTURES_AT)
 }
 
-// The session of slot k, but for the number of free portions, which is 0.
-pub fn session_of(file: &[u8], k: usize) -> Session
-    ensures { λ r. ⌜ r ≡ sessionOf (partOf (now (file .entry)) (slotOf k + imageAt) heldImage) ⌝ }
+// A session that was kept before there was a clock, with the clock and the formats of an opening.
+fn dated(session: Session) -> Session
+    ensures { λ r. ⌜ r ≡ dated session ⌝ }
 {
-    image::decode(part(file, page_of(k) + IMAGE_AT, HELD_IMAGE))
+    session
+        .clocked(Clock::fresh())
+        .formatted(Formats::examples())
+}
+
+// The session of slot k. Whoever loads it counts the free portions anew.
+pub fn session_of(file: &[u8], k: usize) -> Session
+    ensures { λ r. ⌜ r ≡ sessionIn (now (file .entry)) (slotOf k) ⌝ }
+{
+    let held = image::decode(part(file, page_of(k) + IMAGE_AT, held_image(file)));
+    if is_first(file) { dated(held) } else { held }
 }
 
 // The values of slot k.
 pub fn load_values(file: &[u8], k: usize, values: &mut [u8])
-    ensures { λ _. ⌜ now (values .exit) ≡ sets (now (values .entry)) 0 (partOf (now (file .entry)) (slotOf k + valuesAt) bytesOfValues) ⌝ }
+    ensures { λ _. ⌜ now (values .exit) ≡ sets (now (values .entry)) 0 (partOf (now (file .entry)) (slotOf k + valuesAt (now (file .entry))) bytesOfValues) ⌝ }
 {
     put(
         values,
         0,
-        part(file, page_of(k) + VALUES_AT, BYTES_OF_VALUES),
+        part(file, page_of(k) + values_at(file), BYTES_OF_VALUES),
     );
 }
 
@@ -123,9 +164,10 @@ pub fn is_whole(file: &[u8], k: usize) -> bool
     ensures { λ r. ⌜ r ≡ whole (now (file .entry)) (slotOf k) ⌝ }
 {
     let at = page_of(k);
-    let said = four_at(file, at + SUM_AT);
+    let n = sum_at(file);
+    let said = four_at(file, at + n);
     let mark = four_at(file, BODY_SUM_AT);
-    said == sum(mark, part(file, at, SUM_AT))
+    said == sum(mark, part(file, at, n))
 }
 
 // Whether slot k was begun and is not whole: a change that was cut short.

@@ -1,3 +1,4 @@
 pub mod Numbered
 pub mod Clauses
 pub mod EntryRows
+pub mod Times

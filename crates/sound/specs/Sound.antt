@@ -5,6 +5,10 @@ use mathlib.Core.Bool.{Bool, _&&_}
 use mathlib.Core.List.{List}
 use lib.Dec.{leb}
 use Rattle.kinds.specs.Bytes.{between}
+use Rattle.calendar.specs.declared.Clock.{Clock}
+use Rattle.calendar.specs.Clock.{legalClock}
+use Rattle.formats.specs.declared.Formats.{Formats}
+use Rattle.formats.specs.Formats.{legalFormats}
 use Rattle.outside.specs.Outside.{whiteOutside}
 use Rattle.store_sound.specs.Sound.{storeSound}
 use Rattle.free_number.specs.Number.{freeNumber}
@@ -19,6 +23,10 @@ unfoldable pub use Rattle.active_form.specs.Active.{activeBytes}
 unfoldable pub numbersOk : ℕ → Session → Bool
 numbersOk rows s =
     between leastWidth mostWidth (s .width) && (between 1 rows (s .length) && (leb (s .turn) 1 && (leb (s .x) mostX && leb (s .y) mostY)))
+
+-- "Sound covers clock and formats" (paper 02, §10)
+unfoldable pub timesOk : Clock → Formats → Bool
+timesOk clock formats = legalClock clock && legalFormats formats
 
 -- "no background dot outside width by length"
 unfoldable pub backgroundOk : ℕ → ℕ → List ℕ → Bool
@@ -40,8 +48,9 @@ backgroundOk width length background = whiteOutside width length background
 unfoldable pub sound : Session → World → Bool
 sound s w =
     numbersOk (rowsOf w) s
+    && (timesOk (s .clock) (s .formats)
     && (backgroundOk (s .width) (s .length) (w .background)
     && (storeSound (w .store) (w .links) (w .directory)
     && (freeNumber (w .links) (w .directory) (s .free)
     && (contentsOk (w .store) (w .links) (w .directory)
-    && activitySound s (w .directory) (activeBytes (w .store) (w .links) (w .directory) (s .active)) (w .values)))))
+    && activitySound s (w .directory) (activeBytes (w .store) (w .links) (w .directory) (s .active)) (w .values))))))

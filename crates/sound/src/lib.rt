@@ -13,12 +13,15 @@ ghost use Rattle.kinds.specs.Bytes.{between};
 ghost use Rattle.store.specs.Chain.{freeCount};
 ghost use Rattle.lent.specs.Lent.{world};
 ghost use Rattle.session.specs.Session.{leastWidth, mostWidth, mostX, mostY};
-ghost use Rattle.sound.specs.Sound.{backgroundOk, sound};
+ghost use Rattle.sound.specs.Sound.{timesOk, backgroundOk, sound};
 use activity_check::wide;
+use calendar::Clock;
 pub use checks::entry_answer;
 use counters::Counters;
 use declarations::Declared;
 use dots::BYTES_A_ROW;
+use formats::Formats;
+use formats::legal_formats;
 use ground::both;
 use session::LEAST_WIDTH;
 use session::MOST_WIDTH;
@@ -44,6 +47,13 @@ fn numbers_ok(width: u16, length: u16, turn: u8, x: u16, y: u16, rows: usize) ->
         wide_enough,
         both(long_enough, both(turn <= 1, both(x <= MOST_X, y <= MOST_Y))),
     )
+}
+
+// "Sound covers clock and formats."
+fn times_ok(clock: Clock, formats: Formats) -> bool
+    ensures { λ r. ⌜ r ≡ timesOk clock formats ⌝ }
+{
+    both(clock.is_legal(), legal_formats(formats))
 }
 
 // "no background dot outside width by length"
@@ -80,6 +90,9 @@ pub fn is_sound(
         session.y,
         rows,
     ) {
+        return false;
+    }
+    if !times_ok(session.clock, session.formats) {
         return false;
     }
     if !background_ok(background, session.width, session.length) {

@@ -12,7 +12,7 @@ use Rattle.finding.specs.declared.Found.{Found}
 use Rattle.finding.specs.declared.Found.the-variants.{At, Nothing}
 use Rattle.finding.specs.Find.{recorded}
 use Rattle.grammar.specs.declared.Command.{Command}
-use Rattle.grammar.specs.declared.Command.the-variants.{Item as item, End, Page, Forms, Pictures, Values, Listing}
+use Rattle.grammar.specs.declared.Command.the-variants.{Item as item, End, Page, Forms, Pictures, Values, Listing, Clock}
 use Rattle.grammar.specs.declared.FormCommand.the-variants.{Start, Retrieve, Erase as EraseForm}
 use Rattle.grammar.specs.declared.PictureCommand.the-variants.{Store, Erase as ErasePicture}
 use Rattle.grammar.specs.declared.ValueCommand.the-variants.{Variable as EnterVariable, Counter as EnterCounter, Clear, Print}
@@ -136,6 +136,7 @@ late-record w s line i (Forms c) = refl
 late-record w s line i (Pictures c) = refl
 late-record w s line i (Values c) = refl
 late-record w s line i (Listing c) = refl
+late-record w s line i (Clock c) = refl
 
 late-run : (w : World) (s : Session) (line more : List ℕ) (room : ℕ) (c : Command) → allLate (runRows w s line more room c) ≡ true
 unfolding numberOf
@@ -154,6 +155,7 @@ late-run w s line more room (Values (Print p)) = refl
 late-run w s line more room (Listing ListForms) = refl
 late-run w s line more room (Listing ListPictures) = refl
 late-run w s line more room (Listing (ListForm n)) = refl
+late-run w s line more room (Clock c) = refl
 
 late-placed : (w : World) (s : Session) (line more : List ℕ) (room : ℕ) (c : Command) (f : Found) → allLate (placedRows w s line more room c f) ≡ true
 late-placed w s line more room c (At i) = late-record w s line i c

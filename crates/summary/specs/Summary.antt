@@ -11,10 +11,13 @@ use Rattle.kinds.specs.declared.Kind.{Kind}
 use Rattle.kinds.specs.declared.Kind.the-variants.{Shown, Code39, Interleaved, Ean13, Code128}
 use Rattle.kinds.specs.Bytes.{allIn}
 use Rattle.kinds.specs.Fit.{inClass, fitLength}
+use Rattle.formats.specs.declared.Stamp.{Stamp}
+use Rattle.formats.specs.Formats.{formatOf}
+use Rattle.stamps.specs.Always.{stampLength, stampGood}
 use Rattle.elements.specs.declared.Part.{Part}
 use Rattle.elements.specs.declared.Part.the-variants.{Whole, First, Last, Middle}
 use Rattle.elements.specs.declared.What.{What}
-use Rattle.elements.specs.declared.What.the-variants.{Text, Variable, Counter}
+use Rattle.elements.specs.declared.What.the-variants.{Text, Variable, Counter, Stamped}
 use Rattle.elements.specs.declared.Element.{Element}
 use Rattle.declarations.specs.declared.Declared.{Declared}
 use Rattle.declarations.specs.Declarations.{lengthAt, sideAt, widthAt}
@@ -38,11 +41,13 @@ abbrev pub leastOf : List ℕ → Declared → Element → What → ℕ
 leastOf line d e Text = length (textIn line e)
 leastOf line d e (Variable k p) = partLength p (fewest (sideAt d k) (lengthAt d k))
 leastOf line d e (Counter k p) = partLength p (widthAt d k)
+leastOf line d e (Stamped st) = stampLength st (formatOf (d .formats) st)
 
 abbrev pub mostOf : List ℕ → Declared → Element → What → ℕ
 mostOf line d e Text = length (textIn line e)
 mostOf line d e (Variable k p) = partLength p (lengthAt d k)
 mostOf line d e (Counter k p) = partLength p (widthAt d k)
+mostOf line d e (Stamped st) = stampLength st (formatOf (d .formats) st)
 
 -- the kind takes every legal byte: it takes the star, which no strict kind takes
 abbrev pub takesAll : Kind → Bool
@@ -60,6 +65,7 @@ abbrev pub goodOf : Kind → List ℕ → Declared → Element → What → Bool
 goodOf c line d e Text = allIn (inClass c) (textIn line e)
 goodOf c line d e (Variable k p) = variableGood c (sideAt d k) (partLength p (lengthAt d k))
 goodOf c line d e (Counter k p) = true
+goodOf c line d e (Stamped st) = stampGood c st (formatOf (d .formats) st)
 
 -- ---- all elements
 
@@ -88,6 +94,11 @@ upTo n = min tooLong n
 
 abbrev pub summary : ℕ → ℕ → Bool → Summary
 summary l m g = record { least = l; most = m; good = g }
+
+-- of the date or the time of day
+abbrev pub stampSummary : Kind → Declared → Stamp → Summary
+stampSummary k d st =
+    summary (stampLength st (formatOf (d .formats) st)) (stampLength st (formatOf (d .formats) st)) (stampGood k st (formatOf (d .formats) st))
 
 unfoldable pub summaryOf : Kind → List ℕ → Declared → Element → Summary
 summaryOf k line d e = summary (leastOf line d e (e .what)) (mostOf line d e (e .what)) (goodOf k line d e (e .what))

@@ -7,16 +7,19 @@
 ghost use mathlib.Core.Path.{_≡_};
 ghost use Prim.Native.Nat.{_+_};
 ghost use mathlib.Core.List.{[]};
-ghost use Rattle.summary.specs.Summary.{partLength, fewest, takesAll, variableGood, leastOf, mostOf, goodOf, upTo, summary, summaryOf, joined, decided};
+ghost use Rattle.summary.specs.Summary.{partLength, fewest, takesAll, variableGood, leastOf, mostOf, goodOf, stampSummary, upTo, summary, summaryOf, joined, decided};
 use declarations::Declared;
 use elements::Element;
 use elements::Part;
 use elements::What;
+use formats::Stamp;
 use ground::both;
 use ground::front;
 use ground::least;
 use ground::less;
 use kinds::Kind;
+use stamps::stamp_good;
+use stamps::stamp_length;
 
 // One more than the most bytes that any kind takes: lengths are counted no further.
 const TOO_LONG: usize = 129;
@@ -80,6 +83,21 @@ fn variable_summary(d: Declared, kind: Kind, e: Element, k: usize, p: Part) -> S
     Summary { least, most, good }
 }
 
+// A format says how long date or time are, whatever the clock is, and which bytes they can show.
+fn stamp_summary(d: Declared, kind: Kind, stamp: Stamp) -> Summary
+    ensures { λ r. ⌜ r ≡ stampSummary kind d stamp ⌝ }
+{
+    let formats = d.formats;
+    let format = formats.of(stamp);
+    let n = stamp_length(stamp, format);
+    let good = stamp_good(kind, stamp, format);
+    Summary {
+        least: n,
+        most: n,
+        good,
+    }
+}
+
 // What an element can show.
 pub fn summary_of(line: &[u8], d: Declared, kind: Kind, e: Element) -> Summary
     ensures { λ r. ⌜ r ≡ summaryOf kind (now (line .entry)) d e ⌝ }
@@ -105,6 +123,7 @@ pub fn summary_of(line: &[u8], d: Declared, kind: Kind, e: Element) -> Summary
                 good: true,
             }
         }
+        What::Stamped(stamp) => stamp_summary(d, kind, stamp),
     }
 }
 

@@ -2,10 +2,10 @@
 //
 // `calls.bin` is a row of records, all numbers low byte first. A record starts with its letter. `S fill` is a new desk: every byte of every slice is
 // fill, each link fill * 257, the counts 0. `F length bytes` is the font from now on. `K slice at byte` changes one byte between calls (slice 0
-// session, 4 background, 5 store, 6 links as bytes, 7 directory, 8 values). `O`, `C`, `L` and `W` (will it fit?) are the four calls, with the lengths of
-// session, counts, page, background, store, links, directory, values and output; after them `C` has the length of its input and the input, and `W` the kind, the
-// size in 8 bytes, the length of the name and the name. A desk has room for more than a call is lent. `stdout` has a line for each call: its number, the answer,
-// the three counts, and a digest of all slices, the room beyond what was lent included. Both files are those of peer/vectors.
+// session, 4 background, 5 store, 6 links as bytes, 7 directory, 8 values). `O`, `C`, `L`, `W` (will it fit?) and `T` (the clock) are the five calls, with the
+// lengths of session, counts, page, background, store, links, directory, values and output; after them `C` has the length of its input and the input, `W` the
+// kind, the size in 8 bytes, the length of the name and the name, and `T` the seconds in 8 bytes. A desk has room for more than a call is lent. `stdout` has a line
+// for each call: its number, the answer, the three counts, and a digest of all slices, the room beyond what was lent included. Both files are those of peer/vectors.
 mod one_call; // one call
 
 use file_parts::part;
@@ -48,19 +48,21 @@ fn size(record: &[u8]) -> usize {
     match byte(record, 0) {
         b'C' => 21 + two_at(record, 19) as usize,
         b'W' => 30 + two_at(record, 28) as usize,
+        b'T' => 27,
         _ => 19,
     }
 }
 
-// What a line shows of a desk: a question is lent no counts, and has none to show.
+// What a line shows of a desk: a question and the clock call are lent no counts, and have none to show.
 fn shown(record: &[u8], after: Desk) -> Desk {
-    if byte(record, 0) == b'W' {
-        return without_counts(after);
+    match byte(record, 0) {
+        b'W' => without_counts(after),
+        b'T' => without_counts(after),
+        _ => after,
     }
-    after
 }
 
-// O, C, L and W
+// O, C, L, W and T
 fn called(file: &[u8], r: Progress, record: &[u8]) -> Progress {
     let desk = r.desk;
     let after = call(record, part(file, r.font, r.length), desk);

@@ -122,7 +122,7 @@ fn label(record: &[u8], font: &[u8], d: Desk) -> Desk {
     after
 }
 
-// A size of 8 bytes, low byte first.
+// A number of 8 bytes, low byte first.
 fn eight_at(record: &[u8], at: usize) -> u64 {
     let low = four_at(record, at) as u64;
     let high = four_at(back(record, at), 4) as u64;
@@ -146,11 +146,21 @@ fn fits(record: &[u8], d: Desk) -> Desk {
     after
 }
 
+fn clock(record: &[u8], d: Desk) -> Desk {
+    let mut session = d.session;
+    let answer = face::station_clock(lent(record, 1, &mut session), eight_at(record, 19));
+    let mut after = d;
+    after.answer = answer;
+    after.session = session;
+    after
+}
+
 pub(crate) fn call(record: &[u8], font: &[u8], d: Desk) -> Desk {
     match byte(record, 0) {
         b'O' => open(record, d),
         b'C' => command(record, font, d),
         b'W' => fits(record, d),
+        b'T' => clock(record, d),
         _ => label(record, font, d),
     }
 }

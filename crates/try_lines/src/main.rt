@@ -199,4 +199,8 @@ fn main() {
     show(b"LS3,5,2,9,5");
     show(b"LSE10,10,8,100,200");
     show(b"LSW0,0,1,7,9");
+    show(b"TS6,15,2,14,35,0");
+    show(b"TDme-dd-y4");
+    show(b"TTh:m:s");
+    show(b"A0,0,0,1,1,N,\"Date: \"TD\" \"TT");
 }

@@ -17,7 +17,7 @@ same-length c = search needs
 returns : tie.Need-returns
 returns c =
     let a = c .before .before .before .before .before .before .before .before .before .before .before .args in
-    active-drawn (setting (now (a .font)) (now (a .store)) (now (a .links)) (now (a .directory)) (now (a .values)) (a .counters) (a .width) (a .length)) _ _ _ _ _ _ (c .before .before .before .before .reader .ensures) (c .before .before .draw-form .ensures)
+    active-drawn (setting (now (a .font)) (now (a .store)) (now (a .links)) (now (a .directory)) (now (a .values)) (a .counters) (a .clock) (a .width) (a .length)) _ _ _ _ _ _ (c .before .before .before .before .reader .ensures) (c .before .before .draw-form .ensures)
 
 pub draw-spec : {M : Type 1} → statement M
 draw-spec = tie.close (tie.spec reader-requires draw-form-requires same-length returns)

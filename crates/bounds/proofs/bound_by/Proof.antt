@@ -93,7 +93,27 @@ returns-22 c = rw (c .match .keys22)
 
 returns-23 : tie.Need-returns-23
 unfolding boundBy
-returns-23 c = let r = c .match .rest in simp (ne-eqb _ 78 (r .0 .0 .0 .0 .0 .0 .0 .0 .0 .0 .0 .0 .0 .0 .0 .0 .0 .0 .0 .0 .0 .1), ne-eqb _ 97 (r .0 .0 .0 .0 .0 .0 .0 .0 .0 .0 .0 .0 .0 .0 .0 .0 .0 .0 .0 .0 .1), ne-eqb _ 98 (r .0 .0 .0 .0 .0 .0 .0 .0 .0 .0 .0 .0 .0 .0 .0 .0 .0 .0 .0 .1), ne-eqb _ 99 (r .0 .0 .0 .0 .0 .0 .0 .0 .0 .0 .0 .0 .0 .0 .0 .0 .0 .0 .1), ne-eqb _ 100 (r .0 .0 .0 .0 .0 .0 .0 .0 .0 .0 .0 .0 .0 .0 .0 .0 .0 .1), ne-eqb _ 101 (r .0 .0 .0 .0 .0 .0 .0 .0 .0 .0 .0 .0 .0 .0 .0 .0 .1), ne-eqb _ 102 (r .0 .0 .0 .0 .0 .0 .0 .0 .0 .0 .0 .0 .0 .0 .0 .1), ne-eqb _ 103 (r .0 .0 .0 .0 .0 .0 .0 .0 .0 .0 .0 .0 .0 .0 .1), ne-eqb _ 104 (r .0 .0 .0 .0 .0 .0 .0 .0 .0 .0 .0 .0 .0 .1), ne-eqb _ 105 (r .0 .0 .0 .0 .0 .0 .0 .0 .0 .0 .0 .0 .1), ne-eqb _ 106 (r .0 .0 .0 .0 .0 .0 .0 .0 .0 .0 .0 .1), ne-eqb _ 107 (r .0 .0 .0 .0 .0 .0 .0 .0 .0 .0 .1), ne-eqb _ 108 (r .0 .0 .0 .0 .0 .0 .0 .0 .0 .1), ne-eqb _ 109 (r .0 .0 .0 .0 .0 .0 .0 .0 .1), ne-eqb _ 110 (r .0 .0 .0 .0 .0 .0 .0 .1), ne-eqb _ 111 (r .0 .0 .0 .0 .0 .0 .1), ne-eqb _ 112 (r .0 .0 .0 .0 .0 .1), ne-eqb _ 113 (r .0 .0 .0 .0 .1), ne-eqb _ 114 (r .0 .0 .0 .1), ne-eqb _ 115 (r .0 .0 .1), ne-eqb _ 116 (r .0 .1), ne-eqb _ 118 (r .1))
+returns-23 c = rw (c .match .keys23)
+
+returns-24 : tie.Need-returns-24
+unfolding boundBy
+returns-24 c = rw (c .match .keys24)
+
+returns-25 : tie.Need-returns-25
+unfolding boundBy
+returns-25 c = rw (c .match .keys25)
+
+returns-26 : tie.Need-returns-26
+unfolding boundBy
+returns-26 c = rw (c .match .keys26)
+
+returns-27 : tie.Need-returns-27
+unfolding boundBy
+returns-27 c = rw (c .match .keys27)
+
+returns-28 : tie.Need-returns-28
+unfolding boundBy
+returns-28 c = let r = c .match .rest in simp (ne-eqb _ 78 (r .0 .0 .0 .0 .0 .0 .0 .0 .0 .0 .0 .0 .0 .0 .0 .0 .0 .0 .0 .0 .0 .0 .0 .0 .0 .0 .1), ne-eqb _ 97 (r .0 .0 .0 .0 .0 .0 .0 .0 .0 .0 .0 .0 .0 .0 .0 .0 .0 .0 .0 .0 .0 .0 .0 .0 .0 .1), ne-eqb _ 98 (r .0 .0 .0 .0 .0 .0 .0 .0 .0 .0 .0 .0 .0 .0 .0 .0 .0 .0 .0 .0 .0 .0 .0 .0 .1), ne-eqb _ 99 (r .0 .0 .0 .0 .0 .0 .0 .0 .0 .0 .0 .0 .0 .0 .0 .0 .0 .0 .0 .0 .0 .0 .0 .1), ne-eqb _ 100 (r .0 .0 .0 .0 .0 .0 .0 .0 .0 .0 .0 .0 .0 .0 .0 .0 .0 .0 .0 .0 .0 .0 .1), ne-eqb _ 101 (r .0 .0 .0 .0 .0 .0 .0 .0 .0 .0 .0 .0 .0 .0 .0 .0 .0 .0 .0 .0 .0 .1), ne-eqb _ 102 (r .0 .0 .0 .0 .0 .0 .0 .0 .0 .0 .0 .0 .0 .0 .0 .0 .0 .0 .0 .0 .1), ne-eqb _ 103 (r .0 .0 .0 .0 .0 .0 .0 .0 .0 .0 .0 .0 .0 .0 .0 .0 .0 .0 .0 .1), ne-eqb _ 104 (r .0 .0 .0 .0 .0 .0 .0 .0 .0 .0 .0 .0 .0 .0 .0 .0 .0 .0 .1), ne-eqb _ 105 (r .0 .0 .0 .0 .0 .0 .0 .0 .0 .0 .0 .0 .0 .0 .0 .0 .0 .1), ne-eqb _ 106 (r .0 .0 .0 .0 .0 .0 .0 .0 .0 .0 .0 .0 .0 .0 .0 .0 .1), ne-eqb _ 107 (r .0 .0 .0 .0 .0 .0 .0 .0 .0 .0 .0 .0 .0 .0 .0 .1), ne-eqb _ 108 (r .0 .0 .0 .0 .0 .0 .0 .0 .0 .0 .0 .0 .0 .0 .1), ne-eqb _ 109 (r .0 .0 .0 .0 .0 .0 .0 .0 .0 .0 .0 .0 .0 .1), ne-eqb _ 110 (r .0 .0 .0 .0 .0 .0 .0 .0 .0 .0 .0 .0 .1), ne-eqb _ 111 (r .0 .0 .0 .0 .0 .0 .0 .0 .0 .0 .0 .1), ne-eqb _ 112 (r .0 .0 .0 .0 .0 .0 .0 .0 .0 .0 .1), ne-eqb _ 113 (r .0 .0 .0 .0 .0 .0 .0 .0 .0 .1), ne-eqb _ 114 (r .0 .0 .0 .0 .0 .0 .0 .0 .1), ne-eqb _ 115 (r .0 .0 .0 .0 .0 .0 .0 .1), ne-eqb _ 116 (r .0 .0 .0 .0 .0 .0 .1), ne-eqb _ 118 (r .0 .0 .0 .0 .0 .1), ne-eqb _ 117 (r .0 .0 .0 .0 .1), ne-eqb _ 119 (r .0 .0 .0 .1), ne-eqb _ 120 (r .0 .0 .1), ne-eqb _ 121 (r .0 .1), ne-eqb _ 122 (r .1))
 
 pub bound-by-spec : {M : Type 1} → statement M
 bound-by-spec =
@@ -121,4 +141,9 @@ bound-by-spec =
     returns-20
     returns-21
     returns-22
-    returns-23)
+    returns-23
+    returns-24
+    returns-25
+    returns-26
+    returns-27
+    returns-28)

@@ -29,6 +29,9 @@ enum-told-7 c = search needs
 enum-told-8 : tie.Need-enum-told-8
 enum-told-8 c = search needs
 
+enum-told-9 : tie.Need-enum-told-9
+enum-told-9 c = search needs
+
 returns : tie.Need-returns
 returns c = rw (c .before .item .given .1)
 
@@ -56,5 +59,8 @@ returns-8 c = rw (c .enum-told7 .given .1)
 returns-9 : tie.Need-returns-9
 returns-9 c = rw (c .enum-told8 .given .1)
 
+returns-10 : tie.Need-returns-10
+returns-10 c = rw (c .enum-told9 .given .1)
+
 pub origin-after-spec : {M : Type 1} → statement M
-origin-after-spec = tie.close (tie.spec enum-known-item enum-told enum-told-2 enum-told-3 enum-told-4 enum-told-5 enum-told-6 enum-told-7 enum-told-8 returns returns-2 returns-3 returns-4 returns-5 returns-6 returns-7 returns-8 returns-9)
+origin-after-spec = tie.close (tie.spec enum-known-item enum-told enum-told-2 enum-told-3 enum-told-4 enum-told-5 enum-told-6 enum-told-7 enum-told-8 enum-told-9 returns returns-2 returns-3 returns-4 returns-5 returns-6 returns-7 returns-8 returns-9 returns-10)

@@ -13,10 +13,10 @@ use Rattle.form_drawing.proofs.draw_form.Statement.{statement}
 use Rattle.form_drawing.proofs.draw_form.Tie as tie
 
 abbrev Inv-loop : tie.InvT-loop
-Inv-loop page₀ font store links directory values counters width height x y w₀ page w = (length page ≡ length page₀) × (runDrawn (setting font store links directory values counters width height) w page ≡ drawsLines (setting font store links directory values counters width height) (drawing (starts x y) page₀) (linesOf (ahead store links (w₀ .place)) .whole))
+Inv-loop page₀ font store links directory values counters clock width height x y w₀ page w = (length page ≡ length page₀) × (runDrawn (setting font store links directory values counters clock width height) w page ≡ drawsLines (setting font store links directory values counters clock width height) (drawing (starts x y) page₀) (linesOf (ahead store links (w₀ .place)) .whole))
 
 abbrev μ-loop : tie.MeasureT-loop
-μ-loop page₀ font store links directory values counters width height x y w₀ page w = w .place .left
+μ-loop page₀ font store links directory values counters clock width height x y w₀ page w = w .place .left
 
 start-requires : tie.Need-start-requires Inv-loop μ-loop
 start-requires c κs = search needs
@@ -38,7 +38,7 @@ same-length c = c .before .before .loop .inv .0
 
 returns : tie.Need-returns Inv-loop μ-loop
 unfolding formDrawn
-returns c = let a = c .before .before .before .before .before .before .before .before .before .before .args in ap (λ (w : Drawing). w .page) (run-end (setting (now (a .font)) (now (a .store)) (now (a .links)) (now (a .directory)) (now (a .values)) (a .counters) (a .width) (a .length)) _ _ _ _ _ (c .if1 .left) ∙ c .before .before .loop .inv .1)
+returns c = let a = c .before .before .before .before .before .before .before .before .before .before .args in ap (λ (w : Drawing). w .page) (run-end (setting (now (a .font)) (now (a .store)) (now (a .links)) (now (a .directory)) (now (a .values)) (a .counters) (a .clock) (a .width) (a .length)) _ _ _ _ _ (c .if1 .left) ∙ c .before .before .loop .inv .1)
 
 pub draw-form-spec : {M : Type 1} → statement M
 draw-form-spec = tie.close (tie.spec Inv-loop μ-loop start-requires loop-holds draw-next-requires loop-less loop-again same-length returns)

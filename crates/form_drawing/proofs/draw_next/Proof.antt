@@ -36,7 +36,7 @@ returns c =
     let a = c .before .before .before .before .before .before .before .before .before .before .before .before .before .before .before .before .before .before .before .before .before .before .args in
     let n = c .before .before .before .before .before .before .before .before .before .before .next-line in
     let l = c .before .before .before .before .before .before .before .front .ensures ∙ line-read _ _ _ _ _ _ (n .ensures .0) (n .ensures .1 .0) (search needs) in
-    (run-next (setting (now (a .font)) (now (a .store)) (now (a .links)) (now (a .directory)) (now (a .values)) (a .counters) (a .width) (a .length)) _ _ _ _ _ _ _ _ _ _ _ _ l (n .ensures .1 .1) (c .before .before .before .before .before .before .line-item .ensures) (c .before .before .before .before .draw-item .ensures) (c .carry .ensures), walk-less _ _ _ _ _ _ _ _ (c .before .before .before .before .before .before .before .before .before .before .before .before .before .before .before .before .before .before .before .before .before .before .pre) (n .ensures .1 .1))
+    (run-next (setting (now (a .font)) (now (a .store)) (now (a .links)) (now (a .directory)) (now (a .values)) (a .counters) (a .clock) (a .width) (a .length)) _ _ _ _ _ _ _ _ _ _ _ _ l (n .ensures .1 .1) (c .before .before .before .before .before .before .line-item .ensures) (c .before .before .before .before .draw-item .ensures) (c .carry .ensures), walk-less _ _ _ _ _ _ _ _ (c .before .before .before .before .before .before .before .before .before .before .before .before .before .before .before .before .before .before .before .before .before .before .pre) (n .ensures .1 .1))
 
 pub draw-next-spec : {M : Type 1} → statement M
 draw-next-spec =

@@ -10,7 +10,7 @@ byte-requires : tie.Need-byte-requires
 byte-requires c κs = search needs
 
 returns : tie.Need-returns
-returns c = declaring-other _ _ _ (c .before .before .byte .ensures) (c .before .if1 .taken) (eqb-false _ _ (not-true _ (c .if2 .taken)))
+returns c = declaring-other _ _ _ (c .before .before .before .byte .ensures) (c .before .before .if1 .taken) (eqb-false _ _ (not-true _ (c .before .if2 .taken))) (eqb-false _ _ (not-true _ (c .if3 .taken)))
 
 stored-item-requires : tie.Need-stored-item-requires
 stored-item-requires c κs = search needs
@@ -34,4 +34,13 @@ returns-3 c = let e = sym (c .before .before .stored-item .ensures) ∙ c .enum-
 
 pub declare-line-spec : {M : Type 1} → statement M
 declare-line-spec =
-    tie.close (tie.spec byte-requires returns stored-item-requires enum-known-stored declare-requires enum-told returns-2 returns-3)
+    tie.close
+    (tie.spec
+    byte-requires
+    returns
+    stored-item-requires
+    enum-known-stored
+    declare-requires
+    enum-told
+    returns-2
+    returns-3)

@@ -23,6 +23,9 @@ variables-requires c κs = search needs
 values-requires : tie.Need-values-requires
 values-requires c κs = search needs
 
+clocks-requires : tie.Need-clocks-requires
+clocks-requires c κs = search needs
+
 returns : tie.Need-returns
 unfolding headBy find between
 returns c = rw (c .match .keys1)
@@ -85,7 +88,11 @@ returns-15 c = rw (c .match .keys15)
 
 returns-16 : tie.Need-returns-16
 unfolding headBy find between
-returns-16 c = let r = c .match .rest in simp (ne-eqb _ 81 (r .0 .0 .0 .0 .0 .0 .0 .0 .0 .0 .0 .0 .0 .0 .1), ne-eqb _ 113 (r .0 .0 .0 .0 .0 .0 .0 .0 .0 .0 .0 .0 .0 .1), ne-eqb _ 82 (r .0 .0 .0 .0 .0 .0 .0 .0 .0 .0 .0 .0 .1), ne-eqb _ 90 (r .0 .0 .0 .0 .0 .0 .0 .0 .0 .0 .0 .1), ne-eqb _ 76 (r .0 .0 .0 .0 .0 .0 .0 .0 .0 .0 .1), ne-eqb _ 88 (r .0 .0 .0 .0 .0 .0 .0 .0 .0 .1), ne-eqb _ 65 (r .0 .0 .0 .0 .0 .0 .0 .0 .1), ne-eqb _ 66 (r .0 .0 .0 .0 .0 .0 .0 .1), ne-eqb _ 71 (r .0 .0 .0 .0 .0 .0 .1), ne-eqb _ 70 (r .0 .0 .0 .0 .0 .1), ne-eqb _ 86 (r .0 .0 .0 .0 .1), ne-eqb _ 67 (r .0 .0 .0 .1), ne-eqb _ 63 (r .0 .0 .1), ne-eqb _ 80 (r .0 .1), ne-eqb _ 78 (r .1))
+returns-16 c = rw (c .before .match .keys16) (c .clocks .ensures (c .before .before .args .c))
+
+returns-17 : tie.Need-returns-17
+unfolding headBy find between
+returns-17 c = let r = c .match .rest in simp (ne-eqb _ 81 (r .0 .0 .0 .0 .0 .0 .0 .0 .0 .0 .0 .0 .0 .0 .0 .1), ne-eqb _ 113 (r .0 .0 .0 .0 .0 .0 .0 .0 .0 .0 .0 .0 .0 .0 .1), ne-eqb _ 82 (r .0 .0 .0 .0 .0 .0 .0 .0 .0 .0 .0 .0 .0 .1), ne-eqb _ 90 (r .0 .0 .0 .0 .0 .0 .0 .0 .0 .0 .0 .0 .1), ne-eqb _ 76 (r .0 .0 .0 .0 .0 .0 .0 .0 .0 .0 .0 .1), ne-eqb _ 88 (r .0 .0 .0 .0 .0 .0 .0 .0 .0 .0 .1), ne-eqb _ 65 (r .0 .0 .0 .0 .0 .0 .0 .0 .0 .1), ne-eqb _ 66 (r .0 .0 .0 .0 .0 .0 .0 .0 .1), ne-eqb _ 71 (r .0 .0 .0 .0 .0 .0 .0 .1), ne-eqb _ 70 (r .0 .0 .0 .0 .0 .0 .1), ne-eqb _ 86 (r .0 .0 .0 .0 .0 .1), ne-eqb _ 67 (r .0 .0 .0 .0 .1), ne-eqb _ 63 (r .0 .0 .0 .1), ne-eqb _ 80 (r .0 .0 .1), ne-eqb _ 78 (r .0 .1), ne-eqb _ 84 (r .1))
 
 pub by-first-spec : {M : Type 1} → statement M
 by-first-spec =
@@ -97,6 +104,7 @@ by-first-spec =
     forms-requires
     variables-requires
     values-requires
+    clocks-requires
     returns
     returns-2
     returns-3
@@ -112,4 +120,5 @@ by-first-spec =
     returns-13
     returns-14
     returns-15
-    returns-16)
+    returns-16
+    returns-17)

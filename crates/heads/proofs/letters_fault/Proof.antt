@@ -50,7 +50,11 @@ unfolding lettersFault
 returns-8 c = sym (fault-one (now (c .before .before .before .before .before .args .line)) (code "?") (c .before .before .if2 .left) (sym (c .before .byte3 .ensures) ∙ c .match .keys6))
 
 returns-9 : tie.Need-returns-9
-returns-9 c = let r = c .match .rest in sym (fault-one (now (c .before .before .before .before .before .args .line)) (c .before .byte3 .result) (c .before .before .if2 .left) (sym (c .before .byte3 .ensures)) ∙ fault-other (c .before .byte3 .result) (r .0 .0 .0 .0 .0 .1) (r .0 .0 .0 .0 .1) (r .0 .0 .0 .1) (r .0 .0 .1) (r .0 .1) (r .1))
+unfolding lettersFault
+returns-9 c = sym (fault-one (now (c .before .before .before .before .before .args .line)) (code "T") (c .before .before .if2 .left) (sym (c .before .byte3 .ensures) ∙ c .match .keys7))
+
+returns-10 : tie.Need-returns-10
+returns-10 c = let r = c .match .rest in sym (fault-one (now (c .before .before .before .before .before .args .line)) (c .before .byte3 .result) (c .before .before .if2 .left) (sym (c .before .byte3 .ensures)) ∙ fault-other (c .before .byte3 .result) (r .0 .0 .0 .0 .0 .0 .1) (r .0 .0 .0 .0 .0 .1) (r .0 .0 .0 .0 .1) (r .0 .0 .0 .1) (r .0 .0 .1) (r .0 .1) (r .1))
 
 pub letters-fault-spec : {M : Type 1} → statement M
 letters-fault-spec =
@@ -68,4 +72,5 @@ letters-fault-spec =
     returns-6
     returns-7
     returns-8
-    returns-9)
+    returns-9
+    returns-10)

@@ -33,17 +33,30 @@ counters-of-requires c κs = search needs
 word-at-requires-8 : tie.Need-word-at-requires-8
 word-at-requires-8 c κs = search needs
 
+clock-at-requires : tie.Need-clock-at-requires
+clock-at-requires c κs = search needs
+
+format-at-requires : tie.Need-format-at-requires
+format-at-requires c κs = search needs
+
+format-at-requires-2 : tie.Need-format-at-requires-2
+format-at-requires-2 c κs = search needs
+
 returns : tie.Need-returns
-returns c = session-read _ (c .before .before .before .before .before .before .before .before .before .word-at .ensures)
-    (c .before .before .before .before .before .before .before .before .word-at2 .ensures)
-    (c .before .before .before .before .before .before .before .byte .ensures)
-    (c .before .before .before .before .before .before .word-at3 .ensures)
-    (c .before .before .before .before .before .word-at4 .ensures)
-    (c .before .before .before .before .word-at5 .ensures)
-    (c .before .before .before .word-at6 .ensures)
-    (c .before .before .word-at7 .ensures)
-    (c .before .counters-of .ensures)
-    (c .word-at8 .ensures)
+returns c = let n = c .before .before .before in
+    session-read _ (n .before .before .before .before .before .before .before .before .before .word-at .ensures)
+    (n .before .before .before .before .before .before .before .before .word-at2 .ensures)
+    (n .before .before .before .before .before .before .before .byte .ensures)
+    (n .before .before .before .before .before .before .word-at3 .ensures)
+    (n .before .before .before .before .before .word-at4 .ensures)
+    (n .before .before .before .before .word-at5 .ensures)
+    (n .before .before .before .word-at6 .ensures)
+    (n .before .before .word-at7 .ensures)
+    (n .before .counters-of .ensures)
+    (n .word-at8 .ensures)
+    (c .before .before .clock-at .ensures)
+    (c .before .format-at .ensures)
+    (c .format-at2 .ensures)
 
 pub decode-spec : {M : Type 1} → statement M
 decode-spec =
@@ -59,4 +72,7 @@ decode-spec =
     word-at-requires-7
     counters-of-requires
     word-at-requires-8
+    clock-at-requires
+    format-at-requires
+    format-at-requires-2
     returns)

@@ -5,8 +5,8 @@ use borrow.Author.Needs.{needs}
 use Rattle.item_commands.proofs.run_item.Statement.{statement}
 use Rattle.item_commands.proofs.run_item.Tie as tie
 
-none-requires : tie.Need-none-requires
-none-requires c κs = search needs
+outside-requires : tie.Need-outside-requires
+outside-requires c κs = search needs
 
 item-answer-requires : tie.Need-item-answer-requires
 item-answer-requires c κs = search needs
@@ -19,7 +19,7 @@ answered-requires c κs = search needs
 
 returns : tie.Need-returns
 returns c = rw (c .answered .ensures)
-    (refused-by _ _ _ _ _ _ _ (item-after _ _ (c .before .before .before .before .before .before .before .before .before .before .before .before .args .directory .now) (c .before .before .before .before .before .before .before .before .before .before .before .before .args .line .now) (c .before .before .before .before .before .before .before .before .before .before .before .before .args .item) _ (c .before .before .before .item-answer .ensures) (c .before .before .before .before .none .ensures))
+    (refused-by _ _ _ _ _ _ _ (item-after _ _ (c .before .before .before .before .before .before .before .before .before .before .before .before .args .directory .now) (c .before .before .before .before .before .before .before .before .before .before .before .before .args .line .now) (c .before .before .before .before .before .before .before .before .before .before .before .before .args .item) _ (c .before .before .before .item-answer .ensures) (c .before .before .before .before .outside .ensures))
     (c .before .before .is-taken .ensures) (c .before .if1 .taken))
 
 cast-width : tie.Need-cast-width
@@ -34,9 +34,6 @@ cast-x c = search needs
 cast-y : tie.Need-cast-y
 cast-y c = search needs
 
-none-requires-2 : tie.Need-none-requires-2
-none-requires-2 c κs = search needs
-
 draw-item-requires : tie.Need-draw-item-requires
 draw-item-requires c κs = search needs
 
@@ -50,9 +47,25 @@ same-length : tie.Need-same-length
 same-length c = search needs
 
 returns-2 : tie.Need-returns-2
-returns-2 c = rw (c .taken .ensures, c .before .based-by .ensures, c .before .before .before .before .draw-item .ensures, c .before .before .before .before .before .none2 .ensures)
-    (taken-by _ _ _ _ _ _ (item-after _ _ (c .before .before .before .before .before .before .before .before .before .before .before .before .before .before .before .before .before .before .before .before .before .before .before .args .directory .now) (c .before .before .before .before .before .before .before .before .before .before .before .before .before .before .before .before .before .before .before .before .before .before .before .args .line .now) (c .before .before .before .before .before .before .before .before .before .before .before .before .before .before .before .before .before .before .before .before .before .before .before .args .item) _ (c .before .before .before .before .before .before .before .before .before .before .before .before .before .before .item-answer .ensures) (c .before .before .before .before .before .before .before .before .before .before .before .before .before .before .before .none .ensures))
+returns-2 c = rw (c .taken .ensures, c .before .based-by .ensures, c .before .before .before .before .draw-item .ensures, c .before .before .before .before .before .before .before .before .before .before .before .before .before .before .before .outside .ensures)
+    (taken-by _ _ _ _ _ _ (item-after _ _ (c .before .before .before .before .before .before .before .before .before .before .before .before .before .before .before .before .before .before .before .before .before .before .before .args .directory .now) (c .before .before .before .before .before .before .before .before .before .before .before .before .before .before .before .before .before .before .before .before .before .before .before .args .line .now) (c .before .before .before .before .before .before .before .before .before .before .before .before .before .before .before .before .before .before .before .before .before .before .before .args .item) _ (c .before .before .before .before .before .before .before .before .before .before .before .before .before .before .item-answer .ensures) (c .before .before .before .before .before .before .before .before .before .before .before .before .before .before .before .outside .ensures))
     (c .before .before .before .before .before .before .before .before .before .before .before .before .before .is-taken .ensures) (c .before .before .before .before .before .before .before .before .before .before .before .before .if1 .left) refl)
 
 pub run-item-spec : {M : Type 1} → statement M
-run-item-spec = tie.close (tie.spec none-requires item-answer-requires is-taken-requires answered-requires returns cast-width cast-length cast-x cast-y none-requires-2 draw-item-requires based-by-requires taken-requires same-length returns-2)
+run-item-spec =
+    tie.close
+    (tie.spec
+    outside-requires
+    item-answer-requires
+    is-taken-requires
+    answered-requires
+    returns
+    cast-width
+    cast-length
+    cast-x
+    cast-y
+    draw-item-requires
+    based-by-requires
+    taken-requires
+    same-length
+    returns-2)

@@ -41,7 +41,7 @@ returns c =
     barsWith (a .width) (a .length) (c .before .before .before .before .before .before .before .far .ensures i) (c .before .before .before .before .before .before .far2 .ensures i)
     (a .s .r) (a .s .kind) (a .s .e) (a .s .f) (a .s .g) (a .s .under) (now (a .font))
     ((c .before .before .before .front .ensures
-    ∙ data-shown (n .result) (assembled (now (a .line)) (a .d) (valuesIn (now (a .values)) (a .counters)) (elements (now (a .line)) (a .s .at))) _ _ refl (n .ensures)) i)
+    ∙ data-shown (n .result) (assembled (now (a .line)) (a .d) (valuesIn (now (a .values)) (a .counters) (a .clock)) (elements (now (a .line)) (a .s .at))) _ _ refl (n .ensures)) i)
     (now (a .page)))
 
 pub draw-bars-spec : {M : Type 1} → statement M

@@ -48,6 +48,9 @@ enum-known-item-6 c = search needs
 draw-picture-requires : tie.Need-draw-picture-requires
 draw-picture-requires c κs = search needs
 
+enum-told-4 : tie.Need-enum-told-4
+enum-told-4 c = search needs
+
 returns : tie.Need-returns
 unfolding drawsItem shown pictureBytes
 returns c = rw (c .enum-told .given .1)
@@ -102,5 +105,9 @@ returns-9 : tie.Need-returns-9
 unfolding drawsItem shown pictureBytes
 returns-9 c = rw (c .before .before .before .before .before .item6 .given .1) (c .before .before .draw-picture .ensures)
 
+returns-10 : tie.Need-returns-10
+unfolding drawsItem shown pictureBytes
+returns-10 c = rw (c .enum-told4 .given .1)
+
 pub draw-item-spec : {M : Type 1} → statement M
-draw-item-spec = tie.close (tie.spec enum-told enum-told-2 enum-told-3 enum-known-item draw-text-requires enum-known-item-2 draw-bars-requires enum-known-item-3 draw-box-requires enum-known-item-4 draw-frame-requires enum-known-item-5 draw-slant-requires enum-known-item-6 draw-picture-requires returns returns-2 returns-3 same-length returns-4 same-length-2 returns-5 same-length-3 returns-6 same-length-4 returns-7 same-length-5 returns-8 same-length-6 returns-9)
+draw-item-spec = tie.close (tie.spec enum-told enum-told-2 enum-told-3 enum-known-item draw-text-requires enum-known-item-2 draw-bars-requires enum-known-item-3 draw-box-requires enum-known-item-4 draw-frame-requires enum-known-item-5 draw-slant-requires enum-known-item-6 draw-picture-requires enum-told-4 returns returns-2 returns-3 same-length returns-4 same-length-2 returns-5 same-length-3 returns-6 same-length-4 returns-7 same-length-5 returns-8 same-length-6 returns-9 returns-10)

@@ -33,7 +33,7 @@ same-length : tie.Need-same-length
 same-length c = search needs
 
 returns : tie.Need-returns
-returns c = let a = c .before .before .before .before .before .before .before .before .before .before .before .before .before .before .before .args in c .before .before .draw .ensures ∙ (λ i. textDrawn (a .width) (a .length) (c .before .before .before .before .before .before .before .far .ensures i) (c .before .before .before .before .before .before .far2 .ensures i) (a .t .r) (a .t .h) (a .t .v) (a .t .reverse) (now (a .font)) ((c .before .before .before .front .ensures ∙ data-shown (c .before .before .before .before .before .before .before .before .before .assemble .result) (assembled (now (a .line)) (a .d) (valuesIn (now (a .values)) (a .counters)) (elements (now (a .line)) (a .t .at))) _ _ refl (c .before .before .before .before .before .before .before .before .before .assemble .ensures)) i) (now (a .page)))
+returns c = let a = c .before .before .before .before .before .before .before .before .before .before .before .before .before .before .before .args in c .before .before .draw .ensures ∙ (λ i. textDrawn (a .width) (a .length) (c .before .before .before .before .before .before .before .far .ensures i) (c .before .before .before .before .before .before .far2 .ensures i) (a .t .r) (a .t .h) (a .t .v) (a .t .reverse) (now (a .font)) ((c .before .before .before .front .ensures ∙ data-shown (c .before .before .before .before .before .before .before .before .before .assemble .result) (assembled (now (a .line)) (a .d) (valuesIn (now (a .values)) (a .counters) (a .clock)) (elements (now (a .line)) (a .t .at))) _ _ refl (c .before .before .before .before .before .before .before .before .before .assemble .ensures)) i) (now (a .page)))
 
 pub draw-text-spec : {M : Type 1} → statement M
 draw-text-spec = tie.close (tie.spec slice-aggregate-assemble assemble-requires far-requires far-requires-2 slice-aggregate-front front-requires draw-requires same-length returns)

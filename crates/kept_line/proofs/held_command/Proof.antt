@@ -23,6 +23,9 @@ enum-told-5 c = search needs
 enum-told-6 : tie.Need-enum-told-6
 enum-told-6 c = search needs
 
+enum-told-7 : tie.Need-enum-told-7
+enum-told-7 c = search needs
+
 returns : tie.Need-returns
 returns c = rw (c .before .c .given .1)
 
@@ -44,5 +47,8 @@ returns-6 c = rw (c .enum-told5 .given .1)
 returns-7 : tie.Need-returns-7
 returns-7 c = rw (c .enum-told6 .given .1)
 
+returns-8 : tie.Need-returns-8
+returns-8 c = rw (c .enum-told7 .given .1)
+
 pub held-command-spec : {M : Type 1} → statement M
-held-command-spec = tie.close (tie.spec enum-known-c enum-told enum-told-2 enum-told-3 enum-told-4 enum-told-5 enum-told-6 returns returns-2 returns-3 returns-4 returns-5 returns-6 returns-7)
+held-command-spec = tie.close (tie.spec enum-known-c enum-told enum-told-2 enum-told-3 enum-told-4 enum-told-5 enum-told-6 enum-told-7 returns returns-2 returns-3 returns-4 returns-5 returns-6 returns-7 returns-8)

@@ -26,7 +26,7 @@ labels-requires : tie.Need-labels-requires
 labels-requires c κs = search needs
 
 same-length : tie.Need-same-length
-same-length c = search needs
+same-length c = omega (arith, c .before .before .before .before .before .before .before .before .before .before .before .before .before .before .before .before .before .before .before .background .given)
 
 same-length-2 : tie.Need-same-length-2
 same-length-2 c = search needs

@@ -30,6 +30,12 @@ enum-known-what-2 c = search needs
 put-held-requires-2 : tie.Need-put-held-requires-2
 put-held-requires-2 c κs = search needs
 
+enum-known-what-3 : tie.Need-enum-known-what-3
+enum-known-what-3 c = search needs
+
+put-stamp-requires : tie.Need-put-stamp-requires
+put-stamp-requires c κs = search needs
+
 same-length : tie.Need-same-length
 same-length c = search needs
 
@@ -51,6 +57,13 @@ returns-3 : tie.Need-returns-3
 unfolding whatWritten
 returns-3 c = rw (c .before .before .before .before .before .what2 .given .1) (c .before .before .put-held2 .ensures)
 
+same-length-4 : tie.Need-same-length-4
+same-length-4 c = search needs
+
+returns-4 : tie.Need-returns-4
+unfolding whatWritten
+returns-4 c = rw (c .before .before .before .before .before .what3 .given .1) (c .before .before .put-stamp .ensures)
+
 pub put-element-spec : {M : Type 1} → statement M
 put-element-spec =
     tie.close
@@ -63,9 +76,13 @@ put-element-spec =
     put-held-requires
     enum-known-what-2
     put-held-requires-2
+    enum-known-what-3
+    put-stamp-requires
     same-length
     returns
     same-length-2
     returns-2
     same-length-3
-    returns-3)
+    returns-3
+    same-length-4
+    returns-4)

@@ -43,7 +43,7 @@ fresh-requires : tie.Need-fresh-requires
 fresh-requires c κs = search needs
 
 same-length : tie.Need-same-length
-same-length c = search needs
+same-length c = c .before .before .before .before .before .before .before .before .before .before .before .before .before .before .before .before .before .before .before .before .page .given
 
 same-length-2 : tie.Need-same-length-2
 same-length-2 c = search needs

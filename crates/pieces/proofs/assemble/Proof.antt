@@ -12,10 +12,10 @@ use Rattle.pieces.proofs.assemble.Statement.{statement}
 use Rattle.pieces.proofs.assemble.Tie as tie
 
 abbrev Inv-loop : tie.InvT-loop
-Inv-loop line at d values c out₀ n₀ i₀ out n i = (length out ≡ length out₀) × (laid line d (valuesIn values c) (row n out) (elements line i) ≡ laid line d (valuesIn values c) (row 0 out₀) (elements line at))
+Inv-loop line at d values c clock out₀ n₀ i₀ out n i = (length out ≡ length out₀) × (laid line d (valuesIn values c clock) (row n out) (elements line i) ≡ laid line d (valuesIn values c clock) (row 0 out₀) (elements line at))
 
 abbrev μ-loop : tie.MeasureT-loop
-μ-loop line at d values c out₀ n₀ i₀ out n i = length line - i
+μ-loop line at d values c clock out₀ n₀ i₀ out n i = length line - i
 
 loop-holds : tie.Need-loop-holds Inv-loop μ-loop
 loop-holds c = (refl, refl)
@@ -33,7 +33,7 @@ same-length : tie.Need-same-length Inv-loop μ-loop
 same-length c = c .before .before .before .before .loop .inv .0
 
 returns : tie.Need-returns Inv-loop μ-loop
-returns c = let a = c .before .before .before .before .before .before .before .before .args in let l = c .before .before .before .before .loop in rw (elements-stop (now (a .line)) (l .i) _ (sym (c .before .before .element-at .ensures) ∙ c .enum-told .given .1)) at (l .inv .1) ∙ laid-is (now (a .line)) (a .d) (valuesIn (now (a .values)) (a .c)) (now (a .out)) (elements (now (a .line)) (a .at))
+returns c = let a = c .before .before .before .before .before .before .before .before .args in let l = c .before .before .before .before .loop in rw (elements-stop (now (a .line)) (l .i) _ (sym (c .before .before .element-at .ensures) ∙ c .enum-told .given .1)) at (l .inv .1) ∙ laid-is (now (a .line)) (a .d) (valuesIn (now (a .values)) (a .c) (a .clock)) (now (a .out)) (elements (now (a .line)) (a .at))
 
 lay-element-requires : tie.Need-lay-element-requires Inv-loop μ-loop
 lay-element-requires c κs = search needs
@@ -51,7 +51,7 @@ same-length-2 : tie.Need-same-length-2 Inv-loop μ-loop
 same-length-2 c = c .before .loop .inv .0
 
 returns-2 : tie.Need-returns-2 Inv-loop μ-loop
-returns-2 c = let a = c .before .before .before .before .before .args in let l = c .before .loop in rw (elements-stop (now (a .line)) (l .i) _ (element-past (now (a .line)) (l .i) (c .loop-test .left))) at (l .inv .1) ∙ laid-is (now (a .line)) (a .d) (valuesIn (now (a .values)) (a .c)) (now (a .out)) (elements (now (a .line)) (a .at))
+returns-2 c = let a = c .before .before .before .before .before .args in let l = c .before .loop in rw (elements-stop (now (a .line)) (l .i) _ (element-past (now (a .line)) (l .i) (c .loop-test .left))) at (l .inv .1) ∙ laid-is (now (a .line)) (a .d) (valuesIn (now (a .values)) (a .c) (a .clock)) (now (a .out)) (elements (now (a .line)) (a .at))
 
 pub assemble-spec : {M : Type 1} → statement M
 assemble-spec =

@@ -31,6 +31,9 @@ enum-known-what-2 c = search needs
 part-of-requires-2 : tie.Need-part-of-requires-2
 part-of-requires-2 c κs = search needs
 
+enum-told-2 : tie.Need-enum-told-2
+enum-told-2 c = search needs
+
 returns : tie.Need-returns
 unfolding pieceOf
 returns c = rw (c .before .before .before .before .enum-told .given .1, ← c .before .less .ensures, ← drop-drop, ← c .before .before .before .back .ensures, ← c .before .before .back2 .ensures) (c .front .ensures)
@@ -42,6 +45,10 @@ returns-2 c = rw (c .before .before .what .given .1) (c .part-of .ensures)
 returns-3 : tie.Need-returns-3
 unfolding pieceOf
 returns-3 c = rw (c .before .before .what2 .given .1) (c .part-of2 .ensures)
+
+returns-4 : tie.Need-returns-4
+unfolding pieceOf
+returns-4 c = rw (c .enum-told2 .given .1)
 
 pub piece-spec : {M : Type 1} → statement M
 piece-spec =
@@ -56,6 +63,8 @@ piece-spec =
     part-of-requires
     enum-known-what-2
     part-of-requires-2
+    enum-told-2
     returns
     returns-2
-    returns-3)
+    returns-3
+    returns-4)

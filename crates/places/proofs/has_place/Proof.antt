@@ -26,6 +26,9 @@ enum-told-5 c = search needs
 enum-told-6 : tie.Need-enum-told-6
 enum-told-6 c = search needs
 
+enum-told-7 : tie.Need-enum-told-7
+enum-told-7 c = search needs
+
 returns : tie.Need-returns
 returns c = rw (c .before .before .command .given .1, ← c .is-declaration .ensures)
 
@@ -47,7 +50,10 @@ returns-6 c = search needs
 returns-7 : tie.Need-returns-7
 returns-7 c = search needs
 
+returns-8 : tie.Need-returns-8
+returns-8 c = search needs
+
 pub has-place-spec : {M : Type 1} → statement M
 has-place-spec =
     tie.close
-    (tie.spec enum-known-command is-declaration-requires enum-told enum-told-2 enum-told-3 enum-told-4 enum-told-5 enum-told-6 returns returns-2 returns-3 returns-4 returns-5 returns-6 returns-7)
+    (tie.spec enum-known-command is-declaration-requires enum-told enum-told-2 enum-told-3 enum-told-4 enum-told-5 enum-told-6 enum-told-7 returns returns-2 returns-3 returns-4 returns-5 returns-6 returns-7 returns-8)

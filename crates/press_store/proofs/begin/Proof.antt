@@ -52,7 +52,7 @@ same-length-10 : tie.Need-same-length-10
 same-length-10 c = omega (arith, c .before .before .before .before .before .before .before .before .before .before .before .before .before .before .before .before .before .directory .given)
 
 same-length-11 : tie.Need-same-length-11
-same-length-11 c = search needs
+same-length-11 c = omega (arith, c .before .before .before .before .before .before .before .before .before .before .before .before .before .before .before .values .given)
 
 same-length-12 : tie.Need-same-length-12
 same-length-12 c = search needs
@@ -70,7 +70,7 @@ same-length-14 : tie.Need-same-length-14
 same-length-14 c = omega (arith, c .before .before .before .before .before .before .before .before .before .before .before .before .before .before .store .given)
 
 same-length-15 : tie.Need-same-length-15
-same-length-15 c = search needs
+same-length-15 c = omega (arith, c .before .before .before .before .before .before .before .before .before .before .before .before .links .given)
 
 same-length-16 : tie.Need-same-length-16
 same-length-16 c = search needs

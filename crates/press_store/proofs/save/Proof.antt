@@ -36,11 +36,17 @@ back-requires-2 c κs = search needs
 same-requires : tie.Need-same-requires
 same-requires c κs = search needs
 
+is-first-requires : tie.Need-is-first-requires
+is-first-requires c κs = search needs
+
 both-requires : tie.Need-both-requires
 both-requires c κs = search needs
 
 both-requires-2 : tie.Need-both-requires-2
 both-requires-2 c κs = search needs
+
+both-requires-3 : tie.Need-both-requires-3
+both-requires-3 c κs = search needs
 
 save-state-requires : tie.Need-save-state-requires
 save-state-requires c κs = search needs
@@ -52,7 +58,7 @@ returns-2 : tie.Need-returns-2
 returns-2 c = search needs
 
 slice-aggregate-save-all : tie.Need-slice-aggregate-save-all
-slice-aggregate-save-all c = omega (arith, c .before .before .before .before .before .before .before .before .before .before .before .before .before .before .before .next2 .given, c .before .before .before .before .before .before .before .before .before .before .before .before .before .before .before .before .before .before .file .ensures)
+slice-aggregate-save-all c = omega (arith, c .before .before .before .before .before .before .before .before .before .before .before .before .before .before .before .before .before .before .next2 .given, c .before .before .before .before .before .before .before .before .before .before .before .before .before .before .before .before .before .before .before .before .before .file .ensures)
 
 save-all-requires : tie.Need-save-all-requires
 save-all-requires c κs = search needs
@@ -78,8 +84,10 @@ save-spec =
     front-requires-2
     back-requires-2
     same-requires
+    is-first-requires
     both-requires
     both-requires-2
+    both-requires-3
     save-state-requires
     same-length
     returns-2

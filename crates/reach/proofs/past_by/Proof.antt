@@ -24,6 +24,9 @@ width-at-requires c κs = search needs
 reaches-past-requires-2 : tie.Need-reaches-past-requires-2
 reaches-past-requires-2 c κs = search needs
 
+enum-told-2 : tie.Need-enum-told-2
+enum-told-2 c = search needs
+
 returns : tie.Need-returns
 unfolding pastBy
 returns c = rw (c .enum-told .given .1)
@@ -36,6 +39,10 @@ returns-3 : tie.Need-returns-3
 unfolding pastBy
 returns-3 c = rw (c .before .before .before .what2 .given .1, ← c .before .width-at .ensures) (c .reaches-past2 .ensures)
 
+returns-4 : tie.Need-returns-4
+unfolding pastBy
+returns-4 c = rw (c .enum-told2 .given .1)
+
 pub past-by-spec : {M : Type 1} → statement M
 past-by-spec =
     tie.close
@@ -47,6 +54,8 @@ past-by-spec =
     enum-known-what-2
     width-at-requires
     reaches-past-requires-2
+    enum-told-2
     returns
     returns-2
-    returns-3)
+    returns-3
+    returns-4)

@@ -18,6 +18,9 @@ enum-known-what-2 c = search needs
 counter-declared-requires : tie.Need-counter-declared-requires
 counter-declared-requires c κs = search needs
 
+enum-told-2 : tie.Need-enum-told-2
+enum-told-2 c = search needs
+
 returns : tie.Need-returns
 unfolding undeclaredBy
 returns c = rw (c .enum-told .given .1)
@@ -30,6 +33,10 @@ returns-3 : tie.Need-returns-3
 unfolding undeclaredBy
 returns-3 c = rw (c .before .before .what2 .given .1, c .counter-declared .ensures)
 
+returns-4 : tie.Need-returns-4
+unfolding undeclaredBy
+returns-4 c = rw (c .enum-told2 .given .1)
+
 pub undeclared-by-spec : {M : Type 1} → statement M
 undeclared-by-spec =
     tie.close
@@ -39,6 +46,8 @@ undeclared-by-spec =
     variable-declared-requires
     enum-known-what-2
     counter-declared-requires
+    enum-told-2
     returns
     returns-2
-    returns-3)
+    returns-3
+    returns-4)

@@ -36,6 +36,12 @@ enum-told-6 c = search needs
 enum-told-7 : tie.Need-enum-told-7
 enum-told-7 c = search needs
 
+enum-known-item-3 : tie.Need-enum-known-item-3
+enum-known-item-3 c = search needs
+
+formatted-requires : tie.Need-formatted-requires
+formatted-requires c κs = search needs
+
 returns : tie.Need-returns
 unfolding declares
 returns c = rw (c .enum-told .given .1)
@@ -72,5 +78,9 @@ returns-9 : tie.Need-returns-9
 unfolding declares
 returns-9 c = rw (c .enum-told7 .given .1)
 
+returns-10 : tie.Need-returns-10
+unfolding declares
+returns-10 c = rw (c .before .before .before .item3 .given .1) (c .formatted .ensures)
+
 pub declare-spec : {M : Type 1} → statement M
-declare-spec = tie.close (tie.spec enum-told enum-known-item with-variable-requires enum-known-item-2 with-counter-requires enum-told-2 enum-told-3 enum-told-4 enum-told-5 enum-told-6 enum-told-7 returns returns-2 returns-3 returns-4 returns-5 returns-6 returns-7 returns-8 returns-9)
+declare-spec = tie.close (tie.spec enum-told enum-known-item with-variable-requires enum-known-item-2 with-counter-requires enum-told-2 enum-told-3 enum-told-4 enum-told-5 enum-told-6 enum-told-7 enum-known-item-3 formatted-requires returns returns-2 returns-3 returns-4 returns-5 returns-6 returns-7 returns-8 returns-9 returns-10)

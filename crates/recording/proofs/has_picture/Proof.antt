@@ -33,6 +33,9 @@ enum-known-item c = search needs
 has-named-requires : tie.Need-has-named-requires
 has-named-requires c κs = search needs
 
+enum-told-9 : tie.Need-enum-told-9
+enum-told-9 c = search needs
+
 returns : tie.Need-returns
 unfolding hasPicture
 returns c = rw (c .enum-told .given .1)
@@ -69,5 +72,9 @@ returns-9 : tie.Need-returns-9
 unfolding hasPicture
 returns-9 c = rw (c .before .before .item .given .1) (c .has-named .ensures)
 
+returns-10 : tie.Need-returns-10
+unfolding hasPicture
+returns-10 c = rw (c .enum-told9 .given .1)
+
 pub has-picture-spec : {M : Type 1} → statement M
-has-picture-spec = tie.close (tie.spec enum-told enum-told-2 enum-told-3 enum-told-4 enum-told-5 enum-told-6 enum-told-7 enum-told-8 enum-known-item has-named-requires returns returns-2 returns-3 returns-4 returns-5 returns-6 returns-7 returns-8 returns-9)
+has-picture-spec = tie.close (tie.spec enum-told enum-told-2 enum-told-3 enum-told-4 enum-told-5 enum-told-6 enum-told-7 enum-told-8 enum-known-item has-named-requires enum-told-9 returns returns-2 returns-3 returns-4 returns-5 returns-6 returns-7 returns-8 returns-9 returns-10)

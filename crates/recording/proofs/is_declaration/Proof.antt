@@ -32,6 +32,9 @@ enum-told-8 c = search needs
 enum-told-9 : tie.Need-enum-told-9
 enum-told-9 c = search needs
 
+enum-told-10 : tie.Need-enum-told-10
+enum-told-10 c = search needs
+
 returns : tie.Need-returns
 unfolding declaration
 returns c = rw (c .enum-told .given .1)
@@ -68,6 +71,10 @@ returns-9 : tie.Need-returns-9
 unfolding declaration
 returns-9 c = rw (c .enum-told9 .given .1)
 
+returns-10 : tie.Need-returns-10
+unfolding declaration
+returns-10 c = rw (c .enum-told10 .given .1)
+
 pub is-declaration-spec : {M : Type 1} → statement M
 is-declaration-spec =
     tie.close
@@ -81,6 +88,7 @@ is-declaration-spec =
     enum-told-7
     enum-told-8
     enum-told-9
+    enum-told-10
     returns
     returns-2
     returns-3
@@ -89,4 +97,5 @@ is-declaration-spec =
     returns-6
     returns-7
     returns-8
-    returns-9)
+    returns-9
+    returns-10)

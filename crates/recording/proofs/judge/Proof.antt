@@ -52,6 +52,9 @@ enum-told-4 c = search needs
 enum-told-5 : tie.Need-enum-told-5
 enum-told-5 c = search needs
 
+enum-told-6 : tie.Need-enum-told-6
+enum-told-6 c = search needs
+
 returns : tie.Need-returns
 unfolding judged
 returns c = rw (c .enum-told .given .1)
@@ -88,5 +91,9 @@ returns-9 : tie.Need-returns-9
 unfolding judged
 returns-9 c = rw (c .enum-told5 .given .1)
 
+returns-10 : tie.Need-returns-10
+unfolding judged
+returns-10 c = rw (c .enum-told6 .given .1)
+
 pub judge-spec : {M : Type 1} → statement M
-judge-spec = tie.close (tie.spec enum-told enum-known-item variable-declared-requires again-requires enum-known-item-2 counter-declared-requires again-requires-2 enum-known-item-3 judge-data-requires enum-known-item-4 judge-data-requires-2 enum-told-2 enum-told-3 enum-told-4 enum-told-5 returns returns-2 returns-3 returns-4 returns-5 returns-6 returns-7 returns-8 returns-9)
+judge-spec = tie.close (tie.spec enum-told enum-known-item variable-declared-requires again-requires enum-known-item-2 counter-declared-requires again-requires-2 enum-known-item-3 judge-data-requires enum-known-item-4 judge-data-requires-2 enum-told-2 enum-told-3 enum-told-4 enum-told-5 enum-told-6 returns returns-2 returns-3 returns-4 returns-5 returns-6 returns-7 returns-8 returns-9 returns-10)

@@ -9,7 +9,10 @@ returns-2 : tie.Need-returns-2
 returns-2 c = rw (c .match .keys2)
 
 returns-3 : tie.Need-returns-3
-returns-3 c = let r = c .match .rest in simp (ne-eqb _ 110 (r .0 .1), ne-eqb _ 119 (r .1))
+returns-3 c = rw (c .match .keys3)
+
+returns-4 : tie.Need-returns-4
+returns-4 c = let r = c .match .rest in simp (ne-eqb _ 110 (r .0 .0 .1), ne-eqb _ 119 (r .0 .1), ne-eqb _ 121 (r .1))
 
 pub number-after-spec : {M : Type 1} → statement M
-number-after-spec = tie.close (tie.spec returns returns-2 returns-3)
+number-after-spec = tie.close (tie.spec returns returns-2 returns-3 returns-4)

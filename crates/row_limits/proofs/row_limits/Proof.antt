@@ -51,6 +51,12 @@ mul-p c = search needs
 element-copy-out-p : tie.Need-element-copy-out-p Inv-loop μ-loop
 element-copy-out-p c = search needs
 
+add-value-at : tie.Need-add-value-at Inv-loop μ-loop
+add-value-at c = search needs
+
+value-at-requires : tie.Need-value-at-requires Inv-loop μ-loop
+value-at-requires c κs = search needs
+
 field-limits-requires : tie.Need-field-limits-requires Inv-loop μ-loop
 field-limits-requires c κs = search needs
 
@@ -59,13 +65,13 @@ enum-known-fault c = search needs
 
 returns-2 : tie.Need-returns-2 Inv-loop μ-loop
 unfolding fieldLimits
-returns-2 c = let a = c .before .before .before .before .before .before .before .before .before .before .before .args in
-    let g = c .before .before .before .before .before .before .before .before .before .line-up in
-    let l = c .before .before .before .before .before .before .before .before .loop in
-    let t = c .before .before .before .before .before .before .before .loop-test .taken in
+returns-2 c = let a = c .before .before .before .before .before .before .before .before .before .before .before .before .before .args in
+    let g = c .before .before .before .before .before .before .before .before .before .before .before .line-up in
+    let l = c .before .before .before .before .before .before .before .before .before .before .loop in
+    let t = c .before .before .before .before .before .before .before .before .before .loop-test .taken in
     let f = form-at (a .row) (l .i) (g .result) (g .ensures) t in
     let b = bounds-at (a .row) (l .i) (a .rows) (g .result) _ (g .ensures) t refl in
-    sym (sym (l .inv) ∙ limits-out (rowOf (a .row) .fields) (boundsOf (a .row) (a .rows)) (now (a .line)) (l .before) (now (a .vs)) (now (a .ps)) (l .i) (in-row (a .row) (l .i) (getD (g .result) (l .i) 0) f (c .before .before .before .before .before .before .if1 .left)) _ (rw (← f, ← b .0, ← b .1, ← c .before .before .before .field-limits .ensures) (c .before .fault .given .1)))
+    sym (sym (l .inv) ∙ limits-out (rowOf (a .row) .fields) (boundsOf (a .row) (a .rows)) (now (a .line)) (l .before) (now (a .vs)) (now (a .ps)) (l .i) (in-row (a .row) (l .i) (getD (g .result) (l .i) 0) f (c .before .before .before .before .before .before .before .before .if1 .left)) _ (rw (← f, ← b .0, ← b .1, ← c .before .before .before .before .value-at .ensures, ← c .before .before .before .field-limits .ensures) (c .before .fault .given .1)))
 
 enum-told : tie.Need-enum-told Inv-loop μ-loop
 enum-told c = search needs
@@ -81,13 +87,13 @@ loop-less c = search needs
 
 loop-again : tie.Need-loop-again Inv-loop μ-loop
 unfolding fieldLimits
-loop-again c = let a = c .before .before .before .before .before .before .before .before .before .before .before .args in
-    let g = c .before .before .before .before .before .before .before .before .before .line-up in
-    let l = c .before .before .before .before .before .before .before .before .loop in
-    let t = c .before .before .before .before .before .before .before .loop-test .taken in
+loop-again c = let a = c .before .before .before .before .before .before .before .before .before .before .before .before .before .args in
+    let g = c .before .before .before .before .before .before .before .before .before .before .before .line-up in
+    let l = c .before .before .before .before .before .before .before .before .before .before .loop in
+    let t = c .before .before .before .before .before .before .before .before .before .loop-test .taken in
     let f = form-at (a .row) (l .i) (g .result) (g .ensures) t in
     let b = bounds-at (a .row) (l .i) (a .rows) (g .result) _ (g .ensures) t refl in
-    rw (c .number-after .ensures, f) (sym (limits-more (rowOf (a .row) .fields) (boundsOf (a .row) (a .rows)) (now (a .line)) (l .before) (now (a .vs)) (now (a .ps)) (l .i) (in-row (a .row) (l .i) (getD (g .result) (l .i) 0) f (c .before .before .before .before .before .before .if1 .left)) (rw (← f, ← b .0, ← b .1, ← c .before .before .before .field-limits .ensures) (c .before .enum-told .given .1))) ∙ l .inv)
+    rw (c .number-after .ensures, f) (sym (limits-more (rowOf (a .row) .fields) (boundsOf (a .row) (a .rows)) (now (a .line)) (l .before) (now (a .vs)) (now (a .ps)) (l .i) (in-row (a .row) (l .i) (getD (g .result) (l .i) 0) f (c .before .before .before .before .before .before .before .before .if1 .left)) (rw (← f, ← b .0, ← b .1, ← c .before .before .before .before .value-at .ensures, ← c .before .before .before .field-limits .ensures) (c .before .enum-told .given .1))) ∙ l .inv)
 
 returns-3 : tie.Need-returns-3 Inv-loop μ-loop
 returns-3 c = let a = c .before .before .before .before .args in
@@ -110,6 +116,8 @@ row-limits-spec =
     element-copy-out-v
     mul-p
     element-copy-out-p
+    add-value-at
+    value-at-requires
     field-limits-requires
     enum-known-fault
     returns-2

@@ -2,7 +2,6 @@ use mathlib.Core.Path.{refl, ap, _∙_}
 use lib.ListN.{take}
 use lib.Seq.{sets}
 use Rattle.image.proofs.Inverse.{whole}
-use Rattle.slots.specs.Slots.{heldImage}
 use borrow.Author.Needs.{needs}
 use Rattle.slots.proofs.put_session.Statement.{statement}
 use Rattle.slots.proofs.put_session.Tie as tie
@@ -27,7 +26,7 @@ same-length c = search needs
 
 returns : tie.Need-returns
 returns c = let a = c .before .before .before .before .before .before .before .before .before .before .args in
-    c .before .before .put .ensures ∙ ap (sets (a .file .now) (a .at)) (c .before .before .before .front .ensures ∙ ap (take heldImage) (c .before .before .before .before .before .before .before .encode .ensures ∙ whole _ (a .session) refl))
+    c .before .before .put .ensures ∙ ap (sets (a .file .now) (a .at)) (c .before .before .before .front .ensures ∙ ap (take (a .held)) (c .before .before .before .before .before .before .before .encode .ensures ∙ whole _ (a .session) refl))
 
 pub put-session-spec : {M : Type 1} → statement M
 put-session-spec =

@@ -1,3 +1,5 @@
+use Rattle.slots.proofs.Images.{sum-within}
+use native.Mathlib.Omega.{arith}
 use Rattle.slots.specs.Slots.{slotted}
 use borrow.Author.Needs.{needs}
 use Rattle.slots.proofs.put_slot.Statement.{statement}
@@ -9,6 +11,9 @@ fill-slot-requires c κs = search needs
 slot-at-requires : tie.Need-slot-at-requires
 slot-at-requires c κs = search needs
 
+sum-at-requires : tie.Need-sum-at-requires
+sum-at-requires c κs = search needs
+
 four-at-requires : tie.Need-four-at-requires
 four-at-requires c κs = search needs
 
@@ -19,7 +24,7 @@ sum-requires : tie.Need-sum-requires
 sum-requires c κs = search needs
 
 add-put-four : tie.Need-add-put-four
-add-put-four c = search needs
+add-put-four c = omega (arith, sum-within _ _ (c .before .before .before .before .before .before .sum-at .ensures), c .before .before .before .before .before .before .before .before .slot-at .ensures)
 
 put-four-requires : tie.Need-put-four-requires
 put-four-requires c κs = search needs
@@ -29,7 +34,7 @@ same-length c = search needs
 
 returns : tie.Need-returns
 unfolding slotted
-returns c = rw (c .before .before .put-four .ensures, c .before .before .before .before .sum .ensures, c .before .before .before .before .before .part .ensures, c .before .before .before .before .before .before .before .four-at .ensures, c .before .before .before .before .before .before .before .before .before .slot-at .ensures, c .before .before .before .before .before .before .before .before .before .before .before .before .fill-slot .ensures)
+returns c = rw (c .before .before .put-four .ensures, c .before .before .before .before .sum .ensures, c .before .before .before .before .before .part .ensures, c .before .before .before .before .before .before .before .four-at .ensures, c .before .before .before .before .before .before .before .before .before .sum-at .ensures, c .before .before .before .before .before .before .before .before .before .before .before .slot-at .ensures, c .before .before .before .before .before .before .before .before .before .before .before .before .before .before .fill-slot .ensures)
 
 pub put-slot-spec : {M : Type 1} → statement M
 put-slot-spec =
@@ -37,6 +42,7 @@ put-slot-spec =
     (tie.spec
     fill-slot-requires
     slot-at-requires
+    sum-at-requires
     four-at-requires
     part-requires
     sum-requires

@@ -31,6 +31,12 @@ width-at-requires c κs = search needs
 part-length-requires : tie.Need-part-length-requires
 part-length-requires c κs = search needs
 
+enum-known-what-3 : tie.Need-enum-known-what-3
+enum-known-what-3 c = search needs
+
+stamp-summary-requires : tie.Need-stamp-summary-requires
+stamp-summary-requires c κs = search needs
+
 returns : tie.Need-returns
 unfolding summaryOf pieceOf
 returns c = rw (c .before .before .before .enum-told .given .1, c .all-in .ensures, (rw (c .before .before .before .enum-told .given .1) at (c .before .piece .ensures)))
@@ -42,6 +48,10 @@ returns-2 c = rw (c .before .before .what .given .1) (c .variable-summary .ensur
 returns-3 : tie.Need-returns-3
 unfolding summaryOf
 returns-3 c = rw (c .before .before .before .what2 .given .1, ← c .before .width-at .ensures, ← c .part-length .ensures)
+
+returns-4 : tie.Need-returns-4
+unfolding summaryOf
+returns-4 c = rw (c .before .before .what3 .given .1) (c .stamp-summary .ensures)
 
 pub summary-of-spec : {M : Type 1} → statement M
 summary-of-spec =
@@ -56,6 +66,9 @@ summary-of-spec =
     enum-known-what-2
     width-at-requires
     part-length-requires
+    enum-known-what-3
+    stamp-summary-requires
     returns
     returns-2
-    returns-3)
+    returns-3
+    returns-4)

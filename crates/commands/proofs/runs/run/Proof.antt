@@ -1,5 +1,5 @@
 use Rattle.lent.specs.Lent.{world}
-use Rattle.commands.proofs.Arms.{misplaced-run, end-run, item-run, page-run, form-run, picture-run, value-run, listing-run}
+use Rattle.commands.proofs.Arms.{misplaced-run, end-run, item-run, page-run, form-run, picture-run, value-run, listing-run, clock-run}
 use borrow.Author.Needs.{needs}
 use Rattle.commands.proofs.runs.run.Statement.{statement}
 use Rattle.commands.proofs.runs.run.Tie as tie
@@ -56,6 +56,12 @@ enum-known-command-6 c = search needs
 
 run-listing-requires : tie.Need-run-listing-requires
 run-listing-requires c κs = search needs
+
+enum-known-command-7 : tie.Need-enum-known-command-7
+enum-known-command-7 c = search needs
+
+run-clock-requires : tie.Need-run-clock-requires
+run-clock-requires c κs = search needs
 
 same-length : tie.Need-same-length
 same-length c = search needs
@@ -157,6 +163,11 @@ returns-8 c =
     let a = c .before .before .before .before .before .before .before .before .before .before .before .before .before .before .before .before .before .before .before .before .before .args in
     rw (c .before .before .before .before .before .before .before .before .command6 .given .1) (listing-run (a .session) (a .font .now) (a .line .now) (a .more .now) (a .background .now) (a .store .now) (a .links .now) (a .directory .now) (a .values .now) (a .output .now) _ (c .before .before .before .before .before .before .before .before .command6 .given .0 .0) (c .before .before .run-listing .ensures))
 
+returns-9 : tie.Need-returns-9
+returns-9 c =
+    let a = c .before .before .before .before .before .before .before .before .before .before .before .before .before .before .before .args in
+    rw (c .before .before .command7 .given .1) (clock-run (a .session) (a .font .now) (a .line .now) (a .more .now) (a .output .now) (world (a .background .now) (a .store .now) (a .links .now) (a .directory .now) (a .values .now)) (c .before .before .command7 .given .0 .0) _ (c .run-clock .ensures))
+
 pub run-spec : {M : Type 1} → statement M
 run-spec =
     tie.close
@@ -178,6 +189,8 @@ run-spec =
     run-value-requires
     enum-known-command-6
     run-listing-requires
+    enum-known-command-7
+    run-clock-requires
     same-length
     same-length-2
     same-length-3
@@ -206,4 +219,5 @@ run-spec =
     same-length-20
     same-length-21
     same-length-22
-    returns-8)
+    returns-8
+    returns-9)

@@ -33,7 +33,7 @@ array-write-steps c = search needs
 
 returns : tie.Need-returns
 unfolding withCounter
-returns c = rw (lt-ltb _ 10 (c .before .before .before .before .before .before .before .before .if1 .taken), c .before .before .least .ensures, c .before .flag .ensures, c .least2 .ensures)
+returns c = rw (lt-ltb _ 10 (c .before .before .before .before .before .before .before .before .before .if1 .taken), c .before .before .least .ensures, c .before .flag .ensures, c .least2 .ensures)
 
 returns-2 : tie.Need-returns-2
 unfolding withCounter

@@ -18,7 +18,7 @@ array-write-sides c = search needs
 
 returns : tie.Need-returns
 unfolding withVariable
-returns c = rw (lt-ltb _ 10 (c .before .before .before .before .before .before .if1 .taken), c .least .ensures)
+returns c = rw (lt-ltb _ 10 (c .before .before .before .before .before .before .before .if1 .taken), c .least .ensures)
 
 returns-2 : tie.Need-returns-2
 unfolding withVariable

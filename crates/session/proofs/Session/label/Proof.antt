@@ -24,12 +24,12 @@ counted-requires c κs = search needs
 same-length : tie.Need-same-length
 same-length c =
     let t = c .before .before .before .before .before in let d = t .before .before .before .before in
-    search (needs, t .turn-page .kept, d .draw .kept, d .before .before .before .before .before .copy .kept)
+    search (needs, t .turn-page .kept, d .draw .kept, d .before .before .before .before .before .before .copy .kept)
 
 returns : tie.Need-returns
 returns c =
     let t = c .before .before .before .before .before in let d = t .before .before .before .before in
-    label-made _ _ _ _ _ _ _ _ _ _ (d .before .before .before .before .before .copy .ensures) (d .draw .ensures) (t .turn-page .ensures)
+    label-made _ _ _ _ _ _ _ _ _ _ (d .before .before .before .before .before .before .copy .ensures) (d .draw .ensures) (t .turn-page .ensures)
     (c .before .before .active-declared .ensures) (c .before .moved .ensures) (c .counted .ensures)
 
 pub label-spec : {M : Type 1} → statement M

@@ -1,0 +1,4 @@
+pub mod Texts
+pub mod Laying
+pub mod Always
+pub mod Cases
