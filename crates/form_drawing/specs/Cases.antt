@@ -31,7 +31,8 @@ case-declared : (g : Setting) (page : List ℕ) → drawsLine g (drawing (starts
 unfolding drawsLine declares withVariable itemIn letterAt between run valueFrom numberAt textAt byteAt find headBy headOf fieldAt fieldsFrom spread meets fieldLimits limitsFrom inOrder judged headed readOf digits cased writtenField writtenFrom writtenOf headWritten equal isNormal
 case-declared g page = refl
 
--- paper 02, §10: "TD and TT may be recorded and then hold for the rest of that label": they draw nothing, leave each its format to the lines after it, and the last one counts
+-- paper 02, §10: "TD and TT may be recorded and then hold for the rest of that label": they draw nothing, leave each its format to the lines after it, and the last one
+-- counts
 case-formats : (g : Setting) (page : List ℕ) →
     drawsLines g (drawing (starts 0 0) page) (bytes "TDy4" ∷ bytes "TTh:m" ∷ bytes "TDmn/dd" ∷ bytes "R1,2" ∷ [])
     ≡ drawing (carried (outsideForms (formatsOf (format 4 (code "/") 5 0 0) (format 1 (code ":") 2 0 0))) (place 1 2)) page
