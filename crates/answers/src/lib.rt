@@ -3,11 +3,13 @@
 // "The lowest number that applies is given", and 0 where none does; in the table 22 stands after 18 and before 19 (paper 02, §3), and 23 directly after 19 (§5). Each
 // call's rows stand where they are decided, in the table's order; the enum here is what all of them answer with, so that no number is written twice.
 // specs/Answers.antt gives each answer's number and says which row of a table is the answer.
+#![tactic(auto)]
+
 ghost use Rattle.std.specs.Prelude.{◌≡◌};
 ghost use Rattle.answers.specs.Answers.{number_of, place_of, points, is_full, is_taken};
 
 // One case a row of the table, in its order; 6, 7 and 12 to 15 with the place in the line that they point to (paper 02, §2).
-#[derive(Drop)]
+#[derive(Clone, Copy)]
 pub enum Answer {
     Taken,
     Lengths,

@@ -2,11 +2,13 @@
 //
 // Paper 01 gives each number of a command, and the length of each name and prompt, a least and a greatest value. The code keeps a letter for each such pair, and
 // `bound_by` answers the pair. Which letter belongs to which field is said in crate `grammar`, where the letters are held to the paper's limits.
+#![tactic(auto)]
+
 ghost use Rattle.std.specs.Prelude.{◌≡◌};
 ghost use Rattle.bounds.specs.Letters.{bound_by};
 
 // The least and the greatest value of a field.
-#[derive(Drop)]
+#[derive(Clone, Copy)]
 pub struct Bounds {
     pub low: usize,
     pub high: usize,

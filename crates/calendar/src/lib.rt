@@ -13,7 +13,7 @@ use ground::{both, wide};
 use kinds::is_between;
 
 // The session's clock: year 0 to 99, read as 2000 to 2099, month, day, hour, minute and second.
-#[derive(Drop)]
+#[derive(Clone, Copy)]
 pub struct Clock {
     pub year: u8,
     pub month: u8,
@@ -24,7 +24,7 @@ pub struct Clock {
 }
 
 // What becomes of the clock when seconds pass: it moves; [3] it is no date and time; [7] more than a day.
-#[derive(Drop)]
+#[derive(Clone, Copy)]
 pub enum Moved {
     To(Clock),
     NoClock,

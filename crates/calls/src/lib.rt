@@ -8,7 +8,7 @@ use answers::Answer;
 use session::Session;
 
 // What a command call answers: the answer, the session, and how many bytes it read and wrote.
-#[derive(Drop)]
+#[derive(Clone, Copy)]
 pub struct Outcome {
     pub answer: Answer,
     pub session: Session,

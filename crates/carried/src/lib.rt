@@ -9,7 +9,7 @@ ghost use Rattle.carried.specs.Carried.{origin_after, carries, starts};
 use declarations::Declared;
 use grammar::{Item, Origin};
 
-#[derive(Drop)]
+#[derive(Clone, Copy)]
 pub struct Carried {
     pub declared: Declared,
     pub origin: Origin,

@@ -7,7 +7,7 @@ ghost use Rattle.std.specs.Prelude.{◌≡◌, ◌+◌, drop};
 ghost use Rattle.classes.specs.Bytes.{in_class, run};
 
 // Digit: of a number. Quoted: of a quoted text. Inside: of a line. Named: of a name. Mode and Side: the letters of a mode, of a justification.
-#[derive(Drop)]
+#[derive(Clone, Copy)]
 pub enum Class {
     Digit,
     Quoted,

@@ -13,7 +13,7 @@ use store::BYTES_A_PORTION;
 const LONGEST_LINE: usize = 255;
 
 // What a reader finds next: a line of a length, with the reader behind its LF; the end; or no line of at most 255 bytes.
-#[derive(Drop)]
+#[derive(Clone, Copy)]
 pub enum Next {
     Line(usize, Cursor),
     End,

@@ -15,7 +15,7 @@ use store::BYTES_A_PORTION;
 pub const LAST_PLACE: usize = 255;
 
 // Where a reader stands: a portion, a place in it, and how many bytes are left.
-#[derive(Drop)]
+#[derive(Clone, Copy)]
 pub struct Cursor {
     pub portion: usize,
     pub at: usize,

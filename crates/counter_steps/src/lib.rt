@@ -12,7 +12,7 @@ use declarations::{Declared, tenth_byte};
 use ground::{both, either, less};
 
 // One counter: set (0 or 1) and value (0 where unset).
-#[derive(Drop)]
+#[derive(Clone, Copy)]
 pub struct Counter {
     pub set: u8,
     pub value: u32,

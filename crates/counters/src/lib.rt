@@ -11,14 +11,14 @@ use declarations::{Declared, Entered, tenth_byte, tenth_number};
 use ground::{both, least};
 
 // The session's ten counters: set (0 or 1) and value (0 where unset).
-#[derive(Drop)]
+#[derive(Clone, Copy)]
 pub struct Counters {
     pub set: [u8; 10],
     pub value: [u32; 10],
 }
 
 // The answer to a value for a counter, and the counters after it.
-#[derive(Drop)]
+#[derive(Clone, Copy)]
 pub struct Counted {
     pub answer: Entered,
     pub counters: Counters,

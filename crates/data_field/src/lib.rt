@@ -11,7 +11,7 @@ use elements::{Part, Step, What, element_at};
 use fields::Field;
 
 // Whether all modifiers are within their limits, or the place of the first element outside.
-#[derive(Drop)]
+#[derive(Clone, Copy)]
 pub enum Limits {
     Within,
     Outside(usize),

@@ -11,7 +11,7 @@ ghost use Rattle.declarations.specs.Declarations.{tenth, length_at, side_at, wid
 use formats::{Format, Formats, Stamp};
 use ground::{least, wide};
 
-#[derive(Drop)]
+#[derive(Clone, Copy)]
 pub struct Declared {
     pub lengths: [u8; 10],
     pub sides: [u8; 10],
@@ -22,7 +22,7 @@ pub struct Declared {
 }
 
 // What becomes of a value that is entered: taken; [13] not declared; [17] it does not fit.
-#[derive(Drop)]
+#[derive(Clone, Copy)]
 pub enum Entered {
     Taken,
     Undeclared,

@@ -3,6 +3,8 @@
 // with the dots of a shape inked and all else as it was, for a page of any length. It has what every drawing stands on: the two functions that make
 // and ink the dots of one byte, and the laws of pages, of shapes drawn in turn and of boxes.
 // Boxes are drawn by `boxes`, frames by `frames`, bytes of dots by `eights`; whole pages are the business of `pages`, `outside` and `half_turn`.
+#![tactic(auto)]
+
 ghost use Rattle.std.specs.Prelude.{◌≡◌, cond};
 ghost use Rattle.dots.specs.Dots.{within, bit_of, byte_of, inked};
 
@@ -14,7 +16,7 @@ pub const BYTES_A_ROW: usize = 76;
 pub const DOTS_A_ROW: usize = 608;
 
 // What drawing does to a dot: makes it black, makes it white, or turns it over.
-#[derive(Drop)]
+#[derive(Clone, Copy)]
 pub enum Ink {
     Black,
     White,

@@ -14,7 +14,7 @@ use ground::byte;
 use numbers::{digit, number};
 
 // What a modifier takes of a value: all; the first n; the last n; n from place p, counted from 1.
-#[derive(Drop)]
+#[derive(Clone, Copy)]
 pub enum Part {
     Whole,
     First(usize),
@@ -23,14 +23,14 @@ pub enum Part {
 }
 
 // A modifier and the place after it; or the place where a number or the point is missing.
-#[derive(Drop)]
+#[derive(Clone, Copy)]
 pub enum Modifier {
     Takes(Part, usize),
     Wrong(usize),
 }
 
 // A quoted text; a part of a variable, by its number; a part of a counter; the date or the time of day.
-#[derive(Drop)]
+#[derive(Clone, Copy)]
 pub enum What {
     Text,
     Variable(usize, Part),
@@ -39,7 +39,7 @@ pub enum What {
 }
 
 // An element of data: the place of its first byte, and how many bytes of the line it takes.
-#[derive(Drop)]
+#[derive(Clone, Copy)]
 pub struct Element {
     pub what: What,
     pub at: usize,
@@ -47,7 +47,7 @@ pub struct Element {
 }
 
 // An element; or none, and the place at fault.
-#[derive(Drop)]
+#[derive(Clone, Copy)]
 pub enum Step {
     Next(Element),
     Stop(usize),

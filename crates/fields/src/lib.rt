@@ -14,7 +14,7 @@ use ground::{byte, wide};
 use kinds::{Kind, Place, Under};
 
 // What reading one field finds: its value and the place after it; or that the written form is not there, and the place at fault.
-#[derive(Drop)]
+#[derive(Clone, Copy)]
 pub enum Field {
     Is(usize, usize),
     Not(usize),

@@ -2,6 +2,8 @@
 //
 // Numbers stand low byte first, as in the session's image; past the file's end stand zeros, and nothing is written there. A sum takes every byte and
 // its place: one byte more is the sum times 257, and the byte, and 1, modulo the greatest prime below 2^32 (specs/Sums.antt).
+#![tactic(auto)]
+
 ghost use Rattle.std.specs.Prelude.{◌≡◌, ◌+◌, ◌*◌, ◌<◌};
 ghost use Rattle.std.proofs.lemmas.List.Edits.{sets};
 ghost use Rattle.low_first.specs.Low.{number_at, bytes_of};

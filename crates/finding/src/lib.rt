@@ -7,7 +7,7 @@ ghost use Rattle.finding.specs.Bytes.{two, four, eight, titled_by};
 
 use store::{BYTES_AN_ENTRY, FREE_LINK};
 
-#[derive(Drop)]
+#[derive(Clone, Copy)]
 pub enum Found {
     At(usize),
     Nothing,

@@ -16,7 +16,7 @@ use reach::{DataAnswer, first_past, past_by, undeclared_by};
 use summary::{Summary, summary_of};
 
 // Fit, whatever permitted values it is shown with; 13 and 14 as in `DataAnswer`; 15 some permitted values make it unfit.
-#[derive(Drop)]
+#[derive(Clone, Copy)]
 pub enum Judgement {
     Fit,
     Undeclared(usize),

@@ -22,7 +22,7 @@ use item_drawing::draw_item;
 use kept_line::{Stored, stored_item};
 
 // Where a label under way stands: a reader, and what the lines so far leave.
-#[derive(Drop)]
+#[derive(Clone, Copy)]
 pub struct Run {
     pub place: Cursor,
     pub carried: Carried,

@@ -35,7 +35,7 @@ fn onward(links: &[u16], place: Cursor) -> Cursor
 }
 
 // A reader that looks for the end of a line, and whether it still looks.
-#[derive(Drop)]
+#[derive(Clone, Copy)]
 struct Search {
     place: Cursor,
     going: bool,
@@ -75,7 +75,7 @@ fn skip(store: &[u8], links: &[u16], place: Cursor) -> Cursor
 }
 
 // How long the next line is, and a reader behind it.
-#[derive(Drop)]
+#[derive(Clone, Copy)]
 pub struct Line {
     pub n: usize,
     pub place: Cursor,

@@ -13,14 +13,14 @@ use formats::{Format, Stamp, is_separator, new_unit, pack, unit};
 use ground::{byte, either};
 
 // A format's field and the place after its letters; or the place at fault.
-#[derive(Drop)]
+#[derive(Clone, Copy)]
 pub enum Spot {
     Letters(u8, usize),
     Fault(usize),
 }
 
 // A format; or the place at fault.
-#[derive(Drop)]
+#[derive(Clone, Copy)]
 pub enum Found {
     Whole(Format),
     Wrong(usize),

@@ -10,7 +10,7 @@ use ground::{both, either, wide};
 use kinds::is_between;
 
 // What a format is for, and what an element of data shows: the date (`TD`) or the time of day (`TT`).
-#[derive(Drop)]
+#[derive(Clone, Copy)]
 pub enum Stamp {
     Date,
     Time,
@@ -18,7 +18,7 @@ pub enum Stamp {
 
 // A field, and up to twice a separator and a field; 0 where none stands. The fields of a date are 1 Y2, 2 Y4, 3 ME, 4 MN, 5 DD, those of a time
 // 1 H, 2 M, 3 S.
-#[derive(Drop)]
+#[derive(Clone, Copy)]
 pub struct Format {
     pub first: u8,
     pub mark1: u8,
@@ -28,7 +28,7 @@ pub struct Format {
 }
 
 // The formats in force.
-#[derive(Drop)]
+#[derive(Clone, Copy)]
 pub struct Formats {
     pub date: Format,
     pub time: Format,

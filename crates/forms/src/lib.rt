@@ -18,7 +18,7 @@ use kept_line::{Stored, stored_item};
 use recording::{declare, has_picture, is_taken, judge};
 
 // Where a walk stands, what is declared so far, and whether all was good so far.
-#[derive(Drop)]
+#[derive(Clone, Copy)]
 pub struct Walk {
     pub place: Cursor,
     pub declared: Declared,
@@ -26,7 +26,7 @@ pub struct Walk {
 }
 
 // What a line adds to a walk.
-#[derive(Drop)]
+#[derive(Clone, Copy)]
 struct Seen {
     declared: Declared,
     good: bool,

@@ -6,7 +6,7 @@ pub mod input;
 
 // What stands at the front of the input: too little (answer 4); too long a line (answer 5), and how many bytes a call reads then; an empty
 // line or a comment, and how many bytes it takes; or a line, how many bytes stand before its LF, and how many bytes a call reads.
-#[derive(Drop)]
+#[derive(Clone, Copy)]
 pub enum Front {
     Short,
     Long(usize),

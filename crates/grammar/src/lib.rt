@@ -10,7 +10,7 @@ pub mod table;
 use formats::{Format, Stamp};
 use kinds::{Kind, Under};
 
-#[derive(Drop)]
+#[derive(Clone, Copy)]
 pub enum Ink {
     Black,
     White,
@@ -18,7 +18,7 @@ pub enum Ink {
 }
 
 // R: the origin.
-#[derive(Drop)]
+#[derive(Clone, Copy)]
 pub struct Origin {
     pub x: usize,
     pub y: usize,
@@ -26,7 +26,7 @@ pub struct Origin {
 
 // V: the variable n of at most m bytes, its justification, and its prompt. Of a prompt, a name or a text: the place of its first quote, and
 // how many bytes stand between its quotes.
-#[derive(Drop)]
+#[derive(Clone, Copy)]
 pub struct Variable {
     pub n: usize,
     pub m: usize,
@@ -36,7 +36,7 @@ pub struct Variable {
 }
 
 // C: the counter n of w digits, its step, and its prompt.
-#[derive(Drop)]
+#[derive(Clone, Copy)]
 pub struct Counter {
     pub n: usize,
     pub w: usize,
@@ -47,7 +47,7 @@ pub struct Counter {
 }
 
 // A: a text. Its data stands from the place `at` to the end of the line.
-#[derive(Drop)]
+#[derive(Clone, Copy)]
 pub struct Text {
     pub x: usize,
     pub y: usize,
@@ -60,7 +60,7 @@ pub struct Text {
 
 // B: bars, and what stands under them; this is kept beside their type, so that the two share a word and an item is copied as quickly as it was. Their
 // data stands from the place `at` to the end of the line.
-#[derive(Drop)]
+#[derive(Clone, Copy)]
 pub struct Bars {
     pub x: usize,
     pub y: usize,
@@ -74,7 +74,7 @@ pub struct Bars {
 }
 
 // LO, LE, LW: c by d dots from a, b on.
-#[derive(Drop)]
+#[derive(Clone, Copy)]
 pub struct Rectangle {
     pub ink: Ink,
     pub a: usize,
@@ -84,7 +84,7 @@ pub struct Rectangle {
 }
 
 // X: a frame between the corners a, b and d, e, of thickness c.
-#[derive(Drop)]
+#[derive(Clone, Copy)]
 pub struct Frame {
     pub a: usize,
     pub b: usize,
@@ -94,7 +94,7 @@ pub struct Frame {
 }
 
 // LS, LSE, LSW: a slanted line from a, b to d, e, of thickness c.
-#[derive(Drop)]
+#[derive(Clone, Copy)]
 pub struct Slant {
     pub ink: Ink,
     pub a: usize,
@@ -105,7 +105,7 @@ pub struct Slant {
 }
 
 // GG: the picture of a name, at a, b.
-#[derive(Drop)]
+#[derive(Clone, Copy)]
 pub struct Picture {
     pub a: usize,
     pub b: usize,
@@ -114,14 +114,14 @@ pub struct Picture {
 }
 
 // TD, TT: the format in which the date or the time of day is shown.
-#[derive(Drop)]
+#[derive(Clone, Copy)]
 pub struct SetFormat {
     pub stamp: Stamp,
     pub format: Format,
 }
 
 // A line that may stand in a form.
-#[derive(Drop)]
+#[derive(Clone, Copy)]
 pub enum Item {
     Origin(Origin),
     Variable(Variable),
@@ -136,26 +136,26 @@ pub enum Item {
 }
 
 // Q: the label's length and the gap.
-#[derive(Drop)]
+#[derive(Clone, Copy)]
 pub struct Length {
     pub m: usize,
     pub g: usize,
 }
 
 // q: the label's width.
-#[derive(Drop)]
+#[derive(Clone, Copy)]
 pub struct Width {
     pub m: usize,
 }
 
 // ZT, ZB: whether the finished page is turned by half a turn.
-#[derive(Drop)]
+#[derive(Clone, Copy)]
 pub struct Turn {
     pub half: bool,
 }
 
 // A name, and whether it is the star that means all.
-#[derive(Drop)]
+#[derive(Clone, Copy)]
 pub struct Named {
     pub at: usize,
     pub length: usize,
@@ -163,7 +163,7 @@ pub struct Named {
 }
 
 // GM: a picture's name, and how many bytes follow the line.
-#[derive(Drop)]
+#[derive(Clone, Copy)]
 pub struct StorePicture {
     pub at: usize,
     pub length: usize,
@@ -171,7 +171,7 @@ pub struct StorePicture {
 }
 
 // ?V: the text that the variable n takes.
-#[derive(Drop)]
+#[derive(Clone, Copy)]
 pub struct SetVariable {
     pub n: usize,
     pub at: usize,
@@ -179,20 +179,20 @@ pub struct SetVariable {
 }
 
 // ?C: the number that the counter n takes.
-#[derive(Drop)]
+#[derive(Clone, Copy)]
 pub struct SetCounter {
     pub n: usize,
     pub value: usize,
 }
 
 // P: how many labels.
-#[derive(Drop)]
+#[derive(Clone, Copy)]
 pub struct Print {
     pub k: usize,
 }
 
 // TS: the date and the time that the clock takes.
-#[derive(Drop)]
+#[derive(Clone, Copy)]
 pub struct SetClock {
     pub month: usize,
     pub day: usize,
@@ -203,7 +203,7 @@ pub struct SetClock {
 }
 
 // Q, q, ZT and ZB, N: the page.
-#[derive(Drop)]
+#[derive(Clone, Copy)]
 pub enum PageCommand {
     Length(Length),
     Width(Width),
@@ -212,7 +212,7 @@ pub enum PageCommand {
 }
 
 // FS, FR, FK: a form is started, retrieved or erased.
-#[derive(Drop)]
+#[derive(Clone, Copy)]
 pub enum FormCommand {
     Start(Named),
     Retrieve(Named),
@@ -220,14 +220,14 @@ pub enum FormCommand {
 }
 
 // GM, GK: a picture is stored or erased.
-#[derive(Drop)]
+#[derive(Clone, Copy)]
 pub enum PictureCommand {
     Store(StorePicture),
     Erase(Named),
 }
 
 // ?V, ?C, VC, P: values are entered and cleared, and labels of them are printed.
-#[derive(Drop)]
+#[derive(Clone, Copy)]
 pub enum ValueCommand {
     Variable(SetVariable),
     Counter(SetCounter),
@@ -236,7 +236,7 @@ pub enum ValueCommand {
 }
 
 // FI, GI, FP: the names of forms or of pictures are listed, or a form's lines.
-#[derive(Drop)]
+#[derive(Clone, Copy)]
 pub enum ListingCommand {
     Forms,
     Pictures,
@@ -244,7 +244,7 @@ pub enum ListingCommand {
 }
 
 // A command: a line that may stand in a form; FE, the end of a form; TS, the clock; or one of a group.
-#[derive(Drop)]
+#[derive(Clone, Copy)]
 pub enum Command {
     Item(Item),
     End,

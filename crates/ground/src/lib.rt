@@ -3,6 +3,8 @@
 // Two tests put together without a branch in the caller, the lesser and the greater of two numbers, sums and differences that stay in their range, and
 // bytes of a list at any place: past its end 0 is read and nothing is stored. Each function takes any numbers and any bytes, and its contract is one
 // equation with a definition of the language's own library. The laws on tests and on runs of stores that proofs cite stand in proofs/.
+#![tactic(auto)]
+
 mod bytes; // bytes read and stored at any place, parts of a list
 mod reckoning; // sums and differences that stay in range
 

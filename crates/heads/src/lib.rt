@@ -9,7 +9,7 @@ use grammar::row;
 use ground::byte;
 
 // The row of the grammar that a line's letters name.
-#[derive(Drop)]
+#[derive(Clone, Copy)]
 pub enum Head {
     Row(usize),
     Unknown,

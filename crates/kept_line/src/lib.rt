@@ -18,7 +18,7 @@ use row_limits::row_limits;
 use writing::same;
 
 // What a stored line holds: an item in normal form, or nothing that a form may have.
-#[derive(Drop)]
+#[derive(Clone, Copy)]
 pub enum Stored {
     Holds(Item),
     Nothing,

@@ -3,6 +3,8 @@
 // Paper 01 says under "Fit data" how many bytes a text or a bar symbol takes, and which. This crate has that paragraph for
 // bytes that are known: `fits` answers true exactly when the definition `fit` (specs/Fit.antt) holds. What becomes of data with
 // variables and counters in it stands in crate `fitness`, the bars themselves in crate `bars`, and the line under them in crate `lined`.
+#![tactic(auto)]
+
 ghost use Rattle.std.specs.Prelude.{◌≡◌, ◌&&◌, length};
 ghost use Rattle.kinds.specs.Bytes.{between, all_in};
 ghost use Rattle.kinds.specs.Fit.{in_class, fit_length, fit};
@@ -11,7 +13,7 @@ ghost use Rattle.kinds.specs.Fit.{in_class, fit_length, fit};
 pub const MOST_DATA: usize = 128;
 
 // What the data is for: text that is shown (A), or bars of type 3, 2, E30 or 1 (B).
-#[derive(Drop)]
+#[derive(Clone, Copy)]
 pub enum Kind {
     Shown,
     Code39,
@@ -21,7 +23,7 @@ pub enum Kind {
 }
 
 // Where the narrower of two things stands, as against the wider.
-#[derive(Drop)]
+#[derive(Clone, Copy)]
 pub enum Place {
     Left,
     Centre,
@@ -29,7 +31,7 @@ pub enum Place {
 }
 
 // What stands under bars: nothing (N), or their data as a line of text (B).
-#[derive(Drop)]
+#[derive(Clone, Copy)]
 pub enum Under {
     Nothing,
     Line(Place),

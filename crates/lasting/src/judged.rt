@@ -11,7 +11,7 @@ use store::{MOST_ENTRIES, MOST_PORTIONS};
 
 // What a file is: not a store; of another version; of other sizes; longer or shorter than its sizes say; of another sum; with no whole slot; or a
 // store, and which slot holds.
-#[derive(Drop)]
+#[derive(Clone, Copy)]
 pub enum Verdict {
     Foreign,
     Version,

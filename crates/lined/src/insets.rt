@@ -7,7 +7,7 @@ ghost use Rattle.lined.specs.Insets.{brought, beside as beside_of, above as abov
 use ground::{capped_sum, less};
 use kinds::Place;
 
-#[derive(Drop)]
+#[derive(Clone, Copy)]
 pub struct Margins {
     left: usize,
     top: usize,

@@ -10,7 +10,7 @@ use writing::same;
 // The minutes of a day but one.
 const MOST_MINUTES: usize = 1439;
 
-#[derive(Drop)]
+#[derive(Clone, Copy)]
 pub enum Word {
     Rows,
     Font,
@@ -26,14 +26,14 @@ pub enum Word {
 }
 
 // What a text is as a number.
-#[derive(Drop)]
+#[derive(Clone, Copy)]
 pub enum Number {
     Of(usize),
     Nothing,
 }
 
 // What may be asked for.
-#[derive(Drop)]
+#[derive(Clone, Copy)]
 pub enum Kind {
     Form,
     Picture,

@@ -2,6 +2,8 @@
 // exactly the bytes of its lines. `is_legal` answers true exactly where the definition `legal` of specs/Rules.antt holds, for any bytes, in one pass and
 // with no room for what the runs give. The numbers of the header and the steps of a run serve whoever draws, too.
 // A picture is drawn by `picture`; where one is stored and what its name is, is left to others.
+#![tactic(auto)]
+
 mod body; // the runs
 mod header; // the header's numbers and rules
 

@@ -16,7 +16,7 @@ use pcx::{HEADER_BYTES, height_of, is_legal, line_bytes, next_of, times_of, widt
 
 // Where a picture stands on a page: its corner, the column and the row at which it ends or is cut, the bytes of its lines, and how many of its bytes
 // stand above that row.
-#[derive(Drop)]
+#[derive(Clone, Copy)]
 struct Spot {
     x: usize,
     y: usize,

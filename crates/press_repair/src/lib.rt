@@ -21,7 +21,7 @@ use verdicts::{KEPT, UNSAID};
 const LIST: usize = 12 * MOST_ENTRIES;
 
 // How many entries are kept and dropped.
-#[derive(Drop)]
+#[derive(Clone, Copy)]
 struct Sums {
     keeps: usize,
     drops: usize,

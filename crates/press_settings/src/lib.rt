@@ -12,7 +12,7 @@ mod setup; // the command line, the font, the files
 pub use setup::{command_line, font, prefix, readable};
 
 // What -fits asks for: name is the number of the argument that is the name, 0 where nothing is asked; size is a picture's.
-#[derive(Drop)]
+#[derive(Clone, Copy)]
 pub struct Question {
     pub name: usize,
     pub picture: bool,
@@ -21,7 +21,7 @@ pub struct Question {
 
 // What the command line says. font, out, store and files are numbers of arguments, 0 where none is given; rows is 0 where none is given. zone is in minutes ahead of
 // UTC, as a number with a sign counts; clock says that the machine's clock is the station's; repair says that the store is to be repaired.
-#[derive(Drop)]
+#[derive(Clone, Copy)]
 pub struct Settings {
     pub rows: usize,
     pub font: usize,

@@ -14,7 +14,7 @@ use session::{Session, sixteen_bits};
 
 // What is known between two turns. A descriptor that is not there is -1; store is the argument that names the store, 0 for none, and file the one that is read,
 // 0 for standard input; ready says that a command stands at the front of what is read. moment is the machine's second up to which the clock was moved.
-#[derive(Drop)]
+#[derive(Clone, Copy)]
 pub struct Run {
     pub session: Session,
     pub store: usize,
@@ -38,14 +38,14 @@ pub struct Run {
 }
 
 // What is found of a store: the bytes of its file, 0 where there is none, and the bytes of a page, 0 where it cannot be used.
-#[derive(Drop)]
+#[derive(Clone, Copy)]
 pub struct Sizes {
     pub known: usize,
     pub page: usize,
 }
 
 // A store as it is loaded: its session, and the slot that this comes from; good where it may be used.
-#[derive(Drop)]
+#[derive(Clone, Copy)]
 pub struct Start {
     pub session: Session,
     pub slot: usize,

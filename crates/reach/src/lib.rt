@@ -10,7 +10,7 @@ use declarations::Declared;
 use elements::{Part, What};
 
 // Good as far as 13 and 14 go; 13 a variable or counter is not declared, 14 a modifier reaches past the declared length, each with the place of the leftmost such element.
-#[derive(Drop)]
+#[derive(Clone, Copy)]
 pub enum DataAnswer {
     Good,
     Undeclared(usize),

@@ -12,13 +12,13 @@ use grammar::Command;
 use heads::{Head, head_of, letters_fault};
 
 // Answer 6, the form, or 7, a limit; and the place at fault.
-#[derive(Drop)]
+#[derive(Clone, Copy)]
 pub enum Fault {
     Form(usize),
     Limit(usize),
 }
 
-#[derive(Drop)]
+#[derive(Clone, Copy)]
 pub enum Read {
     Taken(Command),
     Refused(Fault),

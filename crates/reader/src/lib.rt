@@ -12,7 +12,7 @@ use fields::Field;
 use format_field::format_form;
 use formats::Stamp;
 
-#[derive(Drop)]
+#[derive(Clone, Copy)]
 pub struct Reader<'a> {
     pub line: &'a [u8],
     pub at: usize,

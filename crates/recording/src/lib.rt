@@ -17,7 +17,7 @@ use grammar::row::DECLARED_AT;
 use kinds::Kind;
 
 // What recording answers for an item: taken, or 12 to 15 with the place in its line.
-#[derive(Drop)]
+#[derive(Clone, Copy)]
 pub enum Verdict {
     Taken,
     Again(usize),

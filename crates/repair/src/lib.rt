@@ -23,7 +23,7 @@ use verdicts::judge;
 const MOST_ROWS: u64 = 4000;
 
 // What the call answers: the answer, the session, and how many bytes of the list it wrote.
-#[derive(Drop)]
+#[derive(Clone, Copy)]
 pub struct Outcome {
     pub answer: Answer,
     pub session: Session,

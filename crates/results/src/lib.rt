@@ -16,7 +16,7 @@ use stored_values::unset_all;
 pub mod names; // entries by name
 
 // What a line leaves: its answer, the session and how many bytes it wrote.
-#[derive(Drop)]
+#[derive(Clone, Copy)]
 pub struct Done {
     pub answer: Answer,
     pub session: Session,

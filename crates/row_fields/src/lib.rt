@@ -12,7 +12,7 @@ use grammar::table::line_up;
 use reader::read_field;
 
 // Whether every field of a row is there, or the place where the line has not the row's form.
-#[derive(Drop)]
+#[derive(Clone, Copy)]
 pub enum Fields {
     All,
     Bad(usize),

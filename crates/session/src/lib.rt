@@ -31,7 +31,7 @@ pub const MOST_Y: u16 = 4096;
 pub const MOST_LABELS: u16 = 65535;
 
 // Numbers as they stand in the image of a session.
-#[derive(Drop)]
+#[derive(Clone, Copy)]
 pub struct Session {
     pub width: u16,
     pub length: u16,
@@ -48,7 +48,7 @@ pub struct Session {
 }
 
 // What opening and a label call answer.
-#[derive(Drop)]
+#[derive(Clone, Copy)]
 pub struct Labelled {
     pub answer: Answer,
     pub session: Session,

@@ -23,7 +23,7 @@ const START_B: u8 = 104;
 const START_C: u8 = 105;
 
 // The two sets of ISO/IEC 15417 that type 1 uses.
-#[derive(Drop)]
+#[derive(Clone, Copy)]
 pub enum Set {
     B,
     C,

@@ -8,7 +8,7 @@ ghost use Rattle.shortest.specs.Lengths.{Measured, lengthened, Planned};
 use ground::{both, byte};
 
 // The lengths of the best writings of some data: in set B, in set C, and in set C without its first byte.
-#[derive(Drop)]
+#[derive(Clone, Copy)]
 pub struct Lengths {
     pub b: usize,
     pub c: usize,

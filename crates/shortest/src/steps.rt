@@ -15,7 +15,7 @@ const TO_C: u8 = 99;
 const TO_B: u8 = 100;
 
 // A symbol, and the place and the set after it.
-#[derive(Drop)]
+#[derive(Clone, Copy)]
 pub struct Step {
     pub symbol: u8,
     pub at: usize,

@@ -22,7 +22,7 @@ use dots::Ink;
 use ground::both;
 
 // A line from the dot (a, b) to the dot (d, e), c thick.
-#[derive(Drop)]
+#[derive(Clone, Copy)]
 struct Line {
     a: usize,
     b: usize,
@@ -32,7 +32,7 @@ struct Line {
 }
 
 // A run of columns: from the one up to, not including, the other.
-#[derive(Drop)]
+#[derive(Clone, Copy)]
 struct Span {
     from: usize,
     to: usize,

@@ -14,7 +14,7 @@ use ground::{both, byte, either, wide};
 use kinds::{Kind, in_class};
 
 // The bytes shown, at the front of fourteen, and how many they are.
-#[derive(Drop)]
+#[derive(Clone, Copy)]
 pub struct Text {
     pub bytes: [u8; 14],
     pub length: usize,

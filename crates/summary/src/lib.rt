@@ -18,7 +18,7 @@ use stamps::{stamp_good, stamp_length};
 const TOO_LONG: usize = 129;
 
 // How short and how long data can be, up to `TOO_LONG`, and whether every byte is of the kind's class.
-#[derive(Drop)]
+#[derive(Clone, Copy)]
 pub struct Summary {
     pub least: usize,
     pub most: usize,

@@ -17,7 +17,7 @@ use ground::both;
 use kinds::MOST_DATA;
 
 // Where the box of a text stands: a label's width and length, the turn and the corner, and the box's own size before the turn.
-#[derive(Drop)]
+#[derive(Clone, Copy)]
 struct Spot {
     width: usize,
     length: usize,

@@ -16,7 +16,7 @@ use one_call::call;
 use try_desk::{Desk, changed, line, new_desk, without_counts};
 
 // The desk, where the next record stands, how many calls were made, and where the font stands.
-#[derive(Drop)]
+#[derive(Clone, Copy)]
 struct Progress {
     desk: Desk,
     at: usize,

@@ -23,7 +23,7 @@ const VALUES: usize = 11 * 34;
 const OUTPUT: usize = 256;
 
 // What is lent, and the last answer.
-#[derive(Drop)]
+#[derive(Clone, Copy)]
 pub struct Desk {
     pub answer: u8,
     pub session: [u8; SESSION],

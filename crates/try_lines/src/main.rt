@@ -5,7 +5,7 @@ ghost use Rattle.std.specs.Prelude.{◌<◌};
 use libc::STDOUT_FILENO;
 use read::{Fault, Read};
 
-#[derive(Drop)]
+#[derive(Clone, Copy)]
 struct Tally {
     taken: u64,
     form: u64,

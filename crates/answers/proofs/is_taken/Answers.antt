@@ -1,0 +1,7 @@
+use Rattle.answers.specs.Answers.{is_taken}
+use Rattle.std.proofs.Common.{rules}
+use Rattle.answers.proofs.is_taken.Goals as goal
+
+pub returns : goal.returns
+unfolding is_taken
+returns c = rw c.number.ensures

@@ -1,0 +1,3 @@
+-- Laws that proofs of all rooms cite.
+pub mod Tests
+pub mod Stores

@@ -1,0 +1,11 @@
+use Prim.Native.Nat.{◌+◌, ◌-◌}
+use mathlib.Core.Path.{◌≡◌, refl, sym, ◌∙◌}
+use native.Mathlib.Omega.{arith}
+use lib.ListN.{length, get_or, drop, length-set}
+use lib.Seq.{sets}
+use Rattle.ground.proofs.Stores.{put-start, put_next, put-end}
+use Rattle.std.proofs.Common.{rules}
+use Rattle.ground.proofs.bytes.put.Goals as goal
+
+pub returns : goal.returns
+returns c = let a = c.args in let l = c.loop-i in sym (put-end l.out a.at l.i a.text.now (omega (arith, l.invariant.0))) ∙ l.invariant.1
