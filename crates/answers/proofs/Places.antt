@@ -8,9 +8,6 @@ use native.Mathlib.Omega.{arith}
 use native.Mathlib.Decide.{ℕ_discrete}
 use lib.Dec.{eqb, leb}
 use borrow.Author.Tests.{ne_eqb, le-leb, lt-leb}
-use denote.Enum.Declared as Enum
-use types.Run.{OneOf, miss}
-use Rattle.answers.specs.contracts.Answer as Answers
 use Rattle.answers.specs.declared.Answer.{Answer}
 use Rattle.answers.specs.declared.Answer.TheVariants.{
   Taken,
@@ -68,37 +65,41 @@ points-nowhere NoEntry e = refl
 points-nowhere Overlong e = refl
 points-nowhere NoneOwed e = refl
 
--- the rows of the table that point nowhere, by their place in it
-abbrev pub others : List ℕ
-others = 0 ∷ 1 ∷ 2 ∷ 3 ∷ 4 ∷ 5 ∷ 8 ∷ 9 ∷ 10 ∷ 11 ∷ 16 ∷ 17 ∷ 18 ∷ 19 ∷ 20 ∷ 21 ∷ 22 ∷ 23 ∷ []
-
 -- so an answer that is none of the six points nowhere
-pub other-nowhere : (a : Answer) → OneOf others (Enum.tag_of Answers.the_type a) → points a ≡ false
+pub other-nowhere :
+    (a : Answer) →
+    ((p : ℕ) → a ≡ Unwritten p → ⊥) →
+    ((p : ℕ) → a ≡ Limits p → ⊥) →
+    ((p : ℕ) → a ≡ Again p → ⊥) →
+    ((p : ℕ) → a ≡ Undeclared p → ⊥) →
+    ((p : ℕ) → a ≡ Past p → ⊥) →
+    ((p : ℕ) → a ≡ Unfit p → ⊥) →
+    points a ≡ false
 unfolding points number_of
-other-nowhere Taken h = refl
-other-nowhere Lengths h = refl
-other-nowhere Font h = refl
-other-nowhere Unsound h = refl
-other-nowhere Unended h = refl
-other-nowhere Long h = refl
-other-nowhere (Unwritten p) h = absurd (miss others 6 tt h)
-other-nowhere (Limits p) h = absurd (miss others 7 tt h)
-other-nowhere Owing h = refl
-other-nowhere Misplaced h = refl
-other-nowhere InUse h = refl
-other-nowhere Missing h = refl
-other-nowhere (Again p) h = absurd (miss others 12 tt h)
-other-nowhere (Undeclared p) h = absurd (miss others 13 tt h)
-other-nowhere (Past p) h = absurd (miss others 14 tt h)
-other-nowhere (Unfit p) h = absurd (miss others 15 tt h)
-other-nowhere Illegal h = refl
-other-nowhere Misfit h = refl
-other-nowhere Unset h = refl
-other-nowhere RunsOut h = refl
-other-nowhere FewPortions h = refl
-other-nowhere NoEntry h = refl
-other-nowhere Overlong h = refl
-other-nowhere NoneOwed h = refl
+other-nowhere Taken u l g d s f = refl
+other-nowhere Lengths u l g d s f = refl
+other-nowhere Font u l g d s f = refl
+other-nowhere Unsound u l g d s f = refl
+other-nowhere Unended u l g d s f = refl
+other-nowhere Long u l g d s f = refl
+other-nowhere (Unwritten p) u l g d s f = absurd (u p refl)
+other-nowhere (Limits p) u l g d s f = absurd (l p refl)
+other-nowhere Owing u l g d s f = refl
+other-nowhere Misplaced u l g d s f = refl
+other-nowhere InUse u l g d s f = refl
+other-nowhere Missing u l g d s f = refl
+other-nowhere (Again p) u l g d s f = absurd (g p refl)
+other-nowhere (Undeclared p) u l g d s f = absurd (d p refl)
+other-nowhere (Past p) u l g d s f = absurd (s p refl)
+other-nowhere (Unfit p) u l g d s f = absurd (f p refl)
+other-nowhere Illegal u l g d s f = refl
+other-nowhere Misfit u l g d s f = refl
+other-nowhere Unset u l g d s f = refl
+other-nowhere RunsOut u l g d s f = refl
+other-nowhere FewPortions u l g d s f = refl
+other-nowhere NoEntry u l g d s f = refl
+other-nowhere Overlong u l g d s f = refl
+other-nowhere NoneOwed u l g d s f = refl
 
 -- ---- 6, 7 and 12 to 15, by number
 

@@ -2,6 +2,8 @@
 // Paper 01 draws each glyph of a text so. `ink_bitmap` promises `drawn ink (cut width length (placed .. (scaled .. (bitmap ..))))` of the page, by the
 // definitions of figures/Figures, for any page, any bytes and any numbers. A row is drawn in runs of equal dots; where nothing is turned and each dot
 // is one dot wide, it is drawn eight dots at a time.
+#![tactic(auto)]
+
 ghost use Rattle.std.specs.Prelude.{◌≡◌, ◌+◌, ◌-◌, ◌*◌, ◌/◌, ◌^◌, ◌≤◌, ◌<◌, min, ◌&&◌, get_or};
 ghost use Rattle.std.specs.Int.Bits.{bit_and};
 ghost use Rattle.std.specs.Int.Count.{count_leading_zeros};

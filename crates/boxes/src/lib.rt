@@ -1,6 +1,8 @@
 // Boxes. Paper 01: `LO` draws a box black, `LW` white, and `LE` inverts its dots. `ink_box` promises one equation between the page at exit and the page
 // at entry, for a page of any length and any numbers: the dots of the box (`box` of dots/Dots) are inked as far as width and length reach, and all
 // else is as it was. A box is drawn row by row, and of each row a part of the first byte, whole bytes, and a part of the last.
+#![tactic(auto)]
+
 ghost use Rattle.std.specs.Prelude.{◌≡◌, ◌+◌, ◌*◌, ◌≤◌, ◌<◌, length};
 ghost use Rattle.dots.specs.Dots.{bytes_a_row, dots_a_row, drawn, box, cut};
 

@@ -4,6 +4,8 @@
 // after the other, over midnight, the ends of months and leap days, to the last second of 2099, where the clock stands (specs/Clock.antt); `move_clock` moves it at
 // once and is proved equal to that. A clock is six numbers that anybody may have written, and `is_legal` says whether they are a date and a time of day.
 // How a clock is shown in data stands in crate `stamps`.
+#![tactic(auto)]
+
 ghost use Rattle.std.specs.Prelude.{◌≡◌, true, ◌≤◌};
 ghost use Rattle.kinds.specs.Bytes.{between};
 ghost use Rattle.calendar.specs.Clock.{leap, thirty, days_in, legal_date, legal_time, legal_clock, fresh, last, last_day, next_day, after, moved};

@@ -1,4 +1,3 @@
 pub mod Outcomes
 pub mod Table
 pub mod Station
-pub mod Samples

@@ -1,6 +1,6 @@
 -- What a line of a form leaves to the next.
 -- Assumes nothing.
-use Rattle.std.specs.Prelude.{ℕ, ◌+◌, ◌≡◌, refl}
+use Rattle.std.specs.Prelude.{ℕ}
 use Rattle.declarations.specs.declared.Declared.{Declared}
 use Rattle.declarations.specs.Declarations.{nothing}
 use Rattle.grammar.specs.declared.Origin.{Origin as Place}
@@ -35,7 +35,3 @@ origin_after at (Format f) = at
 -- what is left after an item
 abbrev pub carries : Carried → Item → Carried
 carries c it = carried (declares c.declared it) (origin_after c.origin it)
-
--- "It replaces the earlier one": R after R
-case-origin : origin_after (place 10 20) (Origin (place 1 2)) ≡ place 1 2
-case-origin = refl

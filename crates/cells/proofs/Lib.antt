@@ -3,3 +3,4 @@ pub mod Cells
 pub mod Scan
 pub mod Sets
 pub mod Passing
+pub mod Samples

@@ -2,4 +2,3 @@
 pub mod Cell
 pub mod Count
 pub mod Scan
-pub mod Samples

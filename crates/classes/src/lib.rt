@@ -3,6 +3,8 @@
 // Paper 01 says which bytes may stand where: digits in a number, "32 to 126" and no quote in a quoted text, no `*` in a name, certain letters for a mode and a
 // justification. `in_class` decides it for one byte, and `run_end` answers the place after the bytes of a class that stand at a place of a line. Any
 // line and any place is answered.
+#![tactic(auto)]
+
 ghost use Rattle.std.specs.Prelude.{◌≡◌, ◌+◌, drop};
 ghost use Rattle.classes.specs.Bytes.{in_class, run};
 

@@ -2,6 +2,8 @@
 // six widths and the stop, and its rule ("widths 1 to 4, sum 11, bars even, rows distinct") is proved once and carried to each row (proofs/Rule.antt).
 // `row` gives the widths of a symbol as one number and `check` the check symbol of any symbols, as specs/Code128.antt has them.
 // Which symbols data is written with stands in `shortest`; how the widths of the whole are written is left to `symbols`.
+#![tactic(auto)]
+
 ghost use Rattle.std.specs.Prelude.{◌≡◌, ◌-◌, ◌≤◌, get_or};
 ghost use Rattle.code128.specs.Code128.{rows128, last_bar, check128};
 

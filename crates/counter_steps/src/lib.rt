@@ -4,6 +4,8 @@
 // last label leaves that range, the counter becomes unset." `lasts` asks the first of all ten counters, `move_all` does the second; both of any declarations and
 // any numbers, and nothing wraps. The definitions stand in specs/Steps.antt; that a job which lasts shows the next number on each label, and no number of a
 // counter twice, is proved of them in proofs/Job.antt and proofs/Times.antt. Who asks when is left to `P` and to sound.
+#![tactic(auto)]
+
 ghost use Rattle.std.specs.Prelude.{◌≡◌, ◌-◌, ◌*◌};
 ghost use Rattle.counter_steps.specs.Steps.{inside, counts, inside_at, lasts_at, lasts, stepped_at, moved_at, moved_all};
 

@@ -4,6 +4,8 @@
 // undeclared (13) or unfit (17). The definitions (specs/Counters.antt) say this of any numbers, and each function here gives exactly what they say; that
 // entering keeps every counter sound is proved in proofs/Sound.antt. What a counter's width and step are, a form declares (crate `declarations`); how it
 // moves after each label stands in crate `counter_steps`.
+#![tactic(auto)]
+
 ghost use Rattle.std.specs.Prelude.{◌≡◌};
 ghost use Rattle.counters.specs.Counters.{ten_to, digits_of, none_set, counter_set, counter_value, counter_entered, counter_sound};
 

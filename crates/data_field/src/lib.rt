@@ -2,6 +2,8 @@
 //
 // Paper 01, "Data": "One or more elements side by side", to the end of the line, and in their modifiers "n and p from 1 to 32". `data_form` says whether such a row
 // stands at a place, and `data_limits` whether its modifiers are within their limits. Any line and any place is answered.
+#![tactic(auto)]
+
 ghost use Rattle.std.specs.Prelude.{◌≡◌};
 ghost use Rattle.kinds.specs.Bytes.{between};
 ghost use Rattle.elements.specs.Elements.{elements};

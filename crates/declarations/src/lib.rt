@@ -5,6 +5,8 @@
 // that. `TD` and `TT` say a format, which holds for the lines after it as a declaration does (paper 02, §10), so it is kept beside them. What is entered for
 // a variable or a counter is held against its declaration: taken, not declared (13), or unfit (17). How the values are kept stands in crates `stored_values`
 // and `counters`.
+#![tactic(auto)]
+
 ghost use Rattle.std.specs.Prelude.{◌≡◌, cond};
 ghost use Rattle.declarations.specs.Declarations.{tenth, length_at, side_at, width_at, minus_at, step_at, variable_declared, counter_declared, nothing, outside_forms, with_variable, with_counter, formatted};
 

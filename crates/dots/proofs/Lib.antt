@@ -2,3 +2,4 @@
 pub mod Bits
 pub mod Pages
 pub mod Shapes
+pub mod Cases

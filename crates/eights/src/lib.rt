@@ -1,6 +1,8 @@
 // Eight dots at a time. Pictures and upright text come in bytes of eight dots, and this crate sets the dots of such a byte on the page from any dot on,
 // in each of some rows, in one or two bytes of a row. `ink_eights` promises one equation between the page at exit and the page at entry: the dots of
 // `eights` (specs/Eights.antt) are inked and all else is as it was. What reaches past a row's end or below the page is not drawn.
+#![tactic(auto)]
+
 ghost use Rattle.std.specs.Prelude.{◌≡◌, ◌+◌, ◌*◌, ◌≤◌, length};
 ghost use Rattle.dots.specs.Dots.{bytes_a_row, drawn};
 ghost use Rattle.eights.specs.Eights.{eights};

@@ -3,6 +3,8 @@
 // Paper 01, "Data": "quoted text, or `V`/`C` and a digit, then at most one of `Ln`, `Rn`, `Mp.n`"; and paper 02, §10: "In data, `TD` and `TT` become elements".
 // `element_at` reads the element at a place of a line, and whoever steps through a line with it follows the definition `elements` (specs/Elements.antt). Any line
 // and any place is answered.
+#![tactic(auto)]
+
 ghost use Rattle.std.specs.Prelude.{◌≡◌, ◌<◌, length};
 ghost use Rattle.fields.specs.Field.{text_at};
 ghost use Rattle.numbers.specs.Number.{number_at};

@@ -4,6 +4,8 @@
 // line and answers its value and the place after it, or that the written form is not there, with the place at fault. Numbers and data are read in the same
 // way, in crates `numbers` and `data_field`. Any line and any place is answered. Which fields make up a command, and what is within its limits, is
 // said in crate `read`.
+#![tactic(auto)]
+
 pub mod word; // the words that say what stands under bars
 
 ghost use Rattle.std.specs.Prelude.{◌≡◌, ◌<◌, length, get_or};

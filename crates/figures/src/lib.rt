@@ -2,6 +2,8 @@
 // Paper 01 turns text and bars so: the upper left corner of the turned box stands at x,y. `placed` of specs/Figures.antt is that shape, one
 // definition for all turns, and `ink_part` promises `drawn ink (cut width length (placed ..))` of the page for a box of a figure, for any page and any
 // numbers. Bitmaps, scaled and turned, are drawn by `bitmaps`. Which figures there are, a glyph or the bars of a symbol, is left to the crates above.
+#![tactic(auto)]
+
 ghost use Rattle.std.specs.Prelude.{◌≡◌, ◌+◌};
 ghost use Rattle.dots.specs.Dots.{drawn, box, cut};
 ghost use Rattle.figures.specs.Figures.{placed};

@@ -1,4 +1,3 @@
 -- Will it fit?
 pub mod Names
 pub mod Fits
-pub mod Cases

@@ -2,6 +2,8 @@
 // This crate judges any bytes (`is_legal` answers true exactly where the definition `legal` of specs/Rules.antt holds) and finds the rows of a code
 // (`rows_of`), both in one pass over the fields. A byte past the end reads as 0, so that any bytes get an answer. What `legal` takes is exactly what
 // can be written from a cell's size and glyphs that keep the rules (specs/Written.antt, proofs/Writing.antt). A text is drawn by `text`.
+#![tactic(auto)]
+
 ghost use Rattle.std.specs.Prelude.{◌≡◌, cond, ◌+◌, ◌-◌, ◌*◌, ◌/◌, ◌^◌, ◌<◌, eqb, length, get_or, set, take, drop};
 ghost use Rattle.font.specs.Rules.{size_at, code_at, next_field, cell_width, cell_height, headed, row_bytes, spare_bits};
 ghost use Rattle.font.specs.Rules.{row_clean, rows_clean, is_glyph, sized, coded, glyph, ended, fields_from, legal, Places};

@@ -4,6 +4,8 @@
 // `format_form` answers it as one number and the place after it, or the place at fault, as §2 asks: the field or separator that is wrong, a field that comes again,
 // or the LF where a longer line would be a format. Which formats there are is said in crate `formats`. The laws (proofs/) say that what is read is legal, that it
 // reads the same behind other bytes, and that each fault points rightly.
+#![tactic(auto)]
+
 ghost use Rattle.std.specs.Prelude.{◌≡◌, ◌<◌, length};
 ghost use Rattle.formats.specs.Formats.{unit};
 ghost use Rattle.format_field.specs.Reading.{letter, unit_of, year_field, month_field, day_field, date_field, time_field, width, field_of, cut_at, field_at, further_at, with_third, with_second, format_at, format_field};

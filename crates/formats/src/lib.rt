@@ -3,6 +3,8 @@
 // Paper 02, §10, has "`TD` and `TT` with the manual's formats, each field at most once, one separator byte between fields, one to three fields". A format is five
 // numbers, and `legal_format` says whether five numbers that anybody may have written are one. At any time two formats are in force, the date's and the time's
 // (`Formats`): at first the manual's examples. How a format is written in a line stands in crate `format_field`, what it shows of a clock in crate `stamps`.
+#![tactic(auto)]
+
 ghost use Rattle.std.specs.Prelude.{◌≡◌, not, eqb};
 ghost use Rattle.formats.specs.Formats.{unit, new_unit, separator, absent, further, legal_format, example, format_of, with_format, examples, legal_formats, packed, unpacked};
 

@@ -1,2 +1,3 @@
 pub mod Taking
 pub mod Calling
+pub mod Cases

@@ -1,4 +1,3 @@
 -- The number of free portions that a session keeps.
 pub mod Number
 pub mod After
-pub mod Cases

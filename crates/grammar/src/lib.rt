@@ -3,6 +3,8 @@
 // Paper 01 lists the commands under "Commands". The table `forms` (specs/Forms.antt) has each command as the paper writes it, a row each, with
 // its limits and with what its fields make. `line_up` answers a row's form and the letters of its bounds as the code reads them, and `command_of` the command
 // that the fields of a row make. The row that a line's letters name is said in crate `heads`, how a line is held to a row in `row_fields` and `row_limits`.
+#![tactic(auto)]
+
 pub mod makers;
 pub mod row;
 pub mod table;

@@ -2,6 +2,8 @@
 //
 // A command starts with its letters; where the letters of several commands match, the longest count: VC is not V. `head_of` answers the row of the
 // grammar that a line's letters name, by a decision over the first letter, then the second, and the third where LS stands in front of it.
+#![tactic(auto)]
+
 ghost use Rattle.std.specs.Prelude.{◌≡◌, [], ◌∷◌};
 ghost use Rattle.heads.specs.Heads.{head_by, head_of, Behind, line_head, slant_head, letters_fault};
 

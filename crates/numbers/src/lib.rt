@@ -2,6 +2,8 @@
 //
 // Paper 01: "Numbers are 1 to 9 digits, leading zeros allowed", and the step of a counter stands "with or without sign". `number` and `signed` read one at a
 // place of a line and answer its value and the place after it, or that there is none. Any line and any place is answered.
+#![tactic(auto)]
+
 ghost use Rattle.std.specs.Prelude.{◌≡◌, ◌+◌, ◌-◌, ◌≤◌, length};
 ghost use Rattle.classes.specs.Bytes.{part};
 ghost use Rattle.numbers.specs.Number.{digit_of, value_from, number_at, signed_at, behind_sign, plus, minus, Small};

@@ -1,6 +1,6 @@
--- The words of the command line: -rows N, -font F, -out PREFIX, -store FILE, -quiet, -zone MINUTES, -noclock, -fits and what is asked, -repair; any other
--- word that starts with `-` is no option. Assumes nothing.
-use Rattle.std.specs.Prelude.{ℕ, ◌+◌, ◌-◌, cond, ◌&&◌, List, length, get_or, eqb, leb, ltb}
+-- The words of the command line: -rows N, -font F, -out PREFIX, -store FILE, -quiet, -zone MINUTES, -noclock, -fits and what is asked; any other word that
+-- starts with `-` is no option. -repair stands by itself. Assumes nothing.
+use Rattle.std.specs.Prelude.{ℕ, Bool, ◌+◌, ◌-◌, cond, ◌&&◌, List, length, get_or, eqb, leb, ltb}
 use Prim.Native.Char.{code}
 use Rattle.kinds.specs.Text.{bytes}
 use Rattle.numbers.specs.Number.{nought, number_at, signed_at}
@@ -8,7 +8,7 @@ use Rattle.fields.specs.declared.Field.{Field}
 use Rattle.fields.specs.declared.Field.TheVariants.{Is, Not}
 use Rattle.writing.specs.Writing.{equal}
 use Rattle.options.specs.declared.Word.{Word}
-use Rattle.options.specs.declared.Word.TheVariants.{Rows, Font, Out, Store, Quiet, Zone, NoClock, Fits, Repair, Unknown, File}
+use Rattle.options.specs.declared.Word.TheVariants.{Rows, Font, Out, Store, Quiet, Zone, NoClock, Fits, Unknown, File}
 use Rattle.options.specs.declared.Number.{Number}
 use Rattle.options.specs.declared.Number.TheVariants.{Of, Nothing}
 use Rattle.options.specs.declared.Kind.{Kind}
@@ -24,8 +24,11 @@ word_of text =
     (cond (equal text (bytes "-zone")) Zone
     (cond (equal text (bytes "-noclock")) NoClock
     (cond (equal text (bytes "-fits")) Fits
-    (cond (equal text (bytes "-repair")) Repair
-    (cond (eqb (get_or text 0 0) (code "-")) Unknown File)))))))))
+    (cond (eqb (get_or text 0 0) (code "-")) Unknown File))))))))
+
+-- the word that asks for the repair of a store
+unfoldable pub asks_repair : List ℕ → Bool
+asks_repair text = equal text (bytes "-repair")
 
 -- a number that fills the text
 abbrev pub whole_from : List ℕ → Field → Number

@@ -1,6 +1,6 @@
 // The words of the command line: what each option is, the number of rows, the zone, and what -fits asks for.
 ghost use Rattle.std.specs.Prelude.{◌≡◌};
-ghost use Rattle.options.specs.Options.{word_of, whole_from, whole_number, rows_of, zone_of, kind_of};
+ghost use Rattle.options.specs.Options.{word_of, asks_repair, whole_from, whole_number, rows_of, zone_of, kind_of};
 
 use fields::Field;
 use ground::both;
@@ -20,7 +20,6 @@ pub enum Word {
     Zone,
     NoClock,
     Fits,
-    Repair,
     Unknown,
     File,
 }
@@ -68,13 +67,17 @@ pub fn word_of(text: &[u8]) -> Word
     if same(text, b"-fits") {
         return Word::Fits;
     }
-    if same(text, b"-repair") {
-        return Word::Repair;
-    }
     if ground::byte(text, 0) == b'-' {
         return Word::Unknown;
     }
     Word::File
+}
+
+// Whether a word asks for the repair of a store. Who knows of repairs asks this before `word_of`, to which the word is no option.
+pub fn asks_repair(text: &[u8]) -> bool
+    ensures { result ≡ asks_repair text.now }
+{
+    same(text, b"-repair")
 }
 
 // A number that was found at the front of a text, where it fills it.

@@ -1,2 +1,1 @@
 pub mod Padding
-pub mod Cases

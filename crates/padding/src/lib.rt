@@ -4,6 +4,8 @@
 // m bytes, each 32 to 126 and no quote." A justification is one of these five letters, as a byte; any other byte counts as L. Each function gives what
 // the definition (specs/Padding.antt) says of any byte, length and text, and a text that may be entered, once padded, fits (proofs/Padded.antt). Where
 // a padded value is kept stands in crate `stored_values`.
+#![tactic(auto)]
+
 ghost use Rattle.std.specs.Prelude.{◌≡◌};
 ghost use Rattle.kinds.specs.Bytes.{is_digit, all_in};
 ghost use Rattle.padding.specs.Padding.{legal, enters, fits, filler, before, behind};

@@ -2,6 +2,8 @@
 //
 // Paper 01: a call "hands back the unread rest as a part of that input". `first` and `rest` are the two parts that a place cuts a slice into, `inside` is
 // a text between its quotes, and `packed` a name in capitals as a directory entry keeps it. Any place and any length is answered.
+#![tactic(auto)]
+
 ghost use Rattle.std.specs.Prelude.{◌≡◌, ◌+◌, ◌<◌, take, drop};
 ghost use Rattle.parts.specs.Names.{capital, name_byte, packed_of};
 

@@ -1,2 +1,1 @@
 pub mod Data
-pub mod Cases

@@ -4,6 +4,8 @@
 // a part back as it lies, in the line or in the value, and `assemble` lays the pieces of a line's data one behind another, for the values that are
 // lent, the session's counters and its clock. What is laid is the definition's data (specs/Data.antt), whatever the line and the values hold. The elements of a
 // line are read in crate `fields`, and which data may stand in a form is judged in crate `fitness`.
+#![tactic(auto)]
+
 ghost use Rattle.std.specs.Prelude.{◌≡◌};
 ghost use Rattle.pieces.specs.Data.{part_of, piece_of, piece_at, data_of, values_in, row, shown, lay};
 

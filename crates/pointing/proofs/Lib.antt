@@ -18,3 +18,4 @@ pub mod Soon
 pub mod Inside
 pub mod Alike
 pub mod Base
+pub mod Samples

@@ -1,3 +1,2 @@
 pub mod Soon
 pub mod Base
-pub mod Samples

@@ -4,6 +4,8 @@
 // the grammar stands for at its place. The work is done by `field_at`, on slice and number, which knows nothing of a reader. What is written
 // over a `Reader` is proved by hand, so it is little: `read_field` has plain parameters, stands a reader at the place and reads with it, and
 // whoever reads the fields of a line calls `read_field`.
+#![tactic(auto)]
+
 ghost use Rattle.std.specs.Prelude.{◌≡◌};
 ghost use Rattle.reader.specs.Letters.{field_at};
 

@@ -1,2 +1,3 @@
 pub mod Call
 pub mod Promises
+pub mod Samples

@@ -1,3 +1,2 @@
 -- A store that came back from a bad card: the call.
 pub mod Repair
-pub mod Samples

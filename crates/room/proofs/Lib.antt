@@ -1,2 +1,3 @@
 pub mod Room
 pub mod Counting
+pub mod Samples

@@ -1,3 +1,2 @@
 -- Room in the store.
 pub mod Room
-pub mod Samples

@@ -3,6 +3,8 @@
 // Paper 01 writes each command as letters and fields. `read_fields` holds a line to the form of a row of the grammar and leaves the value and the place of
 // each field in two arrays, a slot for each byte of the form; or it answers the place where the line has not that form. It serves whoever reads a line: as a command
 // (`read`), for the bytes behind it (`front`), in normal form (`normal`).
+#![tactic(auto)]
+
 ghost use Rattle.std.specs.Prelude.{◌≡◌};
 ghost use Rattle.grammar.specs.Forms.{row_of, Form};
 ghost use Rattle.row_fields.specs.Reading.{fields_from, Filled};

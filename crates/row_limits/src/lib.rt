@@ -2,6 +2,8 @@
 //
 // Paper 01 gives numbers, names and prompts their limits; a line that has the written form with one outside of them is answered by 7. `row_limits` answers the place of the first
 // such field of a line, or that all are within.
+#![tactic(auto)]
+
 ghost use Rattle.std.specs.Prelude.{◌≡◌, ◌||◌, cond, get_or};
 ghost use Rattle.bounds.specs.Letters.{bound_by};
 ghost use Rattle.bounds.specs.declared.Bounds.{Bounds};

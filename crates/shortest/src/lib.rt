@@ -4,6 +4,8 @@
 // smaller. What a writing is, and which one is asked for, stands in specs/Writing.antt, over all writings. How ours is found stands in
 // specs/Found.antt: from the last byte back, the best writing in each set of what is left. `write` gives it, in two passes over the data, and `ours-shortest`
 // (proofs/Shortest.antt) says that it is the one asked for. Symbol table, check symbol and stop are `code128`'s, the widths of the whole are `symbols`'.
+#![tactic(auto)]
+
 mod plan;
 mod steps;
 

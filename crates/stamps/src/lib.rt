@@ -3,6 +3,8 @@
 // Paper 02, §10: "In data, `TD` and `TT` become elements". `stamp_text` writes what a format shows of a clock (specs/Texts.antt), at most fourteen bytes. "Unfit data
 // is judged over all clock values": `stamp_length` and `stamp_good` say how long that is and whether every byte may stand in data of a kind, by the format alone
 // (specs/Always.antt), and the main theorem (proofs/Shown.antt) is that this is so for every legal clock.
+#![tactic(auto)]
+
 ghost use Rattle.std.specs.Prelude.{◌≡◌, [], ◌-◌, ◌*◌};
 ghost use Rattle.stamps.specs.Texts.{two_digits, month_letter, month_name, date_shown, time_shown, shown, marked, stamp_text};
 ghost use Rattle.stamps.specs.Laying.{laid, added, added_all};

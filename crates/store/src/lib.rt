@@ -3,6 +3,8 @@
 // where an entry's chain ends. Every function answers on any memory: past the end 0 is read, and no more links are followed than there are. What is found
 // in the store is in `finding`, what it holds in `contents`, how it changes in `starting`, `growing`, `erasing` and `clearing`, and what makes it sound in
 // `store_sound`.
+#![tactic(auto)]
+
 ghost use Rattle.std.specs.Prelude.{◌≡◌, ℕ, ◌+◌, ◌*◌, ◌<◌, length, get_or};
 ghost use Rattle.store.specs.Chain.{bytes_a_portion, needed, free_count};
 ghost use Rattle.store.specs.Entry.{bytes_an_entry, entry, kind, name_length, name, first, size, size_limit, many, last_of, of_kind};

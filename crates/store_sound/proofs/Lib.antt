@@ -17,3 +17,4 @@ pub mod Keep
 pub mod Free
 pub mod EraseAll
 pub mod Cleared
+pub mod Samples

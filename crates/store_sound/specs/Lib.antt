@@ -1,4 +1,3 @@
 -- The store's part of sound.
 pub mod Sound
 pub mod Shelf
-pub mod Samples

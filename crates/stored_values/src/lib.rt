@@ -4,6 +4,8 @@
 // padded, or is refused as undeclared (13) or unfit (17); unsetting zeroes every field. The definitions (specs/Stored.antt) say this of any bytes, and
 // each function here gives exactly what they say; that entering and unsetting keep every field sound is proved in proofs/Fields.antt. How a text is
 // padded and what fits stands in crate `padding`, what is declared in crate `declarations`.
+#![tactic(auto)]
+
 ghost use Rattle.std.specs.Prelude.{◌≡◌, ◌≤◌, length};
 ghost use Rattle.std.proofs.lemmas.List.Edits.{sets};
 ghost use Rattle.kinds.specs.Bytes.{all_in};

@@ -2,7 +2,6 @@ use mathlib.Core.Path.{◌≡◌}
 use mathlib.Core.Logic.{inl, inr, ⊎_elim}
 use borrow.Author.Tests.{ne_eqb}
 use Rattle.answers.specs.Answers.{is_full}
-use Rattle.std.proofs.Common.{rules}
 use Rattle.answers.proofs.is_full.Goals as goal
 
 pub returns-in-19 : goal.returns-in-19

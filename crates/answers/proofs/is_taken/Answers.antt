@@ -1,5 +1,4 @@
 use Rattle.answers.specs.Answers.{is_taken}
-use Rattle.std.proofs.Common.{rules}
 use Rattle.answers.proofs.is_taken.Goals as goal
 
 pub returns : goal.returns

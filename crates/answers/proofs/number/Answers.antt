@@ -1,5 +1,4 @@
 use Rattle.answers.specs.Answers.{number_of}
-use Rattle.std.proofs.Common.{rules}
 use Rattle.answers.proofs.number.Goals as goal
 
 pub returns-in-Taken : goal.returns-in-Taken

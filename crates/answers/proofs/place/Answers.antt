@@ -1,7 +1,6 @@
 use mathlib.Core.Path.{sym}
 use Rattle.answers.specs.Answers.{place_of}
 use Rattle.answers.proofs.Places.{points-nowhere, other-nowhere}
-use Rattle.std.proofs.Common.{rules}
 use Rattle.answers.proofs.place.Goals as goal
 
 pub returns-in-Unwritten : goal.returns-in-Unwritten
@@ -29,4 +28,6 @@ unfolding place_of
 returns-in-Unfit c = rw c.in-Unfit.is
 
 pub returns-in_default : goal.returns-in_default
-returns-in_default c = sym (points-nowhere _ (other-nowhere _ c.in_default.in_default-own.keys7))
+returns-in_default c =
+    let d = c.in_default in
+    sym (points-nowhere c.args.a (other-nowhere c.args.a d.not-Unwritten d.not-Limits d.not-Again d.not-Undeclared d.not-Past d.not-Unfit))

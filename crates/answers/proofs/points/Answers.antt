@@ -1,6 +1,5 @@
 use Rattle.answers.proofs.Places.{none_below, six-and-seven, none_between, twelve-on, none_above}
 use Rattle.answers.specs.Answers.{points}
-use Rattle.std.proofs.Common.{rules}
 use Rattle.answers.proofs.points.Goals as goal
 
 pub returns-in-6 : goal.returns-in-6

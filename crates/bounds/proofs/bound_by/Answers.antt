@@ -1,6 +1,5 @@
 use borrow.Author.Tests.{ne_eqb}
 use Rattle.bounds.specs.Letters.{bound_by}
-use Rattle.std.proofs.Common.{rules}
 use Rattle.bounds.proofs.bound_by.Goals as goal
 
 pub returns-in-78 : goal.returns-in-78

@@ -1,10 +1,8 @@
 use Prim.Native.Nat.{◌+◌, ◌-◌}
-use mathlib.Core.Path.{◌≡◌, refl, sym, ◌∙◌}
+use mathlib.Core.Path.{sym, ◌∙◌}
 use native.Mathlib.Omega.{arith}
-use lib.ListN.{length, replicate, length-set}
-use lib.Seq.{sets}
-use Rattle.ground.proofs.Stores.{fill_start, fill-next, fill_end}
-use Rattle.std.proofs.Common.{rules}
+use lib.ListN.{length-set}
+use Rattle.ground.proofs.Stores.{fill-next, fill_end}
 use Rattle.ground.proofs.bytes.fill.Goals as goal
 
 pub loop-i-preserved : goal.loop-i-preserved

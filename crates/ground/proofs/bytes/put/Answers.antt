@@ -1,10 +1,7 @@
-use Prim.Native.Nat.{◌+◌, ◌-◌}
-use mathlib.Core.Path.{◌≡◌, refl, sym, ◌∙◌}
+use Prim.Native.Nat.{◌-◌}
+use mathlib.Core.Path.{sym, ◌∙◌}
 use native.Mathlib.Omega.{arith}
-use lib.ListN.{length, get_or, drop, length-set}
-use lib.Seq.{sets}
-use Rattle.ground.proofs.Stores.{put-start, put_next, put-end}
-use Rattle.std.proofs.Common.{rules}
+use Rattle.ground.proofs.Stores.{put-end}
 use Rattle.ground.proofs.bytes.put.Goals as goal
 
 pub returns : goal.returns

@@ -1,10 +1,7 @@
 use Prim.Native.Nat.{◌+◌, ◌-◌}
-use mathlib.Core.Path.{◌≡◌, refl, sym, ◌∙◌}
-use native.Mathlib.Omega.{arith}
-use lib.ListN.{length, get_or, drop, length-set}
+use mathlib.Core.Path.{◌≡◌}
+use lib.ListN.{length, drop}
 use lib.Seq.{sets}
-use Rattle.ground.proofs.Stores.{put-start, put_next, put-end}
-use borrow.Author.Rules.{rules}
 use Rattle.ground.proofs.bytes.put.Given as goal
 
 abbrev pub invariant-loop-i : goal.invariant-loop-i

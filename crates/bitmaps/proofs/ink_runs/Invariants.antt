@@ -1,0 +1,12 @@
+use mathlib.Core.Path.{◌≡◌}
+use Prim.Native.Nat.{◌-◌, ◌≤◌}
+use lib.ListN.{length as len}
+use Rattle.dots.specs.Dots.{drawn, cut}
+use Rattle.figures.specs.Figures.{bit_row, row_of, shifted, placed}
+use Rattle.bitmaps.proofs.ink_runs.Given as goal
+
+abbrev pub invariant-loop-g : goal.invariant-loop-g
+invariant-loop-g l = (l.g ≤ l.bw) × (l.page ≡ drawn l.ink (cut l.width l.length (placed l.r l.w l.h l.x l.y (shifted l.d (row_of (bit_row l.bits l.at) l.g l.hm l.v0 l.v1)))) l.initial.page) × (len l.page ≡ len l.initial.page)
+
+abbrev pub decreases-loop-g : goal.decreases-loop-g
+decreases-loop-g l = l.bw - l.g

@@ -1,0 +1,2 @@
+-- The cases of the definition.
+pub mod Cases

@@ -1,0 +1,6 @@
+use Rattle.declarations.specs.Declarations.{formatted}
+use Rattle.declarations.proofs.Declared.formatted.Goals as goal
+
+pub returns : goal.returns
+unfolding formatted
+returns c = rw c.with-d.ensures

@@ -1,0 +1,6 @@
+use Rattle.declarations.specs.Declarations.{nothing}
+use Rattle.declarations.proofs.Declared.none.Goals as goal
+
+pub returns : goal.returns
+unfolding nothing
+returns c = rw c.examples.ensures

@@ -1,0 +1,6 @@
+use Rattle.formats.specs.Formats.{separator}
+use Rattle.formats.proofs.is_separator.Goals as goal
+
+pub returns : goal.returns
+unfolding separator
+returns c = cc

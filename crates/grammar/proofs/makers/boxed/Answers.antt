@@ -1,0 +1,7 @@
+use mathlib.Core.Path.{refl}
+use Rattle.grammar.specs.Forms.{in_order}
+use Rattle.grammar.proofs.makers.boxed.Goals as goal
+
+pub returns : goal.returns
+unfolding in_order
+returns c = refl
