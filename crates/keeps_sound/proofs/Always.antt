@@ -1,16 +1,17 @@
--- From an opening or a repair on, through any calls on the sessions that were answered: every world is sound, and no call answers 3.
+-- From opening on, through any calls on the sessions that were answered: every world is sound, and no call answers 3. From a repair on every world is sound, too.
 -- Assumes nothing.
 use mathlib.Core.Path.{◌≡◌}
 use mathlib.Core.Bool.{true}
 use mathlib.Core.List.{List, [], ◌∷◌}
 use Prim.Native.Nat.{ℕ}
 use Rattle.sound.specs.Sound.{sound}
-use Rattle.answers.specs.declared.Answer.TheVariants.{Unsound}
+use Rattle.answers.specs.declared.Answer.TheVariants.{Taken, Unsound}
+use Rattle.lent.specs.Lent.{World}
 use Rattle.results.specs.World.{State}
-use Rattle.calls.specs.Station.{commanded, labelled_by}
+use Rattle.calls.specs.Station.{opened, commanded, labelled_by}
 use Rattle.keeps_sound.specs.Good.{Good}
 use Rattle.keeps_sound.specs.Tens.{Tens}
-use Rattle.keeps_sound.specs.Calls.{Call, command, label, pass, called, through, Start, opens, repairs, Begins, started_state}
+use Rattle.keeps_sound.specs.Calls.{Call, command, label, pass, called, through, opened_state, Start, opens, repairs, Begins, started_state}
 use Rattle.keeps_sound.proofs.Layers.{good-sound}
 use Rattle.keeps_sound.proofs.Opening.{opened-good, opened-tens}
 use Rattle.keeps_sound.proofs.Repairing.{repaired-good, repaired-tens}
@@ -50,12 +51,16 @@ started-good (repairs s rows m values output) taken = record {
   tens = repaired-tens s rows m values output taken;
 }
 
-module _ (b : Start) (taken : Begins b) (cs : List Call) where
+-- and what any calls lead to from there
+pub started-always : (b : Start) → Begins b → (cs : List Call) → GoodState (through (started_state b) cs)
+started-always b taken cs = through-good (started_state b) cs (started-good b taken)
+
+module _ (page : List ℕ) (w : World) (taken : (opened page w).outcome.answer ≡ Taken) (cs : List Call) where
   abbrev then : State
-  then = through (started_state b) cs
+  then = through (opened_state page w) cs
 
   pub always-good : GoodState then
-  always-good = through-good (started_state b) cs (started-good b taken)
+  always-good = started-always (opens page w) taken cs
 
   pub always-sound : sound then.session then.world ≡ true
   always-sound = good-sound then.session then.world always-good.good

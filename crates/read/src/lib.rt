@@ -3,6 +3,8 @@
 // Paper 01 says under "Reading a command" what a line is. `read_line` holds a line to the row of the grammar that its letters name and answers a
 // command by value, or 6 where the line has not the written form, or 7 where a number, name or prompt is outside its limits.
 // What a command does, and whether it has a place here, is said in the crates above.
+#![tactic(auto)]
+
 mod lines; // the line of a row
 
 ghost use Rattle.std.specs.Prelude.{◌≡◌};

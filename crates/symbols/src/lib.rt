@@ -5,6 +5,8 @@
 // unfit has none. `check_digit` is the check digit of any digits, which EAN-13 has behind its twelve. Which bytes are fit stands in crate `kinds`, the
 // table of Code 128 and its check symbol in `code128`, which of its symbols data is written with in `shortest`, bars drawn in `bars`.
 // The modules are private. Where one of their functions asks for room in a list or for fit data, `elements` below meets it.
+#![tactic(auto)]
+
 mod code39;
 mod ean;
 mod interleaved;

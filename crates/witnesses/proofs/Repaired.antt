@@ -1,4 +1,4 @@
--- Paper 02, §11: no premise on a repair is empty. Of a damaged memory one form is kept and another entry dropped, the repair is taken, and what it leaves is reached.
+-- Paper 02, §11: no premise on a repair is empty. Of a damaged memory one form is kept and another entry dropped, the repair is taken, and what it leaves has started from it.
 -- Assumes nothing.
 use mathlib.Core.Path.{◌≡◌, refl}
 use mathlib.Core.List.{List, [], ◌∷◌, ◌++◌}
@@ -24,7 +24,7 @@ use Rattle.verdicts.specs.Verdicts.{kept, for_chain, kept_as, name_kept, wrong_n
 use Rattle.verdict_list.specs.Lines.{word, verdict_line, line_at, lines_to}
 use Rattle.repair.specs.Repair.{repair_rows, repaired}
 use Rattle.keeps_sound.specs.Calls.{Start, repairs, Begins, started_state}
-use Rattle.demands.specs.Calls.{Reached}
+use Rattle.demands.specs.Calls.{Started}
 
 -- a form of a name of one byte, without lines
 abbrev form : ℕ → ℕ → List ℕ
@@ -45,5 +45,5 @@ pub repair-begins : Begins repairing
 unfolding repaired repair_rows answer_of is_taken number_of lengths_wrong page_wrong store_wrong links_wrong directory_wrong lines_to line_at verdict_line word digits judged_all judged unjudged zeros noted verdict wrong_name name_kept kept_as found lowest_from walked wrong_size shared wrong_content content_ok form_ok takes_all lines_of titled same_name name name_ok name_byte_ok legal_byte first size cell content_of extent bytes_from
 repair-begins = refl
 
-pub reached-repaired : Reached (started_state repairing).session (started_state repairing).world
-reached-repaired = record { start = repairing; begins = repair-begins; calls = []; here = refl }
+pub started-repaired : Started (started_state repairing).session (started_state repairing).world
+started-repaired = record { start = repairing; begins = repair-begins; calls = []; here = refl }

@@ -1,6 +1,7 @@
 use mathlib.Core.Path.{ap}
 use Prim.Native.Nat.{ℕ, ◌%◌}
 use Rattle.dots.specs.Dots.{bit_of}
+use Rattle.std.proofs.Common.{rules}
 use Rattle.bitmaps.proofs.black.Goals as goal
 
 pub returns : goal.returns

@@ -1,6 +1,7 @@
 use mathlib.Core.Path.{◌≡◌, refl, ap, ◌∙◌}
-use Prim.Native.Nat.{ℕ, ◌+◌, ◌-◌}
+use Prim.Native.Nat.{ℕ, ◌+◌, ◌-◌, ◌≤◌}
 use native.Mathlib.Omega.{arith}
+use lib.ListN.{length as len}
 use Rattle.dots.specs.Dots.{drawn, cut}
 use Rattle.figures.specs.Figures.{bit_row, bitmap, row_of, scaled, shifted, placed}
 use Rattle.figures.proofs.Placed.{then-placed, none-placed}
@@ -10,11 +11,11 @@ use Rattle.bitmaps.proofs.ink_bitmap.Goals as goal
 
 pub loop-g-init : goal.loop-g-init
 loop-g-init c = let s = c in let a = s.args in let pic = bitmap a.bits.now a.stride in (
-  search rules,
-  none-placed a.ink a.width a.length a.r a.w a.h a.x a.y (shifted a.d (scaled a.bw 0 a.hm a.vm pic)) a.page.now
-      (λ j. omega (arith, s.type_inv.page j)) (λ u v i j. bitmap-start pic a.d a.bw a.hm a.vm u v),
-  refl,
-)
+      search rules,
+      none-placed a.ink a.width a.length a.r a.w a.h a.x a.y (shifted a.d (scaled a.bw 0 a.hm a.vm pic)) a.page.now
+          (λ j. omega (arith, s.type_inv.page j)) (λ u v i j. bitmap-start pic a.d a.bw a.hm a.vm u v),
+      refl,
+    )
 
 pub returns : goal.returns
 returns c = let l = c in let a = l.args in
@@ -33,7 +34,7 @@ loop-g-preserved c = let d = c in let e = d in
           (shifted a.d (scaled a.bw (l.loop-g.g + 1) a.hm a.vm pic))
           a.page.now l.loop-g.page d.ink_row.new.page l.loop-g.invariant.1 d.ink_row.ensures
           (λ u v i j. bitmap-next a.bits.now a.stride a.d a.bw l.loop-g.g a.hm a.vm e.edge-at.result
-          e.edge-v0.result e.edge-v1.result 18446744073709551615 u v (omega (arith, l.well-formed)) (omega arith)
+          e.edge-v0.result e.edge-v1.result 18446744073709551615 u v (omega (arith, l.well_formed)) (omega arith)
           e.edge-at.ensures e.edge-v0.ensures e.edge-v1.ensures),
       omega (arith, d.ink_row.auto.page),
     )

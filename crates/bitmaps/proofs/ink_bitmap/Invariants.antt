@@ -1,8 +1,12 @@
-use mathlib.Core.Path.{◌≡◌}
-use Prim.Native.Nat.{◌-◌, ◌≤◌}
+use mathlib.Core.Path.{◌≡◌, refl, ap, ◌∙◌}
+use Prim.Native.Nat.{ℕ, ◌+◌, ◌-◌, ◌≤◌}
+use native.Mathlib.Omega.{arith}
 use lib.ListN.{length as len}
 use Rattle.dots.specs.Dots.{drawn, cut}
-use Rattle.figures.specs.Figures.{bitmap, scaled, shifted, placed}
+use Rattle.figures.specs.Figures.{bit_row, bitmap, row_of, scaled, shifted, placed}
+use Rattle.figures.proofs.Placed.{then-placed, none-placed}
+use Rattle.bitmaps.proofs.Bitmaps.{bitmap-next, bitmap-start}
+use borrow.Author.Rules.{rules}
 use Rattle.bitmaps.proofs.ink_bitmap.Given as goal
 
 abbrev pub invariant-loop-g : goal.invariant-loop-g

@@ -1,8 +1,12 @@
-use mathlib.Core.Path.{◌≡◌}
-use Prim.Native.Nat.{◌-◌, ◌*◌, ◌≤◌, min}
+use mathlib.Core.Path.{◌≡◌, refl, ap, ◌∙◌}
+use Prim.Native.Nat.{ℕ, ◌+◌, ◌-◌, ◌*◌, ◌≤◌, ◌<◌, min}
+use native.Mathlib.Omega.{arith}
 use lib.ListN.{length as len}
 use Rattle.dots.specs.Dots.{drawn, cut}
 use Rattle.figures.specs.Figures.{bit_row, row_of, shifted, placed}
+use Rattle.figures.proofs.Placed.{then-placed, none-placed}
+use Rattle.bitmaps.proofs.ByteRows.{eight_of, bytes-start, bytes_next}
+use borrow.Author.Rules.{rules}
 use Rattle.bitmaps.proofs.ink_bytes.Given as goal
 
 abbrev pub invariant-loop-k : goal.invariant-loop-k

@@ -1,6 +1,7 @@
 use mathlib.Core.Path.{sym, ◌∙◌}
 use Rattle.dots.specs.Dots.{drawn, cut}
 use Rattle.figures.specs.Figures.{bit_row, row_of, shifted, turned_by}
+use Rattle.std.proofs.Common.{rules}
 use Rattle.bitmaps.proofs.ink_row.Goals as goal
 
 pub returns-then-r-eq0 : goal.returns-then-r-eq0

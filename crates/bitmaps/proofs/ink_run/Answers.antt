@@ -1,11 +1,13 @@
 use mathlib.Core.Path.{ap}
 use mathlib.Core.Bool.{Bool, ◌&&◌}
 use native.Mathlib.Omega.{arith}
+use borrow.Author.Tests.{not-true, not-false}
 use Prim.Native.Nat.{◌+◌, ◌*◌}
 use Rattle.dots.specs.Dots.{box}
 use Rattle.ground.specs.Numbers.{capped}
 use Rattle.bitmaps.proofs.Bitmaps.{on-run}
 use Rattle.figures.proofs.Placed.{as-placed, none-placed}
+use Rattle.std.proofs.Common.{rules}
 use Rattle.bitmaps.proofs.ink_run.Goals as goal
 
 pub returns-then-not-on : goal.returns-then-not-on

@@ -1,7 +1,8 @@
 use mathlib.Core.Path.{◌≡◌, refl, ap, ◌∙◌}
 use mathlib.Core.Bool.{◌&&◌}
-use Prim.Native.Nat.{ℕ, ◌+◌, ◌-◌, ◌*◌}
+use Prim.Native.Nat.{ℕ, ◌+◌, ◌-◌, ◌*◌, ◌≤◌}
 use native.Mathlib.Omega.{arith}
+use lib.ListN.{length as len}
 use Rattle.dots.specs.Dots.{drawn, cut, box}
 use Rattle.ground.specs.Numbers.{capped}
 use Rattle.figures.specs.Figures.{bit_row, row_of, shifted, placed}
@@ -12,11 +13,11 @@ use Rattle.bitmaps.proofs.ink_runs.Goals as goal
 
 pub loop-g-init : goal.loop-g-init
 loop-g-init c = let s = c in let a = s.args in let row = bit_row a.bits.now a.at in (
-  search rules,
-  none-placed a.ink a.width a.length a.r a.w a.h a.x a.y (shifted a.d (row_of row 0 a.hm a.v0 a.v1)) a.page.now
-      (λ j. omega (arith, s.type_inv.page j)) (λ u v i j. row-start row a.d a.hm a.v0 a.v1 u v),
-  refl,
-)
+      search rules,
+      none-placed a.ink a.width a.length a.r a.w a.h a.x a.y (shifted a.d (row_of row 0 a.hm a.v0 a.v1)) a.page.now
+          (λ j. omega (arith, s.type_inv.page j)) (λ u v i j. row-start row a.d a.hm a.v0 a.v1 u v),
+      refl,
+    )
 
 pub loop-g-smaller : goal.loop-g-smaller
 loop-g-smaller c = omega (arith, c.run_end-e.ensures.more)

@@ -1,8 +1,14 @@
-use mathlib.Core.Path.{◌≡◌}
-use Prim.Native.Nat.{◌-◌, ◌≤◌}
+use mathlib.Core.Path.{◌≡◌, refl, ap, ◌∙◌}
+use mathlib.Core.Bool.{◌&&◌}
+use Prim.Native.Nat.{ℕ, ◌+◌, ◌-◌, ◌*◌, ◌≤◌}
+use native.Mathlib.Omega.{arith}
 use lib.ListN.{length as len}
-use Rattle.dots.specs.Dots.{drawn, cut}
+use Rattle.dots.specs.Dots.{drawn, cut, box}
+use Rattle.ground.specs.Numbers.{capped}
 use Rattle.figures.specs.Figures.{bit_row, row_of, shifted, placed}
+use Rattle.figures.proofs.Placed.{then-placed, none-placed}
+use Rattle.bitmaps.proofs.Bitmaps.{row_next, row-start}
+use borrow.Author.Rules.{rules}
 use Rattle.bitmaps.proofs.ink_runs.Given as goal
 
 abbrev pub invariant-loop-g : goal.invariant-loop-g

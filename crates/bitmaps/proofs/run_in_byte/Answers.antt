@@ -2,6 +2,7 @@ use mathlib.Core.Path.{sym, ◌∙◌}
 use mathlib.Core.Bool.{true, false}
 use native.Mathlib.Omega.{arith}
 use Rattle.bitmaps.proofs.ByteRuns.{byte-run}
+use Rattle.std.proofs.Common.{rules}
 use Rattle.bitmaps.proofs.run_in_byte.Goals as goal
 
 pub returns-then-on : goal.returns-then-on
