@@ -1,7 +1,7 @@
 // What lies outside the label. Paper 01, "Sound": "no background dot outside width by length". `white_outside` answers true exactly when no dot of a
 // whole row of the page is black there (`white_outside` of specs/Outside.antt), for a page of any length and any numbers; the laws say that white
 // pages are so, and that whatever is cut at width and length keeps them so. Only the bytes are looked at that may lie outside.
-ghost use Rattle.std.specs.Prelude.{◌≡◌, cond, ◌+◌, ◌*◌, ◌/◌, ◌%◌, ◌^◌, ◌≤◌, ◌<◌, min, ltb, length, take, drop};
+ghost use Rattle.std.specs.Prelude.{◌≡◌, cond, ◌+◌, ◌*◌, ◌/◌, ◌%◌, ◌^◌, ◌≤◌, ◌<◌, min, ltb, take, drop, length as length_of};
 ghost use Rattle.dots.specs.Dots.{bytes_a_row, byte_of};
 ghost use Rattle.outside.specs.Outside.{outside, white_byte, white_from, white_outside};
 
@@ -35,7 +35,7 @@ fn white_byte(i: usize, b: u8, width: usize, length: usize) -> bool
 
 // Whether bytes that stand at byte `at` of a page have no black dot outside width by length.
 fn white_bytes(bytes: &[u8], at: usize, width: usize, length: usize) -> bool
-    requires* { do ⌜ at + (← ⟦bytes.len()⟧) < 2 ^ 64 ⌝ }
+    requires { at + length_of bytes.now < 2 ^ 64 }
     ensures { result ≡ white_from width length at bytes.now }
 {
     let mut i = 0;
@@ -61,7 +61,7 @@ fn first_outside(y: usize, width: usize, length: usize) -> usize
 
 // Whether row y has no black dot outside width by length.
 fn white_row(page: &[u8], y: usize, width: usize, length: usize) -> bool
-    requires* { do ⌜ y * bytes_a_row + bytes_a_row ≤ (← ⟦page.len()⟧) ⌝ }
+    requires { y * bytes_a_row + bytes_a_row ≤ length_of page.now }
     ensures { result ≡ white_from width length (y * bytes_a_row) (take bytes_a_row (drop (y * bytes_a_row) page.now)) }
 {
     let at = y * BYTES_A_ROW + first_outside(y, width, length);

@@ -2,7 +2,7 @@
 // black; R sets the whole cell black, glyph dots white". `draw` promises one equation on the page (`text_drawn` of specs/Text.antt), for any bytes as a
 // font, any text and any numbers. A text of more than 128 bytes and a scale beyond its limits draw nothing. Whoever draws judges the font once before.
 // Who asks for a text, and with what data, is left to others.
-ghost use Rattle.std.specs.Prelude.{◌≡◌, ◌≤◌};
+ghost use Rattle.std.specs.Prelude.{◌≡◌, ◌≤◌, length as length_of};
 ghost use Rattle.dots.specs.declared.Ink.TheVariants.{Black};
 ghost use Rattle.dots.specs.Dots.{drawn, box};
 ghost use Rattle.font.specs.Rules.{Places};
@@ -46,7 +46,7 @@ fn ink_found(
     places: &[usize],
     text: &[u8],
 )
-    requires* { do ⌜ (h ≤ 6) × ((← ⟦text.len()⟧) ≤ most_data) × Places font.now places.now 0 0 ⌝ }
+    requires { (h ≤ 6) × (length_of text.now ≤ most_data) × Places font.now places.now 0 0 }
     ensures { page.new ≡ drawn ink (on_label s (glyphs font.now h v text.now)) page.old }
 {
     let cell = cell_width(font);
@@ -68,7 +68,7 @@ fn ink_found(
 
 // Draws the glyphs of a text.
 fn ink_glyphs(page: &mut [u8], ink: Ink, s: Spot, h: usize, v: usize, font: &[u8], text: &[u8])
-    requires* { do ⌜ (h ≤ 6) × ((← ⟦text.len()⟧) ≤ most_data) ⌝ }
+    requires { (h ≤ 6) × (length_of text.now ≤ most_data) }
     ensures { page.new ≡ drawn ink (on_label s (glyphs font.now h v text.now)) page.old }
 {
     let found = places(font);
@@ -98,7 +98,7 @@ fn ink_cells(page: &mut [u8], s: Spot)
 
 // Draws a text in its mode.
 fn ink_text(page: &mut [u8], reverse: bool, s: Spot, h: usize, v: usize, font: &[u8], text: &[u8])
-    requires* { do ⌜ (h ≤ 6) × ((← ⟦text.len()⟧) ≤ most_data) ⌝ }
+    requires { (h ≤ 6) × (length_of text.now ≤ most_data) }
     ensures { page.new ≡ in_mode reverse s (glyphs font.now h v text.now) page.old }
 {
     if reverse {

@@ -3,6 +3,8 @@
 // Paper 01 has numbers written "with leading zeros dropped", "names in capitals", "signs written and minus zero as `+0`". Each function here writes such a thing from a
 // place on, as far as there is room, and answers the place after it, so that one thing is written behind another without asking for room. `same` compares two lists.
 // Any place and any length is answered.
+#![tactic(auto)]
+
 ghost use Rattle.std.specs.Prelude.{◌≡◌, [], ◌∷◌, cond, ◌+◌, ◌<◌, eqb};
 ghost use Rattle.parts.specs.Names.{capital};
 ghost use Rattle.writing.specs.Writing.{Wrote, digit_byte, decimal, signed, cased, equal};
