@@ -3,29 +3,30 @@
 //
 // What date and time the machine's seconds are, and how a clock moves, is crate `wall_clock`. Seconds are those of the machine's clock that shows the date, which goes on
 // while the machine sleeps: where somebody sets it forward they have passed, and where it is set back none have.
+#![tactic(auto)]
+
 use ground::{greatest, less};
 use press_settings::Settings;
 use press_store::Run;
+use std::rt::Clock;
 
 // 2 January 2000 in UTC, which no zone takes out of the station's years. A machine that shows less was never set; once it is, the station's clock comes right.
 const EARLIEST: usize = 946771200;
 
 // The machine's seconds since 1970.
-fn machine_seconds() -> usize {
-    let mut now: i64 = 0;
-    let said = libc::time(&mut now);
-    if said < 0 {
-        return EARLIEST;
+fn machine_seconds(rt: &impl Clock) -> usize {
+    match rt.since_1970() {
+        Ok(said) => greatest(said.as_secs() as usize, EARLIEST),
+        Err(_) => EARLIEST,
     }
-    greatest(said as usize, EARLIEST)
 }
 
 // The run with the clock set.
-pub fn start(s: Settings, run: Run) -> Run {
+pub fn start(rt: &impl Clock, s: Settings, run: Run) -> Run {
     if !s.clock {
         return run;
     }
-    let now = machine_seconds();
+    let now = machine_seconds(rt);
     let before = run.session;
     let mut r = run;
     r.session = before.clocked(wall_clock::today(now, s.zone));
@@ -34,15 +35,15 @@ pub fn start(s: Settings, run: Run) -> Run {
 }
 
 // The run with the clock moved.
-pub fn tick(s: Settings, run: Run) -> Run {
+pub fn tick(rt: &impl Clock, s: Settings, run: Run) -> Run {
     if !s.clock {
         return run;
     }
-    let now = machine_seconds();
+    let now = machine_seconds(rt);
     let before = run.session;
     let clock = before.clock;
     let mut r = run;
-    r.session = before.clocked(wall_clock::advance(clock, less(now, run.moment)));
+    r.session = before.clocked(wall_clock::advance(clock, less(now, r.moment)));
     r.moment = now;
     r
 }

@@ -2,36 +2,56 @@
 //
 // Input passes through a window that is filled again (crate `intake`); what a command does is crate `station`. What a command left is saved before it is
 // said, and a line that is too long is skipped to its end.
+#![tactic(auto)]
+
 use answers::{Answer, is_taken};
 use front::Front;
-use ground::{both, capped_sum, either, front};
-use libc::STDIN_FILENO;
+use ground::{both, capped_sum, either, front, least};
 use press_settings::saying::{complain, failed, say};
-use press_settings::{Settings, saying};
-use press_store::{Run, rooms, stopped};
+use press_settings::system::{argument, name_room, open_read};
+use press_settings::{Machine, Settings, saying};
+use press_store::{Run, Source, rooms, stopped};
 use station::Outcome;
+use std::io;
+use std::io::Read;
+
+fn is_begun(from: &Source) -> bool {
+    match from {
+        Source::Nowhere => false,
+        Source::Input => true,
+        Source::Named(_) => true,
+    }
+}
 
 // The next input: the next file, or standard input where no file is named; the run is over where there is none left.
-fn next_input(s: Settings, run: Run) -> Run {
+fn next_input(rt: &impl Machine, s: Settings, run: Run) -> Run {
     let mut r = run;
-    if 0 <= run.from {
-        libc::close(run.from);
-        r.file = capped_sum(run.file, 1);
+    if is_begun(&r.from) {
+        r.from = Source::Nowhere;
+        r.file = capped_sum(r.file, 1);
         if either(s.files == 0, s.count <= r.file) {
             r.over = true;
             return r;
         }
     }
-    r.from = STDIN_FILENO;
-    if s.files != 0 {
-        let mut text = io::buffer();
-        let n = os::arg(r.file, &mut text);
-        r.from = os::open_read(front(&text, n));
-        if r.from < 0 {
-            failed(b"cannot open ", front(&text, n));
-            return stopped(r);
+    if s.files == 0 {
+        return begun(r, Source::Input);
+    }
+    let mut text = name_room();
+    let n = argument(rt, r.file, &mut text);
+    match open_read(rt, front(&text, n)) {
+        Ok(file) => begun(r, Source::Named(file)),
+        Err(why) => {
+            failed(rt, b"cannot open ", front(&text, n), why);
+            stopped(r)
         }
     }
+}
+
+// The run at the start of an input.
+fn begun(run: Run, from: Source) -> Run {
+    let mut r = run;
+    r.from = from;
     r.start = 0;
     r.end = 0;
     r.ended = false;
@@ -40,25 +60,35 @@ fn next_input(s: Settings, run: Run) -> Run {
     r
 }
 
-// More bytes in the window, or the end of the input.
-fn refill(run: Run, window: &mut [u8]) -> Run {
+fn read_some(rt: &impl Machine, from: &mut Source, room: &mut [u8]) -> io::Result<usize> {
+    match from {
+        Source::Nowhere => Ok(0),
+        Source::Input => rt.read_input(room),
+        Source::Named(file) => file.read(room),
+    }
+}
+
+// More bytes in the window, or the end of the input, which is also where it cannot be read.
+fn refill(rt: &impl Machine, run: Run, window: &mut [u8]) -> Run {
     let mut r = run;
-    let n = intake::shift(window, run.start, run.end);
+    let n = intake::shift(window, r.start, r.end);
     r.start = 0;
     r.end = n;
     r.ended = true;
     if window.len() < n {
         return r;
     }
-    let got = libc::read(run.from, &mut window[n..]);
-    let more = io::count(got, window);
-    r.end = capped_sum(n, more);
-    r.ended = more == 0;
+    if let Ok(got) = read_some(rt, &mut r.from, &mut window[n..]) {
+        let more = least(got, window.len());
+        r.end = capped_sum(n, more);
+        r.ended = more == 0;
+    }
     r
 }
 
 // A line that was refused, and what is left of the store where there is no room in it.
 fn refused(
+    rt: &impl Machine,
     s: Settings,
     run: Run,
     answer: Answer,
@@ -67,21 +97,24 @@ fn refused(
     directory: &[u8],
 ) -> Run {
     let mut r = run;
-    r.refused = capped_sum(run.refused, 1);
-    saying::answer(s, run.file, run.line, answer, line);
-    saying::left(s, run.file, run.line, answer, links, directory);
+    r.refused = capped_sum(r.refused, 1);
+    saying::answer(rt, s, r.file, r.line, answer, line);
+    saying::left(rt, s, r.file, r.line, answer, links, directory);
     r
 }
 
 // A line that was taken, and saved where there is a store.
-fn done(s: Settings, run: Run, answer: Answer, line: &[u8]) -> Run {
+fn done(rt: &impl Machine, s: Settings, run: Run, answer: Answer, line: &[u8]) -> Run {
     let mut r = run;
-    if run.over {
-        complain(b"press: the last line read is not kept; the store is as it was before it\n");
+    if r.over {
+        complain(
+            rt,
+            b"press: the last line read is not kept; the store is as it was before it\n",
+        );
         return r;
     }
-    r.taken = capped_sum(run.taken, 1);
-    saying::answer(s, run.file, run.line, answer, line);
+    r.taken = capped_sum(r.taken, 1);
+    saying::answer(rt, s, r.file, r.line, answer, line);
     r
 }
 
@@ -90,16 +123,16 @@ fn skip(run: Run, unread: &[u8]) -> Run {
     let mut r = run;
     let n = intake::line_length(unread);
     if n < unread.len() {
-        r.start = capped_sum(run.start, n + 1);
+        r.start = capped_sum(r.start, n + 1);
         r.skipping = false;
         return r;
     }
-    r.start = run.end;
+    r.start = r.end;
     r
 }
 
 // Whether the window has to be filled before a command can be read.
-fn wanting(run: Run, unread: &[u8]) -> bool {
+fn wanting(run: &Run, unread: &[u8]) -> bool {
     if run.ended {
         return false;
     }
@@ -116,13 +149,13 @@ fn wanting(run: Run, unread: &[u8]) -> bool {
 }
 
 // One step towards the next command: the next input, more bytes, or the rest of a line that was too long; ready where the command is at hand.
-pub fn ahead(s: Settings, run: Run, window: &mut [u8]) -> Run {
-    if wanting(run, intake::unread(window, run.start, run.end)) {
-        return refill(run, window);
+pub fn ahead(rt: &impl Machine, s: Settings, run: Run, window: &mut [u8]) -> Run {
+    if wanting(&run, intake::unread(window, run.start, run.end)) {
+        return refill(rt, run, window);
     }
     let unread = intake::unread(window, run.start, run.end);
     if unread.len() == 0 {
-        return next_input(s, run);
+        return next_input(rt, s, run);
     }
     if run.skipping {
         return skip(run, unread);
@@ -139,6 +172,7 @@ fn blank(line: &[u8]) -> bool {
 
 // What a line did: said and counted.
 fn told(
+    rt: &impl Machine,
     s: Settings,
     run: Run,
     line: &[u8],
@@ -147,12 +181,12 @@ fn told(
     directory: &[u8],
 ) -> Run {
     if !is_taken(answer) {
-        return refused(s, run, answer, line, links, directory);
+        return refused(rt, s, run, answer, line, links, directory);
     }
     if blank(line) {
         return run;
     }
-    done(s, run, answer, line)
+    done(rt, s, run, answer, line)
 }
 
 // The run after a call on what is unread of the window.
@@ -160,10 +194,10 @@ fn moved(run: Run, o: Outcome, line: &[u8], unread: &[u8]) -> Run {
     let mut r = run;
     let session = o.session;
     r.session = session;
-    r.line = capped_sum(run.line, 1);
-    r.start = capped_sum(run.start, o.read);
+    r.line = capped_sum(r.line, 1);
+    r.start = capped_sum(r.start, o.read);
     if o.read == 0 {
-        r.start = run.end;
+        r.start = r.end;
     }
     r.ready = false;
     r.skipping = both(255 < line.len(), line.len() == unread.len());
@@ -172,6 +206,7 @@ fn moved(run: Run, o: Outcome, line: &[u8], unread: &[u8]) -> Run {
 
 // One command at the front of the window: done, saved, said and counted.
 pub fn command(
+    rt: &impl Machine,
     s: Settings,
     run: Run,
     font: &[u8],
@@ -202,9 +237,9 @@ pub fn command(
     let r = moved(run, o, line, unread);
     let changed = both(is_taken(answer), !blank(line));
     let saved = press_store::save(
-        r, changed, background, store, links, directory, values, file,
+        rt, r, changed, background, store, links, directory, values, file,
     );
-    let after = told(s, saved, line, answer, links, directory);
-    say(s, front(&output, o.written));
+    let after = told(rt, s, saved, line, answer, links, directory);
+    say(rt, s, front(&output, o.written));
     after
 }

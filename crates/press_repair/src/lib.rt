@@ -5,20 +5,34 @@
 // What is kept and what is dropped is said by crates `verdicts` and `repair`, in the words of crate `repair_words`. A store that loads is left alone. Any other is
 // read as far as it goes, and what is repaired of it becomes a new file, whole and on disk before anything is said; the old file is opened for reading only, and a
 // file that has the new one's name is left as it is.
+#![tactic(auto)]
+
+ghost use Rattle.std.specs.Prelude.{◌≡◌, length};
+
 use answers::is_taken;
 use dots::BYTES_A_ROW;
 use ground::{front, least};
 use lasting::{DIRECTORY_BYTES, MOST_ROWS, Verdict};
 use lent::BYTES_OF_VALUES;
-use press_settings::Settings;
 use press_settings::saying::{complain, failed, say, wrong};
+use press_settings::system::{argument, create_new, name_room};
+use press_settings::{Machine, Settings};
 use press_store::rooms;
 use session::Session;
+use std::io;
+use std::io::ErrorKind;
 use store::{MOST_ENTRIES, MOST_PORTIONS};
 use verdicts::{KEPT, UNSAID};
 
 // The longest list of a repair: a line for each entry, none longer than `511 content` and its LF.
 const LIST: usize = 12 * MOST_ENTRIES;
+
+// Room for the last line, which has two names in it: 65,536 zeros, of which only the number is promised.
+fn line_room() -> [u8; 65536]
+    ensures { 65536 ≡ length result }
+{
+    [0; 65536]
+}
 
 // How many entries are kept and dropped.
 #[derive(Clone, Copy)]
@@ -46,8 +60,9 @@ fn loads(file: &[u8]) -> bool {
     start.good
 }
 
-fn unlike(path: &[u8]) -> usize {
+fn unlike(rt: &impl Machine, path: &[u8]) -> usize {
     wrong(
+        rt,
         path,
         b" does not begin as a store of this station does; if it is one, say with -rows N how many rows its labels may have\n",
     );
@@ -56,15 +71,15 @@ fn unlike(path: &[u8]) -> usize {
 
 // How many rows the repaired store has: those that are asked for, else those of the head; 0 where the head is no store's, so that a file that was named by
 // mistake is not taken for a store.
-fn rows(s: Settings, path: &[u8], file: &[u8]) -> usize {
+fn rows(rt: &impl Machine, s: Settings, path: &[u8], file: &[u8]) -> usize {
     if s.rows != 0 {
         return s.rows;
     }
     let rows = lasting::rows(file);
     match lasting::judge(file) {
-        Verdict::Foreign => unlike(path),
-        Verdict::Version => unlike(path),
-        Verdict::Sizes => unlike(path),
+        Verdict::Foreign => unlike(rt, path),
+        Verdict::Version => unlike(rt, path),
+        Verdict::Sizes => unlike(rt, path),
         Verdict::Length => rows,
         Verdict::Damaged => rows,
         Verdict::Slots => rows,
@@ -73,16 +88,16 @@ fn rows(s: Settings, path: &[u8], file: &[u8]) -> usize {
 }
 
 // The line of entry i: among what is done where it is kept, among what is refused where it is dropped.
-fn tell_entry(s: Settings, directory: &[u8], i: usize, v: u8) {
+fn tell_entry(rt: &impl Machine, s: Settings, directory: &[u8], i: usize, v: u8) {
     let kind = store::kind_at(directory, i);
     let name = store::name_at(directory, i);
     let n = store::name_length_at(directory, i);
     let mut text = [0u8; 256];
     let k = repair_words::entry(i, v, kind, front(&name, n), &mut text);
     if v == KEPT {
-        say(s, front(&text, k));
+        say(rt, s, front(&text, k));
     } else {
-        complain(front(&text, k));
+        complain(rt, front(&text, k));
     }
 }
 
@@ -97,16 +112,14 @@ fn counted(sums: Sums, v: u8) -> Sums {
 }
 
 // One line for each entry that is not empty, in directory order; how many are kept and dropped.
-fn tell_entries(s: Settings, directory: &[u8], verdicts: &[u8]) -> Sums {
+fn tell_entries(rt: &impl Machine, s: Settings, directory: &[u8], verdicts: &[u8]) -> Sums {
     let mut sums = Sums { keeps: 0, drops: 0 };
-    let mut i: usize = 0;
-    while i < MOST_ENTRIES {
+    for i in 0..MOST_ENTRIES {
         let v = ground::byte(verdicts, i);
         if v != UNSAID {
-            tell_entry(s, directory, i, v);
+            tell_entry(rt, s, directory, i, v);
             sums = counted(sums, v);
         }
-        i += 1;
     }
     sums
 }
@@ -124,7 +137,7 @@ fn take_body(file: &[u8], store: &mut [u8], links: &mut [u16], directory: &mut [
 }
 
 // What became of the entries of a file, and how many portions are free after the repair. They are judged once more, from the bytes that were repaired.
-fn tell(s: Settings, file: &[u8], free: u16) {
+fn tell(rt: &impl Machine, s: Settings, file: &[u8], free: u16) {
     let mut store = rooms::portions();
     let mut links = [0u16; MOST_PORTIONS];
     let mut directory = [0u8; DIRECTORY_BYTES];
@@ -132,10 +145,10 @@ fn tell(s: Settings, file: &[u8], free: u16) {
     let mut verdicts = [0u8; MOST_ENTRIES];
     let mut fills = [0u16; MOST_PORTIONS];
     verdicts::judge(&store, &links, &directory, &mut verdicts, &mut fills);
-    let sums = tell_entries(s, &directory, &verdicts);
+    let sums = tell_entries(rt, s, &directory, &verdicts);
     let mut text = [0u8; 128];
     let n = repair_words::sum(sums.keeps, sums.drops, free as usize, &mut text);
-    say(s, front(&text, n));
+    say(rt, s, front(&text, n));
 }
 
 fn pictures_in(file: &[u8], k: usize) -> u32 {
@@ -154,41 +167,58 @@ fn pictures(file: &[u8]) -> u32 {
 }
 
 // A new file of these bytes, on disk; whether it is made.
-fn made(name: &[u8], bytes: &[u8]) -> bool {
-    let fd = os::create(name);
-    if fd < 0 {
-        if os::errno() == libc::EEXIST {
-            wrong(
-                name,
-                b" is there already, and is left as it is: nothing is repaired\n",
-            );
-        } else {
-            failed(b"cannot make ", name);
+fn made(rt: &impl Machine, name: &[u8], bytes: &[u8]) -> bool {
+    match create_new(rt, name) {
+        Ok(file) => {
+            if press_store::written(rt, file, name, bytes).is_none() {
+                return false;
+            }
+            press_store::sync_folder(rt, name);
+            true
         }
-        return false;
+        Err(why) => {
+            tell_unmade(rt, name, why);
+            false
+        }
     }
-    if !press_store::written(fd, name, bytes) {
-        return false;
+}
+
+// Why a new file is not made.
+fn tell_unmade(rt: &impl Machine, name: &[u8], why: io::Error) {
+    if why.kind() == ErrorKind::AlreadyExists {
+        wrong(
+            rt,
+            name,
+            b" is there already, and is left as it is: nothing is repaired\n",
+        );
+    } else {
+        failed(rt, b"cannot make ", name, why);
     }
-    libc::close(fd);
-    press_store::sync_folder(name);
-    true
 }
 
 // The repaired store in its file, and what is said then.
-fn finish(s: Settings, path: &[u8], rows: usize, file: &[u8], free: u16, bytes: &[u8]) {
-    let mut name = io::buffer();
+fn finish(
+    rt: &impl Machine,
+    s: Settings,
+    path: &[u8],
+    rows: usize,
+    file: &[u8],
+    free: u16,
+    bytes: &[u8],
+) {
+    let mut name = name_room();
     let k = sentences::joined(path, b".repaired", &mut name);
-    if made(front(&name, k), bytes) {
-        tell(s, file, free);
-        let mut text = io::large_buffer();
+    if made(rt, front(&name, k), bytes) {
+        tell(rt, s, file, free);
+        let mut text = line_room();
         let n = repair_words::made(front(&name, k), rows, path, &mut text);
-        say(s, front(&text, n));
+        say(rt, s, front(&text, n));
     }
 }
 
 // What was repaired as a whole new store: with a white background, and with the session in the first slot.
 fn save(
+    rt: &impl Machine,
     s: Settings,
     path: &[u8],
     rows: usize,
@@ -205,11 +235,11 @@ fn save(
     let n = lasting::place(&mut next, background, store, links, directory);
     lasting::seal(&mut next);
     slots::put_slot(&mut next, 1, pictures(file), session, values);
-    finish(s, path, rows, file, session.free, front(&next, n));
+    finish(rt, s, path, rows, file, session.free, front(&next, n));
 }
 
 // What the bytes of a file hold, repaired for labels of so many rows. Lengths and rows are right and the list has room, so that the repair is taken.
-fn mend(s: Settings, path: &[u8], rows: usize, file: &[u8]) {
+fn mend(rt: &impl Machine, s: Settings, path: &[u8], rows: usize, file: &[u8]) {
     let mut store = rooms::portions();
     let mut links = [0u16; MOST_PORTIONS];
     let mut directory = [0u8; DIRECTORY_BYTES];
@@ -229,31 +259,31 @@ fn mend(s: Settings, path: &[u8], rows: usize, file: &[u8]) {
     let session = done.session;
     if is_taken(answer) {
         save(
-            s, path, rows, file, session, &store, &links, &directory, &values,
+            rt, s, path, rows, file, session, &store, &links, &directory, &values,
         );
     }
 }
 
 // The store of the command line: left alone where it loads, else repaired.
-pub fn repair(s: Settings) {
-    let mut text = io::buffer();
-    let k = os::arg(s.store, &mut text);
+pub fn repair(rt: &impl Machine, s: Settings) {
+    let mut text = name_room();
+    let k = argument(rt, s.store, &mut text);
     let path = front(&text, k);
     let mut file = rooms::file();
-    let known = press_store::found(s, path, &mut file);
+    let known = press_store::found(rt, s, path, &mut file);
     if known == 0 {
-        if press_store::missing(path) {
-            wrong(path, b" is not there: nothing is repaired\n");
+        if press_store::missing(rt, path) {
+            wrong(rt, path, b" is not there: nothing is repaired\n");
         }
         return;
     }
     if loads(front(&file, known)) {
-        say(s, path);
-        say(s, b" loads as it is; nothing is repaired\n");
+        say(rt, s, path);
+        say(rt, s, b" loads as it is; nothing is repaired\n");
         return;
     }
-    let rows = rows(s, path, front(&file, known));
+    let rows = rows(rt, s, path, front(&file, known));
     if rows != 0 {
-        mend(s, path, rows, front(&file, known));
+        mend(rt, s, path, rows, front(&file, known));
     }
 }

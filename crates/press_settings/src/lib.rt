@@ -6,10 +6,14 @@
 //
 // What the words of the command line are is crate `options`, what is said in words crates `words` and `reports`. Here arguments, font and files are found
 // good before anything is done, what was done goes to standard output unless `-quiet` is given, and what was refused or failed to standard error.
+#![tactic(auto)]
+
 pub mod saying; // what is said
 mod setup; // the command line, the font, the files
+pub mod system; // what is asked of the machine
 
 pub use setup::{command_line, font, prefix, readable};
+pub use system::Machine;
 
 // What -fits asks for: name is the number of the argument that is the name, 0 where nothing is asked; size is a picture's.
 #[derive(Clone, Copy)]

@@ -1,88 +1,112 @@
 // What is said: on standard output what was done, on standard error what was refused or failed.
-use crate::Settings;
+//
+// Where nobody takes it, what is said is lost, and the run goes on: the labels that it draws and the store that it keeps are worth more.
+use crate::system::{argument, name_room};
+use crate::{Machine, Settings};
 use answers::{Answer, is_full, is_taken, points};
 use ground::front;
-use libc::{STDERR_FILENO, STDOUT_FILENO};
 use session::Session;
+use std::fmt::InlineText;
+use std::io;
 
-pub fn say(s: Settings, text: &[u8]) {
+pub fn say(rt: &impl Print, s: Settings, text: &[u8]) {
     if !s.quiet {
-        io::write_all(STDOUT_FILENO, text);
+        let _ = rt.write_all(text);
     }
 }
 
-pub fn complain(text: &[u8]) {
-    io::write_all(STDERR_FILENO, text);
+pub fn complain(rt: &impl Machine, text: &[u8]) {
+    let _ = rt.write_error(text);
+}
+
+// The system's words for what went wrong, without the number that std writes behind them.
+fn reason(text: &str) -> &str {
+    match text.split_once(" (os error ") {
+        Some((words, _)) => words,
+        None => text,
+    }
 }
 
 // `press: WHAT NAME: why`, where a call of the system failed.
-pub fn failed(what: &[u8], name: &[u8]) {
-    complain(b"press: ");
-    complain(what);
-    os::fail(name);
+pub fn failed(rt: &impl Machine, what: &[u8], name: &[u8], why: io::Error) {
+    let text = InlineText::<128>::of(why);
+    complain(rt, b"press: ");
+    complain(rt, what);
+    complain(rt, name);
+    complain(rt, b": ");
+    complain(rt, reason(text.as_str()).as_bytes());
+    complain(rt, b"\n");
 }
 
 // `press: NAME WHAT`
-pub fn wrong(name: &[u8], what: &[u8]) {
-    complain(b"press: ");
-    complain(name);
-    complain(what);
+pub fn wrong(rt: &impl Machine, name: &[u8], what: &[u8]) {
+    complain(rt, b"press: ");
+    complain(rt, name);
+    complain(rt, what);
 }
 
 // The name of the file at hand, where there are several.
-fn say_file(s: Settings, file: usize, taken: bool) {
+fn say_file(rt: &impl Machine, s: Settings, file: usize, taken: bool) {
     if s.several {
-        let mut text = io::buffer();
-        let n = os::arg(file, &mut text);
+        let mut text = name_room();
+        let n = argument(rt, file, &mut text);
         if taken {
-            say(s, front(&text, n));
-            say(s, b": ");
+            say(rt, s, front(&text, n));
+            say(rt, s, b": ");
         } else {
-            complain(front(&text, n));
-            complain(b": ");
+            complain(rt, front(&text, n));
+            complain(rt, b": ");
         }
     }
 }
 
 // A line about a refusal, behind the name of its file.
-fn complain_of(s: Settings, file: usize, text: &[u8]) {
-    say_file(s, file, false);
-    complain(text);
+fn complain_of(rt: &impl Machine, s: Settings, file: usize, text: &[u8]) {
+    say_file(rt, s, file, false);
+    complain(rt, text);
 }
 
 // The mark under a refused line, where its answer points to a place.
-fn point(s: Settings, file: usize, k: usize, a: Answer) {
+fn point(rt: &impl Machine, s: Settings, file: usize, k: usize, a: Answer) {
     if points(a) {
         let mut text = [0u8; 512];
         let n = words::mark(k, a, &mut text);
-        complain_of(s, file, front(&text, n));
+        complain_of(rt, s, file, front(&text, n));
     }
 }
 
 // How much is left of portions and entries, under a line that is refused because one of them ran out.
-pub fn left(s: Settings, file: usize, k: usize, a: Answer, links: &[u16], directory: &[u8]) {
+pub fn left(
+    rt: &impl Machine,
+    s: Settings,
+    file: usize,
+    k: usize,
+    a: Answer,
+    links: &[u16],
+    directory: &[u8],
+) {
     if is_full(a) {
         let mut text = [0u8; 512];
         let n = words::left(k, links, directory, &mut text);
-        complain_of(s, file, front(&text, n));
+        complain_of(rt, s, file, front(&text, n));
     }
 }
 
 // The line of a call.
-pub fn answer(s: Settings, file: usize, k: usize, a: Answer, line: &[u8]) {
+pub fn answer(rt: &impl Machine, s: Settings, file: usize, k: usize, a: Answer, line: &[u8]) {
     let mut text = [0u8; 512];
     let n = words::said(k, a, front(line, 255), &mut text);
     if is_taken(a) {
-        say_file(s, file, true);
-        say(s, front(&text, n));
+        say_file(rt, s, file, true);
+        say(rt, s, front(&text, n));
     } else {
-        complain_of(s, file, front(&text, n));
-        point(s, file, k, a);
+        complain_of(rt, s, file, front(&text, n));
+        point(rt, s, file, k, a);
     }
 }
 
 // The line of a label.
-pub fn label(s: Settings, after: Session, name: &[u8], page: &[u8]) {
+pub fn label(rt: &impl Print, s: Settings, after: Session, name: &[u8], page: &[u8]) {
     let mut text = [0u8; 4352];
     let drawn = after.drawn as usize;
     let all = drawn + after.owed as usize;
@@ -90,12 +114,12 @@ pub fn label(s: Settings, after: Session, name: &[u8], page: &[u8]) {
     let rows = after.length as usize;
     let black = pages::black_dots(page);
     let k = reports::label(drawn, all, name, width, rows, black, &mut text);
-    say(s, front(&text, k));
+    say(rt, s, front(&text, k));
 }
 
 // The last line.
-pub fn sum(s: Settings, taken: usize, refused: usize, labels: usize) {
+pub fn sum(rt: &impl Print, s: Settings, taken: usize, refused: usize, labels: usize) {
     let mut text = [0u8; 128];
     let k = reports::sum(taken, refused, labels, &mut text);
-    say(s, front(&text, k));
+    say(rt, s, front(&text, k));
 }

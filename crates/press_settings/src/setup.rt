@@ -1,18 +1,23 @@
 // The command line, the font, the files: each is found good before anything is done.
 use crate::saying::{complain, failed, wrong};
-use crate::{Question, Settings};
+use crate::system::{argument, argument_count, name_room, open_read, read_full};
+use crate::{Machine, Question, Settings};
 use ground::{both, capped_sum, front};
 use numbers::NOUGHT;
 use options::{Kind, Number, Word};
+use std::fs::File;
+use std::io::Read;
 
-fn usage(s: Settings) -> Settings {
+fn usage(rt: &impl Machine, s: Settings) -> Settings {
     complain(
+        rt,
         b"usage: press [-rows N] [-font F] [-out PREFIX] [-store FILE] [-zone MINUTES] [-noclock] [-quiet] [FILE ..]\n",
     );
     complain(
+        rt,
         b"   or: press [-rows N] [-store FILE] [-quiet] -fits form NAME | picture NAME SIZE\n",
     );
-    complain(b"   or: press [-rows N] [-quiet] -repair -store FILE\n");
+    complain(rt, b"   or: press [-rows N] [-quiet] -repair -store FILE\n");
     let mut bad = s;
     bad.good = false;
     bad.over = true;
@@ -20,17 +25,17 @@ fn usage(s: Settings) -> Settings {
 }
 
 // An option that is not one, or lacks its value.
-fn refuse(s: Settings, text: &[u8], why: &[u8]) -> Settings {
-    wrong(text, why);
-    usage(s)
+fn refuse(rt: &impl Machine, s: Settings, text: &[u8], why: &[u8]) -> Settings {
+    wrong(rt, text, why);
+    usage(rt, s)
 }
 
-fn number_of_rows(s: Settings) -> Settings {
-    let mut text = io::buffer();
-    let n = os::arg(capped_sum(s.at, 1), &mut text);
+fn number_of_rows(rt: &impl Machine, s: Settings) -> Settings {
+    let mut text = name_room();
+    let n = argument(rt, capped_sum(s.at, 1), &mut text);
     let rows = options::rows(front(&text, n));
     if rows == 0 {
-        return refuse(s, b"-rows", b" needs a number from 1 to 4000\n");
+        return refuse(rt, s, b"-rows", b" needs a number from 1 to 4000\n");
     }
     let mut next = s;
     next.rows = rows;
@@ -38,12 +43,13 @@ fn number_of_rows(s: Settings) -> Settings {
     next
 }
 
-fn zone(s: Settings) -> Settings {
-    let mut text = io::buffer();
-    let n = os::arg(capped_sum(s.at, 1), &mut text);
+fn zone(rt: &impl Machine, s: Settings) -> Settings {
+    let mut text = name_room();
+    let n = argument(rt, capped_sum(s.at, 1), &mut text);
     let zone = options::zone(front(&text, n));
     if zone == 0 {
         return refuse(
+            rt,
             s,
             b"-zone",
             b" needs the minutes ahead of UTC, from -1439 to +1439\n",
@@ -56,17 +62,18 @@ fn zone(s: Settings) -> Settings {
 }
 
 // An option with a name behind it: font, out or store.
-fn name(s: Settings, text: &[u8]) -> Settings {
+fn name(rt: &impl Machine, s: Settings, text: &[u8]) -> Settings {
     if s.count <= capped_sum(s.at, 1) {
-        return refuse(s, text, b" needs a name\n");
+        return refuse(rt, s, text, b" needs a name\n");
     }
     let mut next = s;
     next.at = capped_sum(s.at, 2);
     next
 }
 
-fn unasked(s: Settings) -> Settings {
+fn unasked(rt: &impl Machine, s: Settings) -> Settings {
     refuse(
+        rt,
         s,
         b"-fits",
         b" needs form NAME, or picture NAME SIZE with SIZE in 1 to 9 digits\n",
@@ -74,11 +81,10 @@ fn unasked(s: Settings) -> Settings {
 }
 
 // What is asked for, where its name can be shown again; so many words tell it.
-fn asked(s: Settings, question: Question, words: usize) -> Settings {
-    let mut text = io::buffer();
-    os::arg(question.name, &mut text);
-    if os::errno() != 0 {
-        return refuse(s, b"a name", b" is too long\n");
+fn asked(rt: &impl Machine, s: Settings, question: Question, words: usize) -> Settings {
+    let mut text = name_room();
+    if rt.arg(question.name, &mut text).is_err() {
+        return refuse(rt, s, b"a name", b" is too long\n");
     }
     let mut next = s;
     next.asked = question;
@@ -86,58 +92,63 @@ fn asked(s: Settings, question: Question, words: usize) -> Settings {
     next
 }
 
-fn asked_form(s: Settings) -> Settings {
+fn asked_form(rt: &impl Machine, s: Settings) -> Settings {
     let name = capped_sum(s.at, 2);
     if s.count <= name {
-        return unasked(s);
+        return unasked(rt, s);
     }
     let question = Question {
         name: name,
         picture: false,
         size: 0,
     };
-    asked(s, question, 3)
+    asked(rt, s, question, 3)
 }
 
-fn asked_picture(s: Settings) -> Settings {
-    let mut text = io::buffer();
-    let n = os::arg(capped_sum(s.at, 3), &mut text);
+fn asked_picture(rt: &impl Machine, s: Settings) -> Settings {
+    let mut text = name_room();
+    let n = argument(rt, capped_sum(s.at, 3), &mut text);
     let Number::Of(size) = options::whole_number(front(&text, n)) else {
-        return unasked(s);
+        return unasked(rt, s);
     };
     let question = Question {
         name: capped_sum(s.at, 2),
         picture: true,
         size: size,
     };
-    asked(s, question, 4)
+    asked(rt, s, question, 4)
 }
 
 // One store cannot be asked as it is and be repaired.
-fn both_asked(s: Settings) -> Settings {
-    refuse(s, b"-fits", b" and -repair do not go together\n")
+fn both_asked(rt: &impl Machine, s: Settings) -> Settings {
+    refuse(rt, s, b"-fits", b" and -repair do not go together\n")
 }
 
 // -fits and what is asked for. Of two questions one would go without its answer.
-fn question(s: Settings) -> Settings {
+fn question(rt: &impl Machine, s: Settings) -> Settings {
     if s.asked.name != 0 {
-        return refuse(s, b"-fits", b" asks for one form or picture, not for two\n");
+        return refuse(
+            rt,
+            s,
+            b"-fits",
+            b" asks for one form or picture, not for two\n",
+        );
     }
     if s.repair {
-        return both_asked(s);
+        return both_asked(rt, s);
     }
-    let mut text = io::buffer();
-    let n = os::arg(capped_sum(s.at, 1), &mut text);
+    let mut text = name_room();
+    let n = argument(rt, capped_sum(s.at, 1), &mut text);
     match options::kind_of(front(&text, n)) {
-        Kind::Form => asked_form(s),
-        Kind::Picture => asked_picture(s),
-        Kind::Neither => unasked(s),
+        Kind::Form => asked_form(rt, s),
+        Kind::Picture => asked_picture(rt, s),
+        Kind::Neither => unasked(rt, s),
     }
 }
 
-fn repair(s: Settings) -> Settings {
+fn repair(rt: &impl Machine, s: Settings) -> Settings {
     if s.asked.name != 0 {
-        return both_asked(s);
+        return both_asked(rt, s);
     }
     let mut next = s;
     next.repair = true;
@@ -146,9 +157,10 @@ fn repair(s: Settings) -> Settings {
 }
 
 // The first file of commands, with which the options end. Who asks or repairs names none, so that nobody takes its commands for done.
-fn first_file(s: Settings, text: &[u8]) -> Settings {
+fn first_file(rt: &impl Machine, s: Settings, text: &[u8]) -> Settings {
     if s.repair {
         return refuse(
+            rt,
             s,
             text,
             b" is one word too many: -repair reads no commands, and takes no file\n",
@@ -156,6 +168,7 @@ fn first_file(s: Settings, text: &[u8]) -> Settings {
     }
     if s.asked.name != 0 {
         return refuse(
+            rt,
             s,
             text,
             b" is one word too many: -fits reads no commands, and takes no file\n",
@@ -182,49 +195,48 @@ fn without_clock(s: Settings) -> Settings {
     next
 }
 
-fn option(s: Settings) -> Settings {
-    let mut text = io::buffer();
-    let n = os::arg(s.at, &mut text);
-    if os::errno() != 0 {
-        return refuse(s, b"an argument", b" is too long\n");
-    }
+fn option(rt: &impl Machine, s: Settings) -> Settings {
+    let mut text = name_room();
+    let Ok(n) = rt.arg(s.at, &mut text) else {
+        return refuse(rt, s, b"an argument", b" is too long\n");
+    };
     let word = front(&text, n);
     match options::word_of(word) {
-        Word::Rows => number_of_rows(s),
+        Word::Rows => number_of_rows(rt, s),
         Word::Font => {
-            let mut next = name(s, word);
+            let mut next = name(rt, s, word);
             next.font = capped_sum(s.at, 1);
             next
         }
         Word::Out => {
-            let mut next = name(s, word);
+            let mut next = name(rt, s, word);
             next.out = capped_sum(s.at, 1);
             next
         }
         Word::Store => {
-            let mut next = name(s, word);
+            let mut next = name(rt, s, word);
             next.store = capped_sum(s.at, 1);
             next
         }
         Word::Quiet => quiet(s),
-        Word::Zone => zone(s),
+        Word::Zone => zone(rt, s),
         Word::NoClock => without_clock(s),
-        Word::Fits => question(s),
-        Word::Repair => repair(s),
-        Word::Unknown => refuse(s, word, b" is no option\n"),
-        Word::File => first_file(s, word),
+        Word::Fits => question(rt, s),
+        Word::Repair => repair(rt, s),
+        Word::Unknown => refuse(rt, s, word, b" is no option\n"),
+        Word::File => first_file(rt, s, word),
     }
 }
 
 // The words of the command line, one after the other, up to the first file.
-fn words_read() -> Settings {
+fn words_read(rt: &impl Machine) -> Settings {
     let mut s = Settings {
         rows: 0,
         font: 0,
         out: 0,
         store: 0,
         files: 0,
-        count: os::arg_count(),
+        count: argument_count(rt),
         asked: Question {
             name: 0,
             picture: false,
@@ -239,94 +251,106 @@ fn words_read() -> Settings {
         at: 1,
         over: false,
     };
-    let mut left: u64 = 65536;
-    while 0 < left {
+    for _ in 0..65536u32 {
         if s.over {
             return s;
         }
         if s.count <= s.at {
             return s;
         }
-        s = option(s);
-        left -= 1;
+        s = option(rt, s);
     }
     s
 }
 
 // The command line. A store that is to be repaired must be named, before the word -repair or behind it.
-pub fn command_line() -> Settings {
-    let s = words_read();
+pub fn command_line(rt: &impl Machine) -> Settings {
+    let s = words_read(rt);
     if both(both(s.good, s.repair), s.store == 0) {
-        return refuse(s, b"-repair", b" needs -store FILE\n");
+        return refuse(rt, s, b"-repair", b" needs -store FILE\n");
     }
     s
 }
 
 // The font's bytes at the front of a buffer, how many they are; 0 where it is none.
-pub fn font(s: Settings, font: &mut [u8]) -> usize {
+pub fn font(rt: &impl Machine, s: Settings, font: &mut [u8]) -> usize {
     if s.font == 0 {
         let plain = plainfont::bytes();
         ground::put(font, 0, &plain);
         return 1908;
     }
-    let mut text = io::buffer();
-    let n = os::arg(s.font, &mut text);
+    let mut text = name_room();
+    let n = argument(rt, s.font, &mut text);
     let name = front(&text, n);
-    let fd = os::open_read(name);
-    if fd < 0 {
-        failed(b"cannot open the font ", name);
-        return 0;
+    match open_read(rt, name) {
+        Ok(file) => read_font(rt, name, file, font),
+        Err(why) => {
+            failed(rt, b"cannot open the font ", name, why);
+            0
+        }
     }
-    let k = io::read_full(fd, font);
-    libc::close(fd);
+}
+
+// The same of a font file that is open.
+fn read_font(rt: &impl Machine, name: &[u8], file: File, font: &mut [u8]) -> usize {
+    let mut open = file;
+    let k = read_full(&mut open, font);
     if !font::is_legal(front(font, k)) {
-        wrong(name, b" is no font: it breaks the rules of a font file\n");
+        wrong(
+            rt,
+            name,
+            b" is no font: it breaks the rules of a font file\n",
+        );
         return 0;
     }
     k
 }
 
 // Whether a file can be opened and read.
-fn readable_file(i: usize) -> bool {
-    let mut text = io::buffer();
-    let n = os::arg(i, &mut text);
+fn readable_file(rt: &impl Machine, i: usize) -> bool {
+    let mut text = name_room();
+    let n = argument(rt, i, &mut text);
     let name = front(&text, n);
-    let fd = os::open_read(name);
-    if fd < 0 {
-        failed(b"cannot open ", name);
-        return false;
+    match open_read(rt, name) {
+        Ok(file) => gives_a_byte(rt, name, file),
+        Err(why) => {
+            failed(rt, b"cannot open ", name, why);
+            false
+        }
     }
+}
+
+// Whether a file that is open can be read: its first byte is asked for.
+fn gives_a_byte(rt: &impl Machine, name: &[u8], file: File) -> bool {
+    let mut open = file;
     let mut one = [0u8; 1];
-    let got = libc::read(fd, &mut one);
-    if got < 0 {
-        failed(b"cannot read ", name);
-        libc::close(fd);
-        return false;
+    match open.read(&mut one) {
+        Ok(_) => true,
+        Err(why) => {
+            failed(rt, b"cannot read ", name, why);
+            false
+        }
     }
-    libc::close(fd);
-    true
 }
 
 // Whether all files can be.
-pub fn readable(s: Settings) -> bool {
+pub fn readable(rt: &impl Machine, s: Settings) -> bool {
     if s.files == 0 {
         return true;
     }
-    let mut i = s.files;
-    while i < s.count {
-        if !readable_file(i) {
+    for i in s.files..s.count {
+        if !readable_file(rt, i) {
             return false;
         }
-        i += 1;
     }
     true
 }
 
 // What the names of pictures start with.
-pub fn prefix(s: Settings, text: &mut [u8]) -> usize {
+pub fn prefix(rt: &impl Machine, s: Settings, text: &mut [u8]) -> usize {
     if s.out == 0 {
         ground::put(text, 0, b"label");
         return 5;
     }
-    os::arg(s.out, text)
+    argument(rt, s.out, text)
 }

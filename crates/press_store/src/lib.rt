@@ -3,22 +3,40 @@
 // What the store's file is, byte by byte, is said in crates `lasting` and `slots`. Here it is opened, read, written and named. Who only looks at a store finds and
 // loads it, and nothing is written; a run begins from there. A whole new file is on disk before it takes the name of the old one; session and values alone go
 // into the slot that does not hold the last ones.
+#![tactic(auto)]
+
 pub mod rooms; // room for what is lent
 
 use dots::BYTES_A_ROW;
 use ground::{back, both, either, front, least, put};
 use lasting::{MOST_ROWS, Verdict};
-use press_settings::Settings;
 use press_settings::saying::{failed, wrong};
+use press_settings::system::{
+    argument, create, name_room, open_read, open_update, read_full, remove, rename,
+};
+use press_settings::{Machine, Settings};
 use session::{Session, sixteen_bits};
+use std::fs::{File, OpenFile};
+use std::io;
+use std::io::{ErrorKind, Read, Write};
+use std::os::unix::fs::FileExt;
+use std::rt::Files;
 
-// What is known between two turns. A descriptor that is not there is -1; store is the argument that names the store, 0 for none, and file the one that is read,
-// 0 for standard input; ready says that a command stands at the front of what is read. moment is the machine's second up to which the clock was moved.
-#[derive(Clone, Copy)]
+// Where commands are read: nowhere yet, standard input, or a file of the command line.
+#[derive(Drop)]
+pub enum Source {
+    Nowhere,
+    Input,
+    Named(File),
+}
+
+// What is known between two turns. store is the argument that names the store, 0 for none, and file the one that is read, 0 for standard input; ready says that a
+// command stands at the front of what is read. kept is the store's file, open for change. moment is the machine's second up to which the clock was moved.
+#[derive(Drop)]
 pub struct Run {
     pub session: Session,
     pub store: usize,
-    pub from: i32,
+    pub from: Source,
     pub file: usize,
     pub start: usize,
     pub end: usize,
@@ -31,7 +49,7 @@ pub struct Run {
     pub labels: usize,
     pub pictures: u32,
     pub order: u32,
-    pub kept: i32,
+    pub kept: Option<File>,
     pub moment: usize,
     pub over: bool,
     pub failed: bool,
@@ -61,32 +79,34 @@ pub fn next_number(n: u32) -> u32 {
 }
 
 // The bytes of the store file, at the front of a buffer; how many they are. 0 where there is no store or no such file.
-pub fn found(s: Settings, path: &[u8], file: &mut [u8]) -> usize {
+pub fn found(rt: &impl Files, s: Settings, path: &[u8], file: &mut [u8]) -> usize {
     if s.store == 0 {
         return 0;
     }
-    let fd = os::open_read(path);
-    if fd < 0 {
-        return 0;
+    match open_read(rt, path) {
+        Ok(stored) => all_of(stored, file),
+        Err(_) => 0,
     }
-    let n = io::read_full(fd, file);
-    libc::close(fd);
-    n
 }
 
-fn present(path: &[u8]) -> bool {
-    let fd = os::open_read(path);
-    if fd < 0 {
-        return os::errno() != libc::ENOENT;
+// The bytes of a file that is open, as far as they can be read; how many they are.
+fn all_of(stored: impl Read + Drop, file: &mut [u8]) -> usize {
+    let mut open = stored;
+    read_full(&mut open, file)
+}
+
+fn present(rt: &impl Files, path: &[u8]) -> bool {
+    match open_read(rt, path) {
+        Ok(_) => true,
+        Err(why) => why.kind() != ErrorKind::NotFound,
     }
-    libc::close(fd);
-    true
 }
 
 // Whether a file in which no bytes were found is not there. One that is there is refused, so that it is not taken for a new one.
-pub fn missing(path: &[u8]) -> bool {
-    if present(path) {
+pub fn missing(rt: &impl Machine, path: &[u8]) -> bool {
+    if present(rt, path) {
         wrong(
+            rt,
             path,
             b" cannot be read, or is empty: not a store; it is left as it is\n",
         );
@@ -95,40 +115,49 @@ pub fn missing(path: &[u8]) -> bool {
     true
 }
 
-fn refuse(path: &[u8], why: &[u8]) -> usize {
-    wrong(path, why);
+fn refuse(rt: &impl Machine, path: &[u8], why: &[u8]) -> usize {
+    wrong(rt, path, why);
     0
 }
 
 // How many rows the run has; 0 where it cannot be: the file is not a store, and is left as it is.
-fn rows(s: Settings, path: &[u8], known: usize, file: &[u8]) -> usize {
+fn rows(rt: &impl Machine, s: Settings, path: &[u8], known: usize, file: &[u8]) -> usize {
     let asked = if s.rows == 0 { 800 } else { s.rows };
     if s.store == 0 {
         return asked;
     }
     if known == 0 {
-        return if missing(path) { asked } else { 0 };
+        return if missing(rt, path) { asked } else { 0 };
     }
     let rows = lasting::rows(file);
     match lasting::judge(file) {
         Verdict::Foreign => refuse(
+            rt,
             path,
             b" is not a store of this station; it is left as it is\n",
         ),
         Verdict::Version => refuse(
+            rt,
             path,
             b" is a store of another version; it is left as it is\n",
         ),
-        Verdict::Sizes => refuse(path, b" is a store of other sizes; it is left as it is\n"),
+        Verdict::Sizes => refuse(
+            rt,
+            path,
+            b" is a store of other sizes; it is left as it is\n",
+        ),
         Verdict::Length => refuse(
+            rt,
             path,
             b" is cut short or too long for a store; it is left as it is\n",
         ),
         Verdict::Damaged => refuse(
+            rt,
             path,
             b" is damaged: its sum is wrong; it is left as it is\n",
         ),
         Verdict::Slots => refuse(
+            rt,
             path,
             b" is damaged: no session in it is whole; it is left as it is\n",
         ),
@@ -140,6 +169,7 @@ fn rows(s: Settings, path: &[u8], known: usize, file: &[u8]) -> usize {
                 return rows;
             }
             refuse(
+                rt,
                 path,
                 b" is a store of another number of rows than -rows says; it is left as it is\n",
             )
@@ -148,12 +178,12 @@ fn rows(s: Settings, path: &[u8], known: usize, file: &[u8]) -> usize {
 }
 
 // The store that the command line names, or a new one: its file in a buffer, and the sizes that follow from it.
-pub fn find(s: Settings, file: &mut [u8]) -> Sizes {
-    let mut text = io::buffer();
-    let k = os::arg(s.store, &mut text);
+pub fn find(rt: &impl Machine, s: Settings, file: &mut [u8]) -> Sizes {
+    let mut text = name_room();
+    let k = argument(rt, s.store, &mut text);
     let path = front(&text, k);
-    let known = found(s, path, file);
-    let n = rows(s, path, known, front(file, known));
+    let known = found(rt, s, path, file);
+    let n = rows(rt, s, path, known, front(file, known));
     Sizes {
         known: known,
         page: BYTES_A_ROW * least(n, MOST_ROWS),
@@ -165,7 +195,7 @@ fn idle(s: Settings, session: Session) -> Run {
     Run {
         session: session,
         store: s.store,
-        from: -1,
+        from: Source::Nowhere,
         file: s.files,
         start: 0,
         end: 0,
@@ -178,7 +208,7 @@ fn idle(s: Settings, session: Session) -> Run {
         labels: 0,
         pictures: 0,
         order: 0,
-        kept: -1,
+        kept: None,
         moment: 0,
         over: false,
         failed: false,
@@ -193,112 +223,139 @@ pub fn stopped(run: Run) -> Run {
 }
 
 // The folder of a file, so that a new name in it lasts.
-pub fn sync_folder(path: &[u8]) {
+pub fn sync_folder(rt: &impl Files, path: &[u8]) {
     let n = file_names::folder_length(path);
-    let fd = if n == 0 {
-        os::open_read(b".")
-    } else {
-        os::open_read(front(path, n))
-    };
-    if fd < 0 {
-        return;
+    let folder = if n == 0 { b"." } else { front(path, n) };
+    if let Ok(open) = open_read(rt, folder) {
+        let _ = open.sync_all();
     }
-    libc::fsync(fd);
-    libc::close(fd);
 }
 
-fn give_up(fd: i32, name: &[u8]) -> i32 {
-    failed(b"cannot write ", name);
-    libc::close(fd);
-    os::unlink(name);
-    -1
+fn give_up(rt: &impl Machine, file: File, name: &[u8], why: io::Error) {
+    failed(rt, b"cannot write ", name, why);
+    drop(file);
+    let _ = remove(rt, name);
 }
 
-// The bytes of a file that is open, on disk; where they cannot be, that is told and the file is removed.
-pub fn written(fd: i32, name: &[u8], bytes: &[u8]) -> bool {
-    if io::write_all(fd, bytes) {
-        if libc::fsync(fd) == 0 {
-            return true;
+fn synced(file: &mut File, bytes: &[u8]) -> io::Result<()> {
+    file.write_all(bytes)?;
+    file.sync_all()
+}
+
+// A file that is open, with these bytes on disk; where they cannot be, that is told and the file is removed.
+pub fn written(rt: &impl Machine, file: File, name: &[u8], bytes: &[u8]) -> Option<File> {
+    let mut open = file;
+    match synced(&mut open, bytes) {
+        Ok(()) => Some(open),
+        Err(why) => {
+            give_up(rt, open, name, why);
+            None
         }
     }
-    give_up(fd, name);
-    false
 }
 
-// A whole new file, on disk before it takes the name of the old one; its descriptor, or -1.
-fn save_whole(path: &[u8], bytes: &[u8]) -> i32 {
-    let mut text = io::buffer();
+// A whole new file, on disk before it takes the name of the old one; none where that failed.
+fn save_whole(rt: &impl Machine, path: &[u8], bytes: &[u8]) -> Option<File> {
+    let mut text = name_room();
     let n = sentences::joined(path, b".new", &mut text);
     let name = front(&text, n);
-    let fd = os::open_overwrite(name);
-    if fd < 0 {
-        failed(b"cannot make ", name);
-        return -1;
+    match create(rt, name) {
+        Ok(file) => renamed(rt, written(rt, file, name, bytes)?, name, path),
+        Err(why) => {
+            failed(rt, b"cannot make ", name, why);
+            None
+        }
     }
-    if !written(fd, name, bytes) {
-        return -1;
-    }
-    if os::rename(name, path) != 0 {
-        return give_up(fd, path);
-    }
-    sync_folder(path);
-    fd
 }
+
+// A file that is on disk, under the name that it is to have.
+fn renamed(rt: &impl Machine, file: File, name: &[u8], path: &[u8]) -> Option<File> {
+    match rename(rt, name, path) {
+        Ok(()) => {
+            sync_folder(rt, path);
+            Some(file)
+        }
+        Err(why) => {
+            give_up(rt, file, path, why);
+            None
+        }
+    }
+}
+
+// The system's number for a file that is not open.
+const NOT_OPEN: i32 = 9;
 
 // Session and values alone: the slot that does not hold the last ones.
 pub fn save_slot(
-    run: Run,
+    run: &Run,
     session: Session,
     pictures: u32,
     values: &[u8],
     file: &mut [u8],
-) -> bool {
+) -> io::Result<()> {
     let order = next_number(run.order);
     slots::put_slot(file, order, pictures, session, values);
     let at = slots::slot_at(order);
-    let got = libc::pwrite(run.kept, front(back(file, at), slots::SLOT), at as i64);
-    if got != slots::SLOT as isize {
-        return false;
+    match run.kept.as_ref() {
+        Some(kept) => write_slot(kept, front(back(file, at), slots::SLOT), at),
+        None => Err(io::Error::from_raw_os_error(NOT_OPEN)),
     }
-    libc::fdatasync(run.kept) == 0
+}
+
+// A slot in its place, on disk: with one write, so that none is half new.
+fn write_slot(kept: &File, slot: &[u8], at: usize) -> io::Result<()> {
+    let n = kept.write_at(slot, at as u64)?;
+    if n != slots::SLOT {
+        return Err(io::Error::from(ErrorKind::WriteZero));
+    }
+    kept.sync_data()
 }
 
 // All of it: head, body and the first slot, in a file of n bytes that has head and body.
-fn save_all(run: Run, n: usize, values: &[u8], file: &mut [u8], next: &mut [u8]) -> Run {
-    let mut text = io::buffer();
-    let k = os::arg(run.store, &mut text);
+fn save_all(
+    rt: &impl Machine,
+    run: Run,
+    n: usize,
+    values: &[u8],
+    file: &mut [u8],
+    next: &mut [u8],
+) -> Run {
+    let mut text = name_room();
+    let k = argument(rt, run.store, &mut text);
     let session = run.session;
     lasting::seal(next);
     slots::put_slot(next, 1, run.pictures, session, values);
-    let fd = save_whole(front(&text, k), front(next, n));
-    if fd < 0 {
+    let Some(kept) = save_whole(rt, front(&text, k), front(next, n)) else {
         return stopped(run);
-    }
-    libc::close(run.kept);
+    };
     put(file, 0, front(next, n));
     let mut r = run;
-    r.kept = fd;
+    r.kept = Some(kept);
     r.order = 1;
     r
 }
 
-// Session and values, where nothing else has changed. The name is at hand before anything can fail: asking for an argument would hide why it did.
-fn save_state(run: Run, values: &[u8], file: &mut [u8]) -> Run {
-    let mut text = io::buffer();
-    let n = os::arg(run.store, &mut text);
-    let session = run.session;
-    if save_slot(run, session, run.pictures, values, file) {
-        let mut r = run;
-        r.order = next_number(run.order);
-        return r;
+// Session and values, where nothing else has changed.
+fn save_state(rt: &impl Machine, run: Run, values: &[u8], file: &mut [u8]) -> Run {
+    let mut text = name_room();
+    let n = argument(rt, run.store, &mut text);
+    match save_slot(&run, run.session, run.pictures, values, file) {
+        Ok(()) => {
+            let mut r = run;
+            r.order = next_number(r.order);
+            r
+        }
+        Err(why) => {
+            failed(rt, b"cannot save to ", front(&text, n), why);
+            stopped(run)
+        }
     }
-    failed(b"cannot save to ", front(&text, n));
-    stopped(run)
 }
 
 // What is changed, saved where there is a store: all of it into a new file, session and values alone into the file that is kept open. A file of version 1 has no room
 // for the formats, so that a command makes a whole new one of it; a label changes none.
 pub fn save(
+    rt: &impl Machine,
     run: Run,
     changed: bool,
     background: &[u8],
@@ -316,10 +373,13 @@ pub fn save(
     let body = lasting::BODY_AT;
     let same = writing::same(back(front(&next, n), body), back(front(file, n), body));
     let current = !slots::is_first(file);
-    if both(both(same, current), both(0 <= run.kept, run.order < LAST)) {
-        return save_state(run, values, file);
+    if both(
+        both(same, current),
+        both(run.kept.is_some(), run.order < LAST),
+    ) {
+        return save_state(rt, run, values, file);
     }
-    save_all(run, n, values, file, &mut next)
+    save_all(rt, run, n, values, file, &mut next)
 }
 
 // The store as it stands, in what is lent: a new one where its file has no bytes, else loaded from the slot that holds, and good if it is sound.
@@ -363,6 +423,7 @@ pub fn loaded(
 
 // The same of a file that was found good; one that is not sound is refused. Nothing is written.
 pub fn load(
+    rt: &impl Machine,
     s: Settings,
     background: &mut [u8],
     store: &mut [u8],
@@ -373,37 +434,46 @@ pub fn load(
 ) -> Start {
     let start = loaded(background, store, links, directory, values, file);
     if !start.good {
-        let mut text = io::buffer();
-        let n = os::arg(s.store, &mut text);
-        wrong(front(&text, n), b" is not sound; it is left as it is\n");
+        let mut text = name_room();
+        let n = argument(rt, s.store, &mut text);
+        wrong(rt, front(&text, n), b" is not sound; it is left as it is\n");
     }
     start
 }
 
 // A run from slot k of a store, which is kept open for change.
-fn admitted(first: Run, k: usize, file: &[u8]) -> Run {
-    let mut text = io::buffer();
-    let n = os::arg(first.store, &mut text);
+fn admitted(rt: &impl Machine, first: Run, k: usize, file: &[u8]) -> Run {
+    let mut text = name_room();
+    let n = argument(rt, first.store, &mut text);
     let path = front(&text, n);
-    let mut r = first;
-    r.pictures = slots::pictures_of(file, k);
-    r.order = slots::order_of(file, k);
-    r.kept = os::open_update(path);
-    if r.kept < 0 {
-        failed(b"cannot change ", path);
-        return stopped(first);
+    match open_update(rt, path) {
+        Ok(kept) => resumed(rt, first, kept, k, path, file),
+        Err(why) => {
+            failed(rt, b"cannot change ", path, why);
+            stopped(first)
+        }
     }
+}
+
+// The same of a store that is open.
+fn resumed(rt: &impl Machine, first: Run, kept: File, k: usize, path: &[u8], file: &[u8]) -> Run {
     if slots::torn(file, 1 - k % 2) {
         wrong(
+            rt,
             path,
             b": the last change was cut short; the state before it holds\n",
         );
     }
+    let mut r = first;
+    r.pictures = slots::pictures_of(file, k);
+    r.order = slots::order_of(file, k);
+    r.kept = Some(kept);
     r
 }
 
 // The run as it begins: with no store, with a new one, which is made, or with one that is loaded.
 pub fn begin(
+    rt: &impl Machine,
     s: Settings,
     known: usize,
     background: &mut [u8],
@@ -414,6 +484,7 @@ pub fn begin(
     file: &mut [u8],
 ) -> Run {
     let start = load(
+        rt,
         s,
         background,
         store,
@@ -429,8 +500,8 @@ pub fn begin(
     }
     if known == 0 {
         return save(
-            first, true, background, store, links, directory, values, file,
+            rt, first, true, background, store, links, directory, values, file,
         );
     }
-    admitted(first, start.slot, file)
+    admitted(rt, first, start.slot, file)
 }

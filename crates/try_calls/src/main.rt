@@ -6,6 +6,8 @@
 // the lengths of session, counts, page, background, store, links, directory, values and output; after them `C` has the length of its input and the input, `W` the
 // kind, the size in 8 bytes, the length of the name and the name, `T` the seconds in 8 bytes, and `R` the rows in 8 bytes. A desk has room for more than a call is lent. `stdout` has a line
 // for each call: its number, the answer, the three counts, and a digest of all slices, the room beyond what was lent included. Both files are those of peer/vectors.
+#![tactic(auto)]
+
 ghost use Rattle.std.specs.Prelude.{◌≡◌, length};
 
 mod one_call; // one call
@@ -13,6 +15,9 @@ mod one_call; // one call
 use file_parts::{part, two_at};
 use ground::{back, byte};
 use one_call::call;
+use std::fs::File;
+use std::io;
+use std::io::Read;
 use try_desk::{Desk, changed, line, new_desk, without_counts};
 
 // The desk, where the next record stands, how many calls were made, and where the font stands.
@@ -61,27 +66,27 @@ fn shown(record: &[u8], after: Desk) -> Desk {
 }
 
 // O, C, L, W, T and R
-fn called(file: &[u8], r: Progress, record: &[u8]) -> Progress {
+fn called(out: &impl Print, file: &[u8], r: Progress, record: &[u8]) -> io::Result<Progress> {
     let desk = r.desk;
     let after = call(record, part(file, r.font, r.length), desk);
     let calls = ground::capped_sum(r.calls, 1);
-    line(calls, shown(record, after));
+    line(out, calls, shown(record, after))?;
     let mut next = moved(r, size(record));
     next.desk = after;
     next.calls = calls;
-    next
+    Ok(next)
 }
 
 // One record.
-fn one(file: &[u8], r: Progress) -> Progress {
+fn one(out: &impl Print, file: &[u8], r: Progress) -> io::Result<Progress> {
     let record = back(file, r.at);
     match byte(record, 0) {
         b'S' => {
             let mut next = moved(r, 2);
             next.desk = new_desk(byte(record, 1));
-            next
+            Ok(next)
         }
-        b'F' => font(r, record),
+        b'F' => Ok(font(r, record)),
         b'K' => {
             let desk = r.desk;
             let mut next = moved(r, 5);
@@ -91,14 +96,14 @@ fn one(file: &[u8], r: Progress) -> Progress {
                 two_at(record, 2) as usize,
                 byte(record, 4),
             );
-            next
+            Ok(next)
         }
-        _ => called(file, r, record),
+        _ => called(out, file, r, record),
     }
 }
 
 // No record is empty, so that there are no more of them than bytes.
-fn replay(file: &[u8]) {
+fn replay(out: &impl Print, file: &[u8]) -> io::Result<()> {
     let desk = new_desk(0);
     let mut r = Progress {
         desk: desk,
@@ -107,14 +112,13 @@ fn replay(file: &[u8]) {
         font: 0,
         length: 0,
     };
-    let mut k: usize = 0;
-    while k < file.len() {
+    for _ in 0..file.len() {
         if file.len() <= r.at {
-            return;
+            return Ok(());
         }
-        r = one(file, r);
-        k += 1;
+        r = one(out, file, r)?;
     }
+    Ok(())
 }
 
 // Room for the file of calls: zeros, of which only the number is promised, so that nobody counts them one by one.
@@ -124,10 +128,24 @@ fn room() -> [u8; 131072]
     [0; 131072]
 }
 
-fn main() {
+// The bytes that are read until the buffer is full or the file ends, and how many there are at the buffer's front.
+fn read_full(input: &mut impl Read, buffer: &mut [u8]) -> io::Result<usize> {
+    let mut done = 0;
+    for _ in 0..u64::MAX {
+        if buffer.len() <= done {
+            return Ok(done);
+        }
+        match input.read(&mut buffer[done..])? {
+            0 => return Ok(done),
+            n => done = ground::capped_sum(done, n),
+        }
+    }
+    Ok(done)
+}
+
+fn main(rt: HostRuntime) -> io::Result<()> {
     let mut bytes = room();
-    let calls = os::open_read(b"calls.bin");
-    let n = io::read_full(calls, &mut bytes);
-    libc::close(calls);
-    replay(&bytes[..n]);
+    let mut calls = File::open(&rt, "calls.bin")?;
+    let n = read_full(&mut calls, &mut bytes)?;
+    replay(&rt, ground::front(&bytes, n))
 }

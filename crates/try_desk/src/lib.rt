@@ -1,6 +1,8 @@
 // The desk of the program that makes stored calls again: what lies on it, one byte of it changed, and the line that is written of it.
 //
 // A call is lent the front of each slice; the digest of a line takes all of every slice, so that it shows whether a call stayed within what it was lent.
+#![tactic(auto)]
+
 mod lines; // the line of a call
 
 pub use lines::line;

@@ -2,7 +2,7 @@
 ghost use Rattle.std.specs.Prelude.{◌<◌};
 
 use crate::Desk;
-use libc::STDOUT_FILENO;
+use std::io;
 
 fn wide(x: u32) -> u64
     ensures { result < 4294967296 }
@@ -23,10 +23,8 @@ fn mixed(digest: u32, b: u8) -> u32 {
 
 fn mixed_bytes(digest: u32, bytes: &[u8]) -> u32 {
     let mut d = digest;
-    let mut i = 0;
-    while i < bytes.len() {
-        d = mixed(d, bytes[i]);
-        i += 1;
+    for b in bytes {
+        d = mixed(d, *b);
     }
     d
 }
@@ -37,10 +35,8 @@ fn mixed_link(digest: u32, link: u16) -> u32 {
 
 fn mixed_links(digest: u32, links: &[u16]) -> u32 {
     let mut d = digest;
-    let mut i = 0;
-    while i < links.len() {
-        d = mixed_link(d, links[i]);
-        i += 1;
+    for link in links {
+        d = mixed_link(d, *link);
     }
     d
 }
@@ -70,19 +66,14 @@ fn digest(d: Desk) -> u32 {
     mixed_bytes(mixed_bytes(memory, &values), &output)
 }
 
-// A number, and what stands after it.
-fn say(n: u64, after: &[u8]) {
-    io::print_decimal(STDOUT_FILENO, n);
-    io::write_all(STDOUT_FILENO, after);
-}
-
-pub fn line(calls: usize, d: Desk) {
+pub fn line(out: &impl Print, calls: usize, d: Desk) -> io::Result<()> {
     let counts = d.counts;
-    say(calls as u64, b" ");
-    say(d.answer as u64, b" ");
-    say(counts[0], b" ");
-    say(counts[1], b" ");
-    say(counts[2], b" ");
-    io::print_hex(STDOUT_FILENO, digest(d) as u64, 8);
-    io::write_all(STDOUT_FILENO, b"\n");
+    println!(out;
+        "{calls} {} {} {} {} {:08x}",
+        d.answer,
+        counts[0],
+        counts[1],
+        counts[2],
+        digest(d)
+    )
 }

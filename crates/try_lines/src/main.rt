@@ -1,9 +1,11 @@
 // Tries every byte at every place of lines of paper 01, and then every part of them from their first byte on. It writes for each line how many are taken, how many
 // have not the written form, how many of these end too soon, how many are outside their limits, and a digest of all answers with their places.
+#![tactic(auto)]
+
 ghost use Rattle.std.specs.Prelude.{◌<◌};
 
-use libc::STDOUT_FILENO;
 use read::{Fault, Read};
+use std::io;
 
 #[derive(Clone, Copy)]
 struct Tally {
@@ -97,10 +99,8 @@ fn changed(line: &[u8], k: usize, place: usize, b: u8) -> u8 {
 // The line with another byte at a place.
 fn tried(line: &[u8], place: usize, b: u8, t: Tally) -> Tally {
     let mut copy = [0u8; 64];
-    let mut k = 0;
-    while k < 64 {
+    for k in 0..64usize {
         copy[k] = changed(line, k, place, b);
-        k += 1;
     }
     judged(parts::first(&copy, line.len()), t)
 }
@@ -111,20 +111,16 @@ fn low(b: usize) -> u8 {
 
 fn all_bytes(line: &[u8], place: usize, t: Tally) -> Tally {
     let mut tally = t;
-    let mut b: usize = 0;
-    while b < 256 {
+    for b in 0..256usize {
         tally = tried(line, place, low(b), tally);
-        b += 1;
     }
     tally
 }
 
 fn all_places(line: &[u8], t: Tally) -> Tally {
     let mut tally = t;
-    let mut place = 0;
-    while place < line.len() {
+    for place in 0..line.len() {
         tally = all_bytes(line, place, tally);
-        place += 1;
     }
     tally
 }
@@ -132,15 +128,13 @@ fn all_places(line: &[u8], t: Tally) -> Tally {
 // Every part of the line from its first byte on.
 fn all_starts(line: &[u8], t: Tally) -> Tally {
     let mut tally = t;
-    let mut k = 1;
-    while k < line.len() {
+    for k in 1..line.len() {
         tally = judged(parts::first(line, k), tally);
-        k += 1;
     }
     tally
 }
 
-fn show(line: &[u8]) {
+fn show(out: &impl Print, line: &[u8]) -> io::Result<()> {
     let none = Tally {
         taken: 0,
         form: 0,
@@ -149,59 +143,52 @@ fn show(line: &[u8]) {
         digest: 0,
     };
     let t = all_starts(line, all_places(line, none));
-    io::write_all(STDOUT_FILENO, line);
-    io::write_all(STDOUT_FILENO, b" taken ");
-    io::print_decimal(STDOUT_FILENO, t.taken);
-    io::write_all(STDOUT_FILENO, b" form ");
-    io::print_decimal(STDOUT_FILENO, t.form);
-    io::write_all(STDOUT_FILENO, b" soon ");
-    io::print_decimal(STDOUT_FILENO, t.soon);
-    io::write_all(STDOUT_FILENO, b" limit ");
-    io::print_decimal(STDOUT_FILENO, t.limit);
-    io::write_all(STDOUT_FILENO, b" digest ");
-    io::print_decimal(STDOUT_FILENO, t.digest);
-    io::write_all(STDOUT_FILENO, b"\n");
+    out.write_all(line)?;
+    println!(out;
+        " taken {} form {} soon {} limit {} digest {}",
+        t.taken, t.form, t.soon, t.limit, t.digest
+    )
 }
 
-fn main() {
-    show(b"Q240,24");
-    show(b"q80");
-    show(b"N");
-    show(b"R100,50");
-    show(b"ZT");
-    show(b"ZB");
-    show(b"LO10,10,100,200");
-    show(b"LE0,0,1,1");
-    show(b"LW5,6,7,8");
-    show(b"X10,10,3,360,250");
-    show(b"A0,0,0,1,1,N,V0L1V0M3.2V0R1");
-    show(b"A0,0,0,1,1,R,\"a\"C0\"b\"");
-    show(b"B0,0,0,E30,2,3,50,N,\"123456789012\"");
-    show(b"B0,0,0,3,2,3,50,B,C0");
-    show(b"B0,0,0,3,2,3,50,B,C,C0");
-    show(b"B0,0,0,3,2,3,50,B,R,\"R,\"");
-    show(b"GG0,0,\"Name\"");
-    show(b"FS\"Test\"");
-    show(b"FE");
-    show(b"FR\"Test\"");
-    show(b"FK\"*\"");
-    show(b"FP\"Test\"");
-    show(b"FI");
-    show(b"GI");
-    show(b"GK\"Name\"");
-    show(b"GM\"Name\",300");
-    show(b"V0,5,L,\"Name\"");
-    show(b"C0,02,+1,\"NO\"");
-    show(b"C0,2,-99999,\"\"");
-    show(b"?V0,\"ABCDE\"");
-    show(b"?C0,99");
-    show(b"VC");
-    show(b"P2");
-    show(b"LS3,5,2,9,5");
-    show(b"LSE10,10,8,100,200");
-    show(b"LSW0,0,1,7,9");
-    show(b"TS6,15,2,14,35,0");
-    show(b"TDme-dd-y4");
-    show(b"TTh:m:s");
-    show(b"A0,0,0,1,1,N,\"Date: \"TD\" \"TT");
+fn main(rt: HostRuntime) -> io::Result<()> {
+    show(&rt, b"Q240,24")?;
+    show(&rt, b"q80")?;
+    show(&rt, b"N")?;
+    show(&rt, b"R100,50")?;
+    show(&rt, b"ZT")?;
+    show(&rt, b"ZB")?;
+    show(&rt, b"LO10,10,100,200")?;
+    show(&rt, b"LE0,0,1,1")?;
+    show(&rt, b"LW5,6,7,8")?;
+    show(&rt, b"X10,10,3,360,250")?;
+    show(&rt, b"A0,0,0,1,1,N,V0L1V0M3.2V0R1")?;
+    show(&rt, b"A0,0,0,1,1,R,\"a\"C0\"b\"")?;
+    show(&rt, b"B0,0,0,E30,2,3,50,N,\"123456789012\"")?;
+    show(&rt, b"B0,0,0,3,2,3,50,B,C0")?;
+    show(&rt, b"B0,0,0,3,2,3,50,B,C,C0")?;
+    show(&rt, b"B0,0,0,3,2,3,50,B,R,\"R,\"")?;
+    show(&rt, b"GG0,0,\"Name\"")?;
+    show(&rt, b"FS\"Test\"")?;
+    show(&rt, b"FE")?;
+    show(&rt, b"FR\"Test\"")?;
+    show(&rt, b"FK\"*\"")?;
+    show(&rt, b"FP\"Test\"")?;
+    show(&rt, b"FI")?;
+    show(&rt, b"GI")?;
+    show(&rt, b"GK\"Name\"")?;
+    show(&rt, b"GM\"Name\",300")?;
+    show(&rt, b"V0,5,L,\"Name\"")?;
+    show(&rt, b"C0,02,+1,\"NO\"")?;
+    show(&rt, b"C0,2,-99999,\"\"")?;
+    show(&rt, b"?V0,\"ABCDE\"")?;
+    show(&rt, b"?C0,99")?;
+    show(&rt, b"VC")?;
+    show(&rt, b"P2")?;
+    show(&rt, b"LS3,5,2,9,5")?;
+    show(&rt, b"LSE10,10,8,100,200")?;
+    show(&rt, b"LSW0,0,1,7,9")?;
+    show(&rt, b"TS6,15,2,14,35,0")?;
+    show(&rt, b"TDme-dd-y4")?;
+    show(&rt, b"TTh:m:s")?;
+    show(&rt, b"A0,0,0,1,1,N,\"Date: \"TD\" \"TT")
 }

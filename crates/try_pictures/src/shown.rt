@@ -1,10 +1,13 @@
 // What is written of a page and of a picture.
-ghost use Rattle.io.specs.Counts.{IsPrefixLen};
+ghost use Rattle.std.specs.Prelude.{◌≡◌, ◌≤◌, IfOk, length};
 
-use libc::STDOUT_FILENO;
+use std::fs::File;
+use std::io;
+use std::io::Read;
+use std::rt::Files;
 
-pub(crate) fn say(text: &[u8]) {
-    io::write_all(STDOUT_FILENO, text);
+pub(crate) fn say(out: &impl Print, text: &[u8]) -> io::Result<()> {
+    out.write_all(text)
 }
 
 fn sign_of(page: &[u8], x: usize, y: usize) -> u8 {
@@ -22,52 +25,80 @@ fn sign_of(page: &[u8], x: usize, y: usize) -> u8 {
     }
 }
 
-fn show_row(page: &[u8], y: usize) {
+fn show_row(out: &impl Print, page: &[u8], y: usize) -> io::Result<()> {
     let mut line = [b'\n'; 65];
-    let mut x: usize = 0;
-    while x < 64 {
+    for x in 0..64usize {
         line[x] = sign_of(page, x, y);
-        x += 1;
     }
-    say(&line);
+    say(out, &line)
 }
 
-pub(crate) fn show(page: &[u8]) {
-    let mut y: usize = 0;
-    while y < 12 {
-        show_row(page, y);
-        y += 1;
+pub(crate) fn show(out: &impl Print, page: &[u8]) -> io::Result<()> {
+    for y in 0..12usize {
+        show_row(out, page, y)?;
     }
+    Ok(())
 }
 
-pub(crate) fn judged(bytes: &[u8]) {
+pub(crate) fn judged(out: &impl Print, bytes: &[u8]) -> io::Result<()> {
     if pcx::is_legal(bytes) {
-        say(b": legal\n");
+        say(out, b": legal\n")
     } else {
-        say(b": not legal\n");
+        say(out, b": not legal\n")
     }
+}
+
+// Room for a picture's file: 65,536 zeros, of which only the number is promised, so that nobody counts them one by one.
+pub(crate) fn room() -> [u8; 65536]
+    ensures { 65536 ≡ length result }
+{
+    [0; 65536]
 }
 
 // Puts a file's bytes at the front of the buffer, and answers how many there are.
-pub(crate) fn load(bytes: &mut [u8], name: &[u8]) -> usize
-    ensures { IsPrefixLen result bytes.new }
+pub(crate) fn load(rt: &impl Files, bytes: &mut [u8], name: &str) -> io::Result<usize>
+    ensures { IfOk result (λ n. n ≤ length bytes.new) }
 {
-    let file = os::open_read(name);
-    let n = io::read_full(file, bytes);
-    libc::close(file);
-    n
+    let mut file = File::open(rt, name)?;
+    let mut done = 0;
+    for _ in 0..u64::MAX {
+        if bytes.len() <= done {
+            break;
+        }
+        match file.read(&mut bytes[done..])? {
+            0 => break,
+            n => done = ground::capped_sum(done, n),
+        }
+    }
+    Ok(ground::least(done, bytes.len()))
 }
 
-pub(crate) fn draw(page: &mut [u8], name: &[u8], width: usize, length: usize, x: usize, y: usize) {
-    let mut bytes = io::large_buffer();
-    let n = load(&mut bytes, name);
-    say(name);
-    judged(&bytes[..n]);
+pub(crate) fn draw(
+    rt: &(impl Files + Print),
+    page: &mut [u8],
+    name: &str,
+    width: usize,
+    length: usize,
+    x: usize,
+    y: usize,
+) -> io::Result<()> {
+    let mut bytes = room();
+    let n = load(rt, &mut bytes, name)?;
+    say(rt, name.as_bytes())?;
+    judged(rt, &bytes[..n])?;
     picture::draw(page, width, length, x, y, &bytes[..n]);
+    Ok(())
 }
 
-pub(crate) fn alone(name: &[u8], width: usize, length: usize, x: usize, y: usize) {
+pub(crate) fn alone(
+    rt: &(impl Files + Print),
+    name: &str,
+    width: usize,
+    length: usize,
+    x: usize,
+    y: usize,
+) -> io::Result<()> {
     let mut page = [0u8; 912];
-    draw(&mut page, name, width, length, x, y);
-    show(&page);
+    draw(rt, &mut page, name, width, length, x, y)?;
+    show(rt, &page)
 }

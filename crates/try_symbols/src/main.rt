@@ -1,10 +1,13 @@
 // Element widths of bar symbols, for comparison with what others publish. Each line of standard input is an example: a letter for the type (3, 2 and
 // 1 as in the paper, E for E30), a digit for e, a digit for f, and the data. For each, a line with the widths of the elements in dots is
 // written; nothing but its end if the data are unfit.
-ghost use Rattle.std.specs.Prelude.{◌≤◌, length};
+#![tactic(auto)]
+
+ghost use Rattle.std.specs.Prelude.{◌≡◌, ◌≤◌, length};
 
 use kinds::Kind;
-use libc::{STDIN_FILENO, STDOUT_FILENO};
+use std::io;
+use std::io::Read;
 
 fn kind_of(b: u8) -> Kind {
     match b {
@@ -46,61 +49,93 @@ fn emit_width(line: &mut [u8], at: usize, w: usize) -> usize {
     emit(line, ones, b' ')
 }
 
-fn show(line: &[u8], n: usize) {
+fn show(out: &impl Print, line: &[u8], n: usize) -> io::Result<()> {
     if n <= line.len() {
-        io::write_all(STDOUT_FILENO, &line[..n]);
+        return out.write_all(&line[..n]);
     }
+    Ok(())
 }
 
-fn symbol(kind: Kind, e: u8, f: u8, bytes: &[u8], ws: &mut [u8], line: &mut [u8]) {
+fn symbol(
+    out: &impl Print,
+    kind: Kind,
+    e: u8,
+    f: u8,
+    bytes: &[u8],
+    ws: &mut [u8],
+    line: &mut [u8],
+) -> io::Result<()> {
     let n = symbols::elements(kind, bytes, ws);
     let mut at: usize = 0;
-    let mut k: usize = 0;
-    while k < n {
+    for k in 0..n {
         at = emit_width(line, at, bars::width(kind, e, f, ground::byte(ws, k)));
-        k += 1;
     }
     let end = emit(line, at, b'\n');
-    show(line, end);
+    show(out, line, end)
 }
 
-fn example(text: &[u8]) {
+fn example(out: &impl Print, text: &[u8]) -> io::Result<()> {
     if text.len() < 3 {
-        return;
+        return Ok(());
     }
     let kind = kind_of(text[0]);
     let e = value_of(text[1]);
     let f = value_of(text[2]);
     let mut ws = [0u8; 1299];
     let mut line = [0u8; 4096];
-    symbol(kind, e, f, &text[3..], &mut ws, &mut line);
+    symbol(out, kind, e, f, &text[3..], &mut ws, &mut line)
 }
 
 fn line_end(text: &[u8], from: usize) -> usize
     requires { from ≤ length text.now }
     ensures { (from ≤ result) × (result ≤ length text.now) }
 {
-    let mut i = from;
-    while i < text.len() {
+    for i in from..text.len() {
         if text[i] == b'\n' {
             return i;
         }
-        i += 1;
     }
-    i
+    text.len()
 }
 
-fn examples(text: &[u8]) {
+// No line takes less than its end, so that there are no more of them than bytes.
+fn examples(out: &impl Print, text: &[u8]) -> io::Result<()> {
     let mut from: usize = 0;
-    while from < text.len() {
+    for _ in 0..text.len() {
+        if text.len() <= from {
+            return Ok(());
+        }
         let to = line_end(text, from);
-        example(&text[from..to]);
+        example(out, &text[from..to])?;
         from = to + 1;
     }
+    Ok(())
 }
 
-fn main() {
-    let mut text = io::large_buffer();
-    let n = io::read_full(STDIN_FILENO, &mut text);
-    examples(&text[..n]);
+// Room for the examples: 65,536 zeros, of which only the number is promised, so that nobody counts them one by one.
+fn room() -> [u8; 65536]
+    ensures { 65536 ≡ length result }
+{
+    [0; 65536]
+}
+
+// The bytes that are read until the buffer is full or the input ends, and how many there are at the buffer's front.
+fn read_full(input: &mut impl Read, buffer: &mut [u8]) -> io::Result<usize> {
+    let mut done = 0;
+    for _ in 0..u64::MAX {
+        if buffer.len() <= done {
+            return Ok(done);
+        }
+        match input.read(&mut buffer[done..])? {
+            0 => return Ok(done),
+            n => done = ground::capped_sum(done, n),
+        }
+    }
+    Ok(done)
+}
+
+fn main(rt: HostRuntime) -> io::Result<()> {
+    let mut text = room();
+    let n = read_full(&mut rt.stdin(), &mut text)?;
+    examples(&rt, ground::front(&text, n))
 }
