@@ -1,9 +1,9 @@
-// The exported calls: the station for a caller in C.
+// The exported calls: the station for a caller that keeps plain bytes. Crate `face_c` hands them on to C.
 //
 // Paper 01: "Opening, command and label calls exported on numbers and byte slices"; paper 02, §7, adds the question whether something fits, §10 the seconds
 // that pass, and §11 the repair of a damaged store. The session is lent as an image of 83 bytes (crate `image`), so that a caller keeps plain bytes, and any bytes are some session.
 // Each call is the station's call on that session, for any slices whatever; an image of another length is [1], and nothing is touched. Each promises
-// one equation with a definition of crate `exported`, over the answer's number and every lent slice at exit. `peer/station.h` declares the six for C.
+// one equation with a definition of crate `exported`, over the answer's number and every lent slice at exit.
 ghost use Rattle.std.specs.Prelude.{◌≡◌};
 ghost use Rattle.lent.specs.Lent.{world};
 ghost use Rattle.memory.specs.Memory.{memory};
@@ -19,8 +19,7 @@ pub use image::IMAGE;
 use image::{decode, encode};
 use repair::repair;
 
-#[unsafe(no_mangle)]
-pub extern "C" fn station_open(
+pub fn station_open(
     session: &mut [u8],
     page: &mut [u8],
     background: &mut [u8],
@@ -41,8 +40,7 @@ pub extern "C" fn station_open(
     number(answer)
 }
 
-#[unsafe(no_mangle)]
-pub extern "C" fn station_command(
+pub fn station_command(
     session: &mut [u8],
     counts: &mut [u64],
     font: &[u8],
@@ -71,8 +69,7 @@ pub extern "C" fn station_command(
     number(answer)
 }
 
-#[unsafe(no_mangle)]
-pub extern "C" fn station_label(
+pub fn station_label(
     session: &mut [u8],
     font: &[u8],
     page: &mut [u8],
@@ -97,8 +94,7 @@ pub extern "C" fn station_label(
     number(answer)
 }
 
-#[unsafe(no_mangle)]
-pub extern "C" fn station_clock(session: &mut [u8], seconds: u64) -> u8
+pub fn station_clock(session: &mut [u8], seconds: u64) -> u8
     ensures { clocking result session.new ≡ clocked_face session.old seconds }
 {
     if session.len() != IMAGE {
@@ -112,8 +108,7 @@ pub extern "C" fn station_clock(session: &mut [u8], seconds: u64) -> u8
 }
 
 // It is lent nothing that it could change, and neither store nor values.
-#[unsafe(no_mangle)]
-pub extern "C" fn station_fits(
+pub fn station_fits(
     session: &[u8],
     links: &[u16],
     directory: &[u8],
@@ -131,8 +126,7 @@ pub extern "C" fn station_fits(
     number(fit_answer(owed, links, directory, kind, name, size))
 }
 
-#[unsafe(no_mangle)]
-pub extern "C" fn station_repair(
+pub fn station_repair(
     session: &mut [u8],
     counts: &mut [u64],
     rows: u64,
