@@ -1,5 +1,7 @@
 // Whole pages. Paper 01: Q, q and N "whiten the background", a label call "copies the background", and `label` writes labels "with their black dots".
 // `whiten`, `copy` and `black_dots` promise what specs/Pages.antt says of pages of any length.
+#![tactic(auto)]
+
 ghost use Rattle.std.specs.Prelude.{◌≡◌, length};
 ghost use Rattle.ground.specs.Numbers.{capped};
 ghost use Rattle.pages.specs.Pages.{white, copied, black_in, black_dots};

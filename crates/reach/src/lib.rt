@@ -3,6 +3,8 @@
 // "variable or counter not declared" (13) and "a modifier reaches past the declared length" (14) are asked of each element; a counter's length is its
 // width, and a variable that is not declared has length 0. Each function gives what the definition (specs/Answers.antt) says of any declarations and
 // any element. How both are joined over all elements, and with 15, is left to crate `fitness`.
+#![tactic(auto)]
+
 ghost use Rattle.std.specs.Prelude.{◌≡◌, cond, ◌≤◌};
 ghost use Rattle.reach.specs.Answers.{reaches_past, undeclared_by, past_by, or_else};
 

@@ -2,6 +2,8 @@
 // black; R sets the whole cell black, glyph dots white". `draw` promises one equation on the page (`text_drawn` of specs/Text.antt), for any bytes as a
 // font, any text and any numbers. A text of more than 128 bytes and a scale beyond its limits draw nothing. Whoever draws judges the font once before.
 // Who asks for a text, and with what data, is left to others.
+#![tactic(auto)]
+
 ghost use Rattle.std.specs.Prelude.{◌≡◌, ◌≤◌, length as length_of};
 ghost use Rattle.dots.specs.declared.Ink.TheVariants.{Black};
 ghost use Rattle.dots.specs.Dots.{drawn, box};

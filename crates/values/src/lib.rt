@@ -3,6 +3,8 @@
 // Sound asks that "set values fit its declarations, undeclared ones unset", and that labels are owed only when "all declared values are set". Both are asked of
 // each number from 0 to 9: of its field among the values that are lent (crate `stored_values`) and of its counter in the session (crate `counters`). That
 // entering a value, unsetting and moving keep the values sound is proved in proofs/Sound.antt.
+#![tactic(auto)]
+
 ghost use Rattle.std.specs.Prelude.{◌≡◌};
 ghost use Rattle.values.specs.Sound.{sound_at, values_sound, set_at, all_set};
 
