@@ -201,6 +201,9 @@ fn option(rt: &impl Machine, s: Settings) -> Settings {
         return refuse(rt, s, b"an argument", b" is too long\n");
     };
     let word = front(&text, n);
+    if options::asks_repair(word) {
+        return repair(rt, s);
+    }
     match options::word_of(word) {
         Word::Rows => number_of_rows(rt, s),
         Word::Font => {
@@ -222,7 +225,6 @@ fn option(rt: &impl Machine, s: Settings) -> Settings {
         Word::Zone => zone(rt, s),
         Word::NoClock => without_clock(s),
         Word::Fits => question(rt, s),
-        Word::Repair => repair(rt, s),
         Word::Unknown => refuse(rt, s, word, b" is no option\n"),
         Word::File => first_file(rt, s, word),
     }
