@@ -3,6 +3,8 @@
 // Paper 01, `Bx,y,r,t,e,f,g,N,data`: narrow e and wide f, or modules of e; bars black over the height g, spaces left as they are, the whole turned and cut.
 // `draw` is `bars_drawn` of specs/Drawing.antt, for any bytes and any numbers; what is unfit, or out of its limits, draws nothing.
 // The elements come from `symbols`; how boxes are turned and cut stands in `figures`.
+#![tactic(auto)]
+
 ghost use Rattle.std.specs.Prelude.{◌≡◌, map, ◌*◌, ◌≤◌, get_or};
 ghost use Rattle.std.proofs.Math.ListN;
 ghost use Rattle.kinds.specs.Bytes.{between};

@@ -1,5 +1,7 @@
 // What is found in links and directory (paper 01): "New entries and portions are the lowest free"; an entry by kind and name, where "1 and 3 are one
 // kind"; and the form being recorded. Each search answers the lowest number that passes its test, or nothing, on any memory.
+#![tactic(auto)]
+
 ghost use Rattle.std.specs.Prelude.{◌≡◌, ℕ, ◌+◌, ◌≤◌, ◌<◌, length, get_or};
 ghost use Rattle.store.specs.Entry.{entries};
 ghost use Rattle.finding.specs.Find.{is_at, lowest_free, lowest_empty, recorded, titled_at};

@@ -4,6 +4,8 @@
 // keeps the fewest and the most bytes that they can show, and whether every byte is of the class; the definition (specs/Summary.antt) says what is
 // kept of any declarations and any elements, and that the walk's summary decides as it does of the whole is proved in proofs/Summing.antt. That it decides
 // exactly the paper's fit data is the theorem of crate `fitness`.
+#![tactic(auto)]
+
 ghost use Rattle.std.specs.Prelude.{◌≡◌, ◌+◌, []};
 ghost use Rattle.summary.specs.Summary.{part_length, fewest, takes_all, variable_good, least_of, most_of, good_of, stamp_summary, up_to, summary, summary_of, joined, decided};
 

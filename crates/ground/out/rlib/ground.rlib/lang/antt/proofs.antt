@@ -1,3 +1,0 @@
--- Laws that proofs of all rooms cite.
-pub mod Tests
-pub mod Stores

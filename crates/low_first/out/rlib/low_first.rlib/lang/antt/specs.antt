@@ -1,2 +1,0 @@
-pub mod Low
-pub mod Samples
