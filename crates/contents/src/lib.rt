@@ -1,6 +1,8 @@
 // What the entries of the store hold (paper 01, "What is lent"): the content of an entry is its size's bytes, along its chain. A reader stands at a place of
 // a content and goes on byte by byte; `copy_out` copies a whole content, a portion at a time. Every function answers on any memory: past the end 0 is read,
 // and a damaged size is read no further than all portions reach. Lines of a content are read in `content_lines`.
+#![tactic(auto)]
+
 ghost use Rattle.std.specs.Prelude.{◌≡◌, ◌+◌, ◌-◌, ◌*◌, ◌≤◌, min, length, get_or};
 ghost use Rattle.std.proofs.lemmas.List.Edits.{sets};
 ghost use Rattle.store.specs.Chain.{bytes_a_portion, last_place};

@@ -5,6 +5,8 @@
 // them in one walk over the elements. It decides 15 from a summary (crate `summary`); the main theorem (proofs/Always.antt) is that the summary refuses exactly
 // when some permitted values make the data unfit, and it names those values. What 13 and 14 ask of an element stands
 // in crate `reach`, what data shows of values in crate `pieces`.
+#![tactic(auto)]
+
 ghost use Rattle.std.specs.Prelude.{◌≡◌};
 ghost use Rattle.elements.specs.Elements.{elements};
 ghost use Rattle.fitness.specs.Judged.{with_fit, data_judged};

@@ -1,6 +1,8 @@
 // Frames. Paper 01, `Xa,b,c,d,e`: a black frame between two corners, "less the rectangle shrunk by c on each side". `ink_frame` promises one equation
 // between the page at exit and the page at entry, for a page of any length and any numbers: the dots of the frame (`frame` of specs/Frame.antt) are
 // black as far as width and length reach, and all else is as it was. A frame is drawn as four boxes, a band at each of its sides.
+#![tactic(auto)]
+
 ghost use Rattle.std.specs.Prelude.{◌≡◌, ◌+◌, ◌-◌, ◌≤◌, min, max};
 ghost use Rattle.dots.specs.declared.Ink.TheVariants.{Black};
 ghost use Rattle.dots.specs.Dots.{drawn, cut};

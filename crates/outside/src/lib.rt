@@ -1,6 +1,8 @@
 // What lies outside the label. Paper 01, "Sound": "no background dot outside width by length". `white_outside` answers true exactly when no dot of a
 // whole row of the page is black there (`white_outside` of specs/Outside.antt), for a page of any length and any numbers; the laws say that white
 // pages are so, and that whatever is cut at width and length keeps them so. Only the bytes are looked at that may lie outside.
+#![tactic(auto)]
+
 ghost use Rattle.std.specs.Prelude.{◌≡◌, cond, ◌+◌, ◌*◌, ◌/◌, ◌%◌, ◌^◌, ◌≤◌, ◌<◌, min, ltb, take, drop, length as length_of};
 ghost use Rattle.dots.specs.Dots.{bytes_a_row, byte_of};
 ghost use Rattle.outside.specs.Outside.{outside, white_byte, white_from, white_outside};

@@ -6,6 +6,8 @@
 // All is reckoned in whole numbers, and no dot is tried: each row of the line is put together from runs of columns. Between its ends, farther than half of
 // its thickness from both, a row is one run, that of the strip along the line, found by two divisions. A row beside an end has at most three: the run of
 // each end's disc, found by a root, and the run of the strip as far as the foot lies between the ends. No row is looked at that the line cannot reach.
+#![tactic(auto)]
+
 mod discs; // the discs of the ends, and whole-number roots
 mod nearness; // how far dots are apart
 mod rows; // the rows of a line

@@ -4,14 +4,11 @@ use lib.ListN.{length, take}
 use Rattle.bars.proofs.Stroking.{part_length, strokes-drawn}
 use Rattle.bars.proofs.place.Goals as goal
 
-part : (c : tie.After-total-arg) → c.before.before.before.elements.result ≡ length (take c.before.before.before.elements.result c.before.before.before.elements.new.1.1.0)
-part c = part_length _ _ _ _ c.before.before.before.elements.ensures.0 c.before.before.before.elements.ensures.1 c.before.before.before.before.before.before.before.before.requires.2
-
 pub slice_bounds-strokes-end-2 : goal.slice_bounds-strokes-end-2
-slice_bounds-strokes-end-2 c = part c
+slice_bounds-strokes-end-2 c = part_length _ _ _ _ c.elements-n.ensures.0 c.elements-n.ensures.1 c.requires.2
 
 pub strokes-requires : goal.strokes-requires
-strokes-requires c = omega (arith, part c, c.elements-n.ensures.1)
+strokes-requires c = omega (arith, part_length _ _ c.elements-n.new.out _ c.elements-n.ensures.0 c.elements-n.ensures.1 c.requires.2, c.elements-n.ensures.1)
 
 pub returns : goal.returns
 returns c = let a = c.args in
