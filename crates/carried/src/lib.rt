@@ -3,6 +3,8 @@
 // An R in a form "replaces the earlier one" and holds for the lines after it, what a V or C declares holds for them too, and so does a format of TD or TT
 // (paper 02, §10). `carry` gives what the definition (specs/Carried.antt) says is left after any item. What an item draws in between stands in crate
 // `item_drawing`, a whole form in crate `form_drawing`.
+#![tactic(auto)]
+
 ghost use Rattle.std.specs.Prelude.{◌≡◌};
 ghost use Rattle.carried.specs.Carried.{origin_after, carries, starts};
 

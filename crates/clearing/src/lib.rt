@@ -1,5 +1,7 @@
 // Opening a station clears the store (paper 01): "Opening clears all lent memory (output aside), frees all portions". What it does to store, links and
 // directory is one equation, on any memory.
+#![tactic(auto)]
+
 ghost use Rattle.std.specs.Prelude.{◌≡◌, length, replicate};
 ghost use Rattle.cells.specs.Cell.{zeros};
 ghost use Rattle.store.specs.Chain.{free_link};

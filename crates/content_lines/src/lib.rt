@@ -1,5 +1,7 @@
 // The lines of a content (paper 01): "A line is up to 255 bytes, then LF (0Ah)." `line_into` copies the next line ahead of a reader, or says that none is
 // left or that what follows is no line; a run of bytes before the LF goes at once. On any memory, as `contents` reads it.
+#![tactic(auto)]
+
 ghost use Rattle.std.specs.Prelude.{◌≡◌, ℕ, ◌+◌, ◌-◌, ◌*◌, ◌≤◌, ◌<◌, get_or};
 ghost use Rattle.store.specs.Chain.{bytes_a_portion, last_place};
 ghost use Rattle.contents.specs.Run.{copied};

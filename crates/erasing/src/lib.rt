@@ -1,6 +1,8 @@
 // Entries are erased (paper 01): "room freed is used again, zeroed", and "`"*"` erases all, none included". The portions of an entry are zeroed and freed one
 // after another along its chain, then the entry is zeroed in its place; no other entry moves. Each move is one equation over store, links and directory, on any
 // memory.
+#![tactic(auto)]
+
 ghost use Rattle.std.specs.Prelude.{◌≡◌, not, eqb};
 ghost use Rattle.cells.specs.Cell.{zeros, set_cell};
 ghost use Rattle.store.specs.Chain.{bytes_a_portion};

@@ -3,6 +3,8 @@
 // A form is kept as "a row of normalised lines": each an item in normal form of at most 255 bytes, then LF. `next_line` reads the line ahead in the store's
 // chain and goes behind it, on any memory: what no form may have, a line that is too long or has no end, is an empty line. What a line holds is said in crate
 // `kept_line`, which items recording takes in crate `recording`, what a whole form says in crate `forms`.
+#![tactic(auto)]
+
 ghost use Rattle.std.specs.Prelude.{◌≡◌, cond, suc, ◌≤◌, length};
 ghost use Rattle.contents.specs.Content.{ahead, onward as onward_of};
 ghost use Rattle.content_lines.specs.Lines.{lined};

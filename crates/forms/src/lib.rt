@@ -4,6 +4,8 @@
 // what the active form declares, and labels are owed only when "the pictures exist". Each function walks the lines of one entry where they lie in the
 // store, from the first to the last, and answers what the definition (specs/Form.antt) says of the form's bytes, on any memory. That a form which takes one
 // line more stays good is proved in proofs/Growing.antt. What a line holds is read in crate `form_lines`, and an item is judged in crate `recording`.
+#![tactic(auto)]
+
 ghost use Rattle.std.specs.Prelude.{◌≡◌, ◌<◌, length};
 ghost use Rattle.contents.specs.Content.{content};
 ghost use Rattle.kept_line.specs.Held.{item_in};

@@ -1,6 +1,8 @@
 // Which kind of full (paper 02, §5): a command that makes an entry, FS or GM, is 19 where too few portions are free, and 23 where no entry is empty.
 //
 // "When both hold, 19 is given." A recorded line makes no entry: it asks for portions alone, in `commands`.
+#![tactic(auto)]
+
 ghost use Rattle.std.specs.Prelude.{◌≡◌, not, [], ◌∷◌};
 ghost use Rattle.answers.specs.declared.Answer.TheVariants.{FewPortions, NoEntry};
 ghost use Rattle.answers.specs.Answers.{row, answer_of};

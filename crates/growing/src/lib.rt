@@ -1,6 +1,8 @@
 // What is stored grows (paper 01): a recorded line is put behind its form, and a picture is kept whole. Each byte that the portions so far do not hold takes
 // the lowest free portion, which is hung behind the last in the links. Each move is one equation over store, links and directory, on any memory; whether there
 // is room is asked before, of the number of free portions (crates `room` and `full`).
+#![tactic(auto)]
+
 ghost use Rattle.std.specs.Prelude.{◌≡◌, ◌+◌, ◌*◌, ◌<◌, set};
 ghost use Rattle.store.specs.Chain.{bytes_a_portion};
 ghost use Rattle.store.specs.Entry.{size_limit};

@@ -2,6 +2,8 @@
 // (`turned` of specs/Turn.antt), white outside width by length, for a page of any length and any numbers.
 // The rows of the label are turned as they are, 608 dots wide: bytes in the other order, and the dots of each byte too. What then stands too far to
 // the right by 608 less the width is shifted to the left, and what lies below the length is whitened.
+#![tactic(auto)]
+
 ghost use Rattle.std.specs.Prelude.{◌≡◌, cond, ◌&&◌, ◌+◌, ◌-◌, ◌*◌, ◌/◌, ◌%◌, ◌≤◌, ◌<◌, ltb, length, get_or, set};
 ghost use Rattle.dots.specs.Dots.{bytes_a_row, dots_a_row, bit_of, byte_of, dot_at, redrawn};
 ghost use Rattle.half_turn.specs.Turn.{turned};

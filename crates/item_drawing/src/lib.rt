@@ -4,6 +4,8 @@
 // the values that are lent and the clock, boxes, frames and slanted lines are inked, and GG draws the picture of its name where it is stored. A V, a C and a
 // format draw nothing. `draw_item` leaves the page that the definition (specs/Draw.antt) says, for any item, memory and page. How text, bars and pictures look
 // stands in crates `text`, `lined` and `picture`, how a whole form is drawn in crate `form_drawing`.
+#![tactic(auto)]
+
 ghost use Rattle.std.specs.Prelude.{◌≡◌, true, take};
 ghost use Rattle.elements.specs.Elements.{elements};
 ghost use Rattle.pieces.specs.Data.{assembled, values_in};

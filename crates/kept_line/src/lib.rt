@@ -3,6 +3,8 @@
 // Paper 01 has each form "a row of normalised lines that recording would take one after another". `stored_item` says what such a line holds, an item, or
 // nothing that a form may have. How the lines of a form are read one after another is said in crate `form_lines`, which items recording takes in
 // crate `recording`.
+#![tactic(auto)]
+
 ghost use Rattle.std.specs.Prelude.{◌≡◌};
 ghost use Rattle.read.specs.Commands.{within_limits};
 ghost use Rattle.kept_line.specs.Held.{held_command, held_read, item_in};

@@ -3,6 +3,8 @@
 // Paper 01, "What is lent", gives each list its length: a background of whole rows of 76 bytes, a store of whole portions with one link for each, a directory of whole
 // entries, ten fields of values. `lengths_wrong` answers whether row 1 of the table, "a lent length is wrong", applies to any five lengths, as the
 // definition (specs/Lent.antt) says; `links_wrong` and `directory_wrong` say it of a call that is lent these alone. Font, input and output may be of any length.
+#![tactic(auto)]
+
 ghost use Rattle.std.specs.Prelude.{◌≡◌};
 ghost use Rattle.lent.specs.Lent.{page_wrong, links_wrong, store_wrong, directory_wrong, lengths_wrong};
 

@@ -4,6 +4,8 @@
 // one and cut as one, the narrower of them at the left, in the middle or at the right. `draw` promises one equation on the page, `bars_with` of
 // specs/Lined.antt, for any bytes and any numbers; what is unfit, or out of its limits, draws nothing. The code draws bars and line one after the other,
 // each at the corner that its own box has in the turned box (`placed-inset` of proofs/Within.antt). Who asks for a line is left to the crates above.
+#![tactic(auto)]
+
 mod drawing; // bars and line, each in its margins
 mod insets; // a box with margins around it, turned as one
 mod line; // what the line shows, and its size

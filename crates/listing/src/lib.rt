@@ -4,6 +4,8 @@
 // kind, 1 for forms and 2 for pictures. `listing_length` tells how many bytes they are, so that a caller can refuse an output that is too short
 // before anything is written, and `list` writes them to its front; what lies past the end is not stored. Which command lists what, and what is
 // answered, is left to others.
+#![tactic(auto)]
+
 ghost use Rattle.std.specs.Prelude.{◌≡◌, ◌+◌, ◌/◌, ◌≤◌, ◌<◌, length};
 ghost use Rattle.std.proofs.lemmas.List.Edits.{sets};
 ghost use Rattle.store.specs.Entry.{entries, entry};

@@ -1,6 +1,8 @@
 // Store, links and directory together, as the moves change them: an entry is started, grown, finished or erased, and opening clears all. Each move is one
 // equation over the three lists, on any memory. Here are the record of the three, and the stores into links and directory that all moves share; past the
 // end they do nothing.
+#![tactic(auto)]
+
 ghost use Rattle.std.specs.Prelude.{◌≡◌, ◌+◌, ◌*◌, set};
 ghost use Rattle.std.proofs.lemmas.List.Edits.{sets};
 ghost use Rattle.store.specs.Entry.{bytes_an_entry};

@@ -3,6 +3,8 @@
 // Paper 01 keeps a recorded line with leading zeros dropped, names in capitals and signs written. `write` writes the normal form of a line
 // into lent memory. The main theorem (proofs/Round.antt): reading the normal form of any line that is taken gives the same command with the same
 // contents, and its normal form is itself, and no longer than a line may be. What a form does with its lines is said in the crates above.
+#![tactic(auto)]
+
 ghost use Rattle.std.specs.Prelude.{◌≡◌, ◌∷◌, ◌++◌, cond, ◌+◌, ◌≤◌, length, eqb};
 ghost use Rattle.elements.specs.Elements.{elements};
 ghost use Rattle.grammar.specs.Forms.{row_of, Form};

@@ -2,6 +2,8 @@
 // afterwards is the page before with the picture's black dots (`pictured` of specs/Shape.antt) set, as far as they stand within the label's width and
 // length. A picture is drawn in one pass, eight dots at a time, with no room for what its runs give; rows outside the page are passed over. Bytes that
 // are no legal picture (crate `pcx`) draw nothing.
+#![tactic(auto)]
+
 ghost use Rattle.std.specs.Prelude.{◌≡◌, ◌+◌, ◌*◌, ◌^◌, ◌≤◌, ◌<◌, length, get_or};
 ghost use Rattle.dots.specs.Dots.{dots_a_row, drawn, cut};
 ghost use Rattle.dots.specs.declared.Ink.TheVariants.{Black};

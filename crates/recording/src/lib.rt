@@ -3,6 +3,8 @@
 // "A recorded line is checked and kept, not run": an item that is declared before is refused (12), data that names what is not declared, reaches past it
 // or is unfit (13, 14, 15), and GG where its picture is not stored (11). Each function gives what the definition (specs/Judged.antt) says of any item
 // after any declarations. What fit data is stands in crate `fitness`, what a whole form says in crate `forms`.
+#![tactic(auto)]
+
 ghost use Rattle.std.specs.Prelude.{◌≡◌, true, cond};
 ghost use Rattle.finding.specs.Find.{is_at, titled_at};
 ghost use Rattle.parts.specs.Names.{packed_of};

@@ -1,6 +1,8 @@
 // Room in the store (paper 01): "New entries and portions are the lowest free". Where the next portion and the next entry are, from links and directory; and
 // whether an entry is empty or something stored can grow, from the directory and the number of free portions alone (paper 02, §6). All of it on any memory.
 // Portions and entries run out apart (§5), so each is asked for by itself.
+#![tactic(auto)]
+
 ghost use Rattle.std.specs.Prelude.{◌≡◌};
 ghost use Rattle.store.specs.Entry.{entry};
 ghost use Rattle.room.specs.Room.{lowest_portion, lowest_entry, empty_count, has_entry, can_grow};

@@ -2,6 +2,8 @@
 //
 // `put` writes a text from a place on, as far as there is room, and answers the place after it. Its contract is `Wrote`, as that of a number written in
 // decimal (crate `normal`), so that a line put together from texts and numbers is proved by one law, `Wrote-then`.
+#![tactic(auto)]
+
 ghost use Rattle.std.specs.Prelude.{◌++◌};
 ghost use Rattle.writing.specs.Writing.{Wrote};
 ghost use Rattle.sentences.specs.Texts.{numbered};

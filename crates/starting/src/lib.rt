@@ -1,6 +1,8 @@
 // An entry is started and a form is finished (paper 01): "New entries and portions are the lowest free", "A starting form takes one portion", and the end of
 // recording makes kind 3 kind 1. Each is one equation over the lists that it changes, on any memory. Whether there is room is asked before (crate `full`); where
 // no form is being recorded in the entry, finishing answers so and changes nothing.
+#![tactic(auto)]
+
 ghost use Rattle.std.specs.Prelude.{◌≡◌, set};
 ghost use Rattle.cells.specs.Cell.{set_cell};
 ghost use Rattle.store.specs.Chain.{end_link};

@@ -1,0 +1,8 @@
+use mathlib.Core.Path.{◌∙◌}
+use Rattle.dots.specs.declared.Ink.TheVariants.{Black}
+use Rattle.dots.specs.Dots.{drawn, cut}
+use Rattle.frames.specs.Frame.{frame}
+use Rattle.item_drawing.proofs.draw_frame.Goals as goal
+
+pub returns : goal.returns
+returns c = let a = c.args in c.ink_frame.ensures ∙ (λ i. drawn Black (cut a.width a.length (frame (c.far-a.ensures i) (c.far-b.ensures i) a.f.c (c.far.ensures i) (c.far-2.ensures i))) a.page.now)
