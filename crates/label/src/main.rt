@@ -28,6 +28,14 @@ const INPUT: usize = 8192;
 // Cells of 8 by 8 dots, and no glyph.
 const FONT: [u8; 8] = *b"\x01\x02\x00\x08\x08\xff\x00\x00";
 
+fn say(out: &impl Print, text: &[u8]) -> io::Result<()> {
+    out.write_all(text)
+}
+
+fn say_number(out: &impl Print, n: usize) -> io::Result<()> {
+    print!(out; "{n}")
+}
+
 // `line K: A`, and the listing as it is; "silent if no bytes remain".
 fn say_answer(
     out: &impl Print,
@@ -41,15 +49,22 @@ fn say_answer(
         return Ok(());
     }
     let number = answers::number(answer);
-    println!(out; "line {k}: {number}")?;
-    out.write_all(parts::first(output, written))
+    say(out, b"line ")?;
+    say_number(out, k)?;
+    say(out, b": ")?;
+    say_number(out, number as usize)?;
+    say(out, b"\n")?;
+    say(out, parts::first(output, written))
 }
 
 // `label I black D`
 fn say_label(out: &impl Print, session: Session, page: &[u8]) -> io::Result<()> {
     let drawn = session.drawn;
-    let black = pages::black_dots(page);
-    println!(out; "label {drawn} black {black}")
+    say(out, b"label ")?;
+    say_number(out, drawn as usize)?;
+    say(out, b" black ")?;
+    say_number(out, pages::black_dots(page))?;
+    say(out, b"\n")
 }
 
 // Label calls "until none is owed".

@@ -66,14 +66,18 @@ fn digest(d: Desk) -> u32 {
     mixed_bytes(mixed_bytes(memory, &values), &output)
 }
 
+// A number, and what stands after it.
+fn say(out: &impl Print, n: u64, after: &str) -> io::Result<()> {
+    print!(out; "{n}{after}")
+}
+
 pub fn line(out: &impl Print, calls: usize, d: Desk) -> io::Result<()> {
     let counts = d.counts;
-    println!(out;
-        "{calls} {} {} {} {} {:08x}",
-        d.answer,
-        counts[0],
-        counts[1],
-        counts[2],
-        digest(d)
-    )
+    say(out, calls as u64, " ")?;
+    say(out, d.answer as u64, " ")?;
+    say(out, counts[0], " ")?;
+    say(out, counts[1], " ")?;
+    say(out, counts[2], " ")?;
+    let sum = digest(d);
+    println!(out; "{sum:08x}")
 }
