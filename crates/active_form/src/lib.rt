@@ -3,6 +3,8 @@
 // A session keeps the number of its active form's entry, or `NO_FORM`. Each function answers for any such number and any memory what the definition says of the
 // active form's bytes (specs/Active.antt), which are none without one: then nothing is declared, no picture is asked for, and "the label is the background".
 // What a form declares stands in crate `forms`, how it is drawn in crate `form_drawing`.
+#![tactic(auto)]
+
 ghost use Rattle.std.specs.Prelude.{◌≡◌};
 ghost use Rattle.forms.specs.Form.{declared_of, pictures_stored};
 ghost use Rattle.item_drawing.specs.Draw.{setting};

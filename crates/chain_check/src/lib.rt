@@ -1,6 +1,8 @@
 // Decides the clauses of Sound on chains (paper 01): "each chain of exactly size/256 rounded up, at least one, portions; no portion in two chains; all
 // others free". All chains are walked once, and each portion that is met is marked, so that links that cross, run in circles or point anywhere are found at
 // once; then the marks are held to the links. On any memory the answer is exactly that of `chains_ok` of `store_sound`.
+#![tactic(auto)]
+
 ghost use Rattle.std.specs.Prelude.{◌≡◌, true, false, ◌&&◌, ℕ, ◌≤◌, ◌<◌, length, get_or, leb};
 ghost use Rattle.cells.specs.Count.{all_to, set_all};
 ghost use Rattle.store.specs.Chain.{most_portions, chain};

@@ -1,6 +1,8 @@
 // Decides the clauses of Sound on what the entries hold (paper 01): "each form a row of normalised lines that recording would take one after another
 // (presence of pictures aside); each picture legal". Entry by entry, on any memory: each form is walked line by line where it lies, each picture is copied
 // out and judged whole. `contents_ok` asks it of all entries, `content_at` of one.
+#![tactic(auto)]
+
 ghost use Rattle.std.specs.Prelude.{◌≡◌, length};
 ghost use Rattle.contents.specs.Content.{content};
 ghost use Rattle.pcx.specs.Rules.{legal};

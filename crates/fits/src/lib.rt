@@ -4,6 +4,8 @@
 // `fit_answer` gives the first row that applies of the section's table (specs/Fits.antt), for any number of labels owed, any links and any directory: "It does not
 // look for soundness". It is lent nothing that it could change, and no store, so that it cannot read what is stored. That it is the answer of FS and of GM on every
 // sound memory is proved in crate `demands`.
+#![tactic(auto)]
+
 ghost use Rattle.std.specs.Prelude.{◌≡◌};
 ghost use Rattle.answers.specs.Answers.{answer_of};
 ghost use Rattle.fits.specs.Fits.{lent_wrong, size_wrong, limits_wrong, new_size, place_rows, fit_rows};

@@ -4,6 +4,8 @@
 // each line to the next (crate `carried`). An R in the form "replaces the earlier one", and "holds for that label only": all end with the label. `draw_form`
 // reads the lines ahead of a reader where they lie in the store and leaves the page that the definition (specs/Draw.antt) says of these bytes, on any memory.
 // What one item draws stands in crate `item_drawing`.
+#![tactic(auto)]
+
 ghost use Rattle.std.specs.Prelude.{◌≡◌, ◌<◌};
 ghost use Rattle.contents.specs.Content.{ahead};
 ghost use Rattle.kept_line.specs.Held.{item_in};

@@ -1,4 +1,6 @@
 // The words of the command line: what each option is, the number of rows, the zone, and what -fits asks for.
+#![tactic(auto)]
+
 ghost use Rattle.std.specs.Prelude.{◌≡◌};
 ghost use Rattle.options.specs.Options.{word_of, asks_repair, whole_from, whole_number, rows_of, zone_of, kind_of};
 

@@ -1,6 +1,8 @@
 // What the station's program says of its labels: the line of one, and the sum of a run.
 //
 // Each function writes the text of its definition (specs/Reports.antt) into a buffer, as far as there is room, and answers the place after it.
+#![tactic(auto)]
+
 ghost use Rattle.writing.specs.Writing.{Wrote};
 ghost use Rattle.reports.specs.Reports.{which_of, size_of, label_of, sum_of};
 

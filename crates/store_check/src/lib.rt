@@ -1,5 +1,7 @@
 // Decides the store's part of sound (paper 01), clause by clause, on any memory: each function answers exactly its Bool of `store_sound`. All but one do
 // so in one pass over what they read; names are compared with each other, entry by entry. The clauses of the chains are decided in `chain_check`.
+#![tactic(auto)]
+
 ghost use Rattle.std.specs.Prelude.{◌≡◌, true, false, ◌&&◌, ℕ, ◌≤◌, ◌<◌, length, get_or, take, drop};
 ghost use Rattle.cells.specs.Count.{all_to, all_zero, set_all};
 ghost use Rattle.store.specs.Chain.{chain, most_portions};

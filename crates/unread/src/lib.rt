@@ -3,6 +3,8 @@
 // Paper 01: "One call reads one command at the front of the input and hands back the unread rest as a part of that input." Where the front ends is crate
 // `read`'s subject; here each case of it has its answer, its bytes and its line (specs/Front.antt), and `rest` hands back what a call with a given answer
 // left unread, as a part of the caller's slice. Any input and any answer has its rest.
+#![tactic(auto)]
+
 ghost use Rattle.std.specs.Prelude.{◌≡◌, drop};
 ghost use Rattle.unread.specs.Front.{more_of, front_answer, front_read, is_line, line_in, read_by};
 

@@ -4,6 +4,8 @@
 // a place a second one has a mark; it stands under its byte (proofs/Marks.antt, `mark-under`). Under a line that is refused because portions or entries ran out a
 // second one says how much is left of both. Who asks whether something fits is answered in the same words behind another lead, `form NAME: ` or
 // `picture NAME, SIZE bytes: `. Each function writes the text of its definition into a buffer, as far as there is room, and answers the place after it.
+#![tactic(auto)]
+
 ghost use Rattle.std.specs.Prelude.{◌≡◌, ◌+◌, min, length, drop};
 ghost use Rattle.writing.specs.Writing.{Wrote};
 ghost use Rattle.answers.specs.Answers.{place_of};
