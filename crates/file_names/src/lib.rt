@@ -2,6 +2,8 @@
 //
 // A label's picture is called by a prefix and the number of the label, of four digits or more, so that a folder lists the labels in their order
 // (specs/Names.antt). The length of a path up to its last `/` is the name of its folder.
+#![tactic(auto)]
+
 ghost use Rattle.std.specs.Prelude.{◌≡◌};
 ghost use Rattle.writing.specs.Writing.{Wrote};
 ghost use Rattle.file_names.specs.Names.{zeros_of, name_of, after_slash, last_slash};

@@ -1,6 +1,8 @@
 // Input of any length through a window: the bytes that are not read yet move to its front, and what follows them is free for more.
 //
 // The longest command is a GM with its line of 255 bytes, its LF and 32,768 bytes; a window of 33,024 bytes or more has room for it.
+#![tactic(auto)]
+
 ghost use Rattle.std.specs.Prelude.{◌≡◌, length, take, drop};
 ghost use Rattle.std.proofs.lemmas.List.Edits.{sets};
 ghost use Rattle.classes.specs.declared.Class.TheVariants.{Inside};

@@ -3,6 +3,8 @@
 // The file is `P4`, the width and the length in decimal, and the rows, each of whole bytes, highest bit first, 1 black: a page is already such a raster,
 // cut here to the label's width and length. "Spare bits zero" is made true by the writer, so that it rests on nothing that a caller promises.
 // `picture` writes `pbm_of` (specs/Pbm.antt) of any page, of any width and length, as far as there is room.
+#![tactic(auto)]
+
 ghost use Rattle.std.specs.Prelude.{◌≡◌, [], ◌∷◌, ◌+◌, ◌-◌, ◌*◌, ◌≤◌, ◌<◌, length};
 ghost use Rattle.writing.specs.Writing.{Wrote};
 ghost use Rattle.pbm.specs.Pbm.{row_bytes, cut, byte_at, row_from, rows_from, head_of, pbm_of};

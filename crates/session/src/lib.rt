@@ -6,6 +6,8 @@
 // function for all, so that no caller is asked for anything. What changes it is a method that takes the session and hands the next one back: the
 // origin replaced, the counters moved, a label drawn (`labels`). Whether a session is sound with the memory beside it is left to crate `sound`, and
 // when a method is called to crate `station`.
+#![tactic(auto)]
+
 ghost use Rattle.std.specs.Prelude.{◌≡◌};
 ghost use Rattle.session.specs.Session.{fresh, none, blank, sized, turning, based, activated, counting, roomed, no_clock, no_format, no_formats, clocked, formatted, owing, moved, counted, sixteen_bits};
 

@@ -137,13 +137,13 @@ zero-part l a n m e =
 
 -- ---- joined tests: r is the answer to a, and the code goes on where it is true
 
-pub stop : (r a b : Bool) → r ≡ a → not r ≡ true → false ≡ (a && b)
-stop r a b e h = rw (sym e ∙ not-true r h)
+pub stop : (r a b : Bool) → r ≡ a → r ≡ false → false ≡ (a && b)
+stop r a b e h = rw (sym e ∙ h)
 
-pub skip : (r a b x : Bool) → r ≡ a → not r ≡ false → x ≡ b → x ≡ (a && b)
-skip r a b x e h k = rw (sym e ∙ not-false r h) k
+pub skip : (r a b x : Bool) → r ≡ a → r ≡ true → x ≡ b → x ≡ (a && b)
+skip r a b x e h k = rw (sym e ∙ h) k
 
 -- where the lengths are right there are no more portions than may be lent, so that the answer to the chains is that of their clauses
-pub chains-lent : (st ls dir : List ℕ) {l r : Bool} → l ≡ lent_ok st ls dir → not l ≡ false → r ≡ (leb (length ls) most_portions && chains_ok ls dir) → r ≡ chains_ok ls dir
+pub chains-lent : (st ls dir : List ℕ) {l r : Bool} → l ≡ lent_ok st ls dir → l ≡ true → r ≡ (leb (length ls) most_portions && chains_ok ls dir) → r ≡ chains_ok ls dir
 unfolding lent_ok
-chains-lent st ls dir {l} e h k = k ∙ rw (and_left (leb (length ls) most_portions) _ (sym e ∙ not-false l h))
+chains-lent st ls dir {l} e h k = k ∙ rw (and_left (leb (length ls) most_portions) _ (sym e ∙ h))

@@ -3,6 +3,8 @@
 // A label with `TD` shows today without anyone typing it: `press` sets the station's clock from the machine's when it starts and moves it by the seconds that pass
 // (paper 02, §10). A machine counts seconds from 1970 in UTC; `today` is the date and time of such a number in a zone, and `advance` a clock that any number of seconds
 // moved, a day at a time, as the clock call moves it. Both promise one equation with specs/Wall.antt. Asking the machine is left to the program.
+#![tactic(auto)]
+
 ghost use Rattle.std.specs.Prelude.{◌≡◌, ◌≤◌};
 ghost use Rattle.calendar.specs.Clock.{moved};
 ghost use Rattle.wall_clock.specs.Wall.{since_start, or_same, advanced, today};
