@@ -1,6 +1,8 @@
 // Decides the clauses of Sound on the active form and the labels owed (paper 01): "the active form a stored one; set values fit its declarations, undeclared
 // ones unset; owed plus drawn at most 65,535; labels owed only when nothing is recorded, all declared values are set and the pictures exist"; and of paper 02, §3,
 // that no counter runs out within the labels owed. On any memory and any session; the active form is walked twice, for what it declares and for its pictures.
+#![tactic(auto)]
+
 ghost use Rattle.std.specs.Prelude.{◌≡◌, ◌+◌, leb};
 ghost use Rattle.finding.specs.Find.{is_at, recorded};
 ghost use Rattle.active_form.specs.Active.{active_bytes};

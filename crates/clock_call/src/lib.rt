@@ -3,6 +3,8 @@
 // Paper 02, §10: the clock is "moved by a call that gives the seconds passed, 0 to 86,400; past the end of 2099 it stands at the last second". It may be made at any
 // time, between owed labels too, and looks at nothing but the clock: 3 where that is no date and time, 7 where more seconds than a day's are given. `pass`
 // promises one equation with `passed` (specs/Passing.antt), for any session. How a clock moves is said in crate `calendar`.
+#![tactic(auto)]
+
 ghost use Rattle.std.specs.Prelude.{◌≡◌};
 ghost use Rattle.clock_call.specs.Passing.{passed};
 

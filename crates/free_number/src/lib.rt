@@ -3,6 +3,8 @@
 // Here are the number's clause of sound (specs/Number.antt) and what each command makes of the number (specs/After.antt): FS and GM take what a size needs, a
 // recorded line what its bytes need beyond the form's last portion, FK and GK give back what the erased sizes called for. Each function holds on any session
 // and any directory; that the number is right after each command, and then that of the links marked free, is said in `keeps_sound` and `demands`.
+#![tactic(auto)]
+
 ghost use Rattle.std.specs.Prelude.{◌≡◌};
 ghost use Rattle.store.specs.Entry.{entry};
 ghost use Rattle.ground.specs.Numbers.{capped};

@@ -4,6 +4,8 @@
 // of free portions, and §10, the clock and the formats. A caller of the exported calls keeps these as plain bytes, and any 83 bytes are some session.
 // specs/Image.antt says where each number stands; `encode` and `decode` promise one equation each with `image_of` and `session_of`, and image and
 // session are found again from each other (proofs/Inverse.antt).
+#![tactic(auto)]
+
 ghost use Rattle.std.specs.Prelude.{◌≡◌, ◌∷◌, ◌+◌, ◌*◌, ◌/◌, ◌%◌, ◌<◌};
 ghost use Rattle.std.proofs.lemmas.List.Edits.{sets};
 ghost use Rattle.counters.specs.Counters.{counters};

@@ -3,6 +3,8 @@
 // Paper 01: "Opening clears all lent memory (output aside), frees all portions, and sets width 608, length N, origin 0,0, ZT, nothing owed." The
 // number of free portions is then that of all (paper 02, §6). It looks at lengths alone (1), so that any memory can be opened, and "a refused opening returns zeros" and leaves what it was lent. `open` promises one equation
 // between its result with every lent list at exit and `opened` (specs/Opening.antt) of what it was lent.
+#![tactic(auto)]
+
 ghost use Rattle.std.specs.Prelude.{◌≡◌};
 ghost use Rattle.session.specs.Label.{labelled};
 ghost use Rattle.lent.specs.Lent.{world};

@@ -4,6 +4,8 @@
 // `judge` says it of every entry, in order, of any store, links and directory, and changes none of them: it fills two lists, a verdict for each entry and, for
 // each portion, whether a kept entry has it and how many bytes of it (specs/Verdicts.antt). What is left of the memory follows from these two (`mending`), and the
 // lines too (`verdict_list`). That an entry is kept exactly when the section says so, and that what is left is sound, is proved in `mended`.
+#![tactic(auto)]
+
 ghost use Rattle.std.specs.Prelude.{◌≡◌};
 ghost use Rattle.store.specs.Entry.{entries, entry};
 ghost use Rattle.memory.specs.Memory.{memory};

@@ -11,11 +11,11 @@ use Rattle.bitmaps.proofs.ink_bitmap.Goals as goal
 
 pub loop-g-init : goal.loop-g-init
 loop-g-init c = let s = c in let a = s.args in let pic = bitmap a.bits.now a.stride in (
-      search rules,
-      none-placed a.ink a.width a.length a.r a.w a.h a.x a.y (shifted a.d (scaled a.bw 0 a.hm a.vm pic)) a.page.now
-          (λ j. omega (arith, s.type_inv.page j)) (λ u v i j. bitmap-start pic a.d a.bw a.hm a.vm u v),
-      refl,
-    )
+  search rules,
+  none-placed a.ink a.width a.length a.r a.w a.h a.x a.y (shifted a.d (scaled a.bw 0 a.hm a.vm pic)) a.page.now
+      (λ j. omega (arith, s.type_inv.page j)) (λ u v i j. bitmap-start pic a.d a.bw a.hm a.vm u v),
+  refl,
+)
 
 pub returns : goal.returns
 returns c = let l = c in let a = l.args in

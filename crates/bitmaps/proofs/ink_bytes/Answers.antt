@@ -11,11 +11,11 @@ use Rattle.bitmaps.proofs.ink_bytes.Goals as goal
 
 pub loop-k-init : goal.loop-k-init
 loop-k-init c = let s = c in let a = s.args in let row = bit_row a.bits.now a.at in (
-      search rules,
-      none-placed a.ink a.width a.length 0 a.w a.h a.x a.y (shifted a.d (row_of row (min (0 * 8) a.bw) 1 a.v0 a.v1)) a.page.now
-          (λ j. omega (arith, s.type_inv.page j)) (λ u v i j. bytes-start row a.d 0 a.bw a.v0 a.v1 u v refl),
-      refl,
-    )
+  search rules,
+  none-placed a.ink a.width a.length 0 a.w a.h a.x a.y (shifted a.d (row_of row (min (0 * 8) a.bw) 1 a.v0 a.v1)) a.page.now
+      (λ j. omega (arith, s.type_inv.page j)) (λ u v i j. bytes-start row a.d 0 a.bw a.v0 a.v1 u v refl),
+  refl,
+)
 
 pub loop-k-preserved : goal.loop-k-preserved
 loop-k-preserved c = let d = c in let e = d in let l = e in

@@ -15,7 +15,6 @@ pub first_dots-m-requires : goal.first_dots-m-requires
 first_dots-m-requires c = let n = c in let s = n in
     no-more-than-8 c.least.result s.least-cells.result n.least-seen.result _ c.least.ensures s.least-cells.ensures
 
-
 pub returns : goal.returns
 returns c = let e = c in
     let o = e in

@@ -13,11 +13,11 @@ use Rattle.bitmaps.proofs.ink_runs.Goals as goal
 
 pub loop-g-init : goal.loop-g-init
 loop-g-init c = let s = c in let a = s.args in let row = bit_row a.bits.now a.at in (
-      search rules,
-      none-placed a.ink a.width a.length a.r a.w a.h a.x a.y (shifted a.d (row_of row 0 a.hm a.v0 a.v1)) a.page.now
-          (λ j. omega (arith, s.type_inv.page j)) (λ u v i j. row-start row a.d a.hm a.v0 a.v1 u v),
-      refl,
-    )
+  search rules,
+  none-placed a.ink a.width a.length a.r a.w a.h a.x a.y (shifted a.d (row_of row 0 a.hm a.v0 a.v1)) a.page.now
+      (λ j. omega (arith, s.type_inv.page j)) (λ u v i j. row-start row a.d a.hm a.v0 a.v1 u v),
+  refl,
+)
 
 pub loop-g-smaller : goal.loop-g-smaller
 loop-g-smaller c = omega (arith, c.run_end-e.ensures.more)

@@ -11,11 +11,11 @@ use Rattle.chain_check.proofs.claim_all.Goals as goal
 
 pub loop-i-preserved : goal.loop-i-preserved
 loop-i-preserved c = let t = c.if-not-claim_entry.false in (
-      refl,
-      omega arith,
-      c.claim_entry.auto.marks ∙ c.loop-i.invariant.2,
-      claimed-more c.args.links.now (firsts c.args.directory.now) (counts c.args.directory.now) c.loop-i.marks _ c.loop-i.i (omega arith) (sym c.claim_entry.ensures.walked ∙ t) (c.claim_entry.ensures.marked t) c.loop-i.invariant.3,
-    )
+  refl,
+  omega arith,
+  c.claim_entry.auto.marks ∙ c.loop-i.invariant.2,
+  claimed-more c.args.links.now (firsts c.args.directory.now) (counts c.args.directory.now) c.loop-i.marks _ c.loop-i.i (omega arith) (sym c.claim_entry.ensures.walked ∙ t) (c.claim_entry.ensures.marked t) c.loop-i.invariant.3,
+)
 
 pub returns-then-not-claim_entry-clause-refused : goal.returns-then-not-claim_entry-clause-refused
 returns-then-not-claim_entry-clause-refused c = λ e.

@@ -5,7 +5,7 @@ use Rattle.symbols.proofs.Checks.{Summing, Summed, summing_start, summing-step, 
 use Rattle.std.proofs.Common.{rules}
 use Rattle.symbols.proofs.ean.check_digit.Goals as goal
 
-turn : (c : goal.After-above)→ Summed c.args.s.now c.loop-i.i c.loop-i.sum c.above.result
+turn : (c : goal.After-above) → Summed c.args.s.now c.loop-i.i c.loop-i.sum c.above.result
 turn c = summing-step _ _ _ _ c.loop-i-test.true c.loop-i.invariant c.above.ensures.0 c.above.ensures.1
 
 pub loop-i-init : goal.loop-i-init
