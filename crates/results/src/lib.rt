@@ -3,6 +3,8 @@
 // Each command checks first, by its rows of paper 01's table, and only then changes what it was lent. What it leaves is `Done`: its answer, the session
 // after it and how many bytes it wrote. A name that a command gives is looked up here, in the one directory of forms and pictures. What FK
 // and GK erase is erased here for both, with the number of free portions after it.
+#![tactic(auto)]
+
 ghost use Rattle.std.specs.Prelude.{◌≡◌};
 ghost use Rattle.stored_values.specs.Stored.{unset};
 ghost use Rattle.answers.specs.declared.Answer.TheVariants.{Taken};

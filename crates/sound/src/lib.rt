@@ -6,6 +6,8 @@
 // `store_check`, `content_check` and `activity_check`; the number of free portions (crate `free_number`) by a count of the links marked free, which on a store that
 // is sound is the same (proofs/Numbered.antt). `entry_answer` is what every read and label call checks first: 1, 2 and 3. That every call
 // keeps a sound memory sound is said in crate `keeps_sound`.
+#![tactic(auto)]
+
 ghost use Rattle.std.specs.Prelude.{◌≡◌, ◌&&◌, eqb, leb};
 ghost use Rattle.kinds.specs.Bytes.{between};
 ghost use Rattle.store.specs.Chain.{free_count};
