@@ -4,6 +4,8 @@
 // changes what it was lent. specs/Table.antt is the table of a command call, specs/Station.antt what a command that is taken does and what one that is
 // refused leaves; opening and the label call are defined in their own crates. proofs/Promises.antt: a refusal keeps session and every lent list, what a
 // call reads its answer tells, and two outcomes of one call are equal. No code but the outcome's type: crate `station` has the calls.
+#![tactic(auto)]
+
 use answers::Answer;
 use session::Session;
 

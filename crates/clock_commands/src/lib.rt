@@ -3,6 +3,8 @@
 // Paper 02, §10: "Add `TS` with month, day, year 0..99 (read as 2000 to 2099), hour, minute, second in the manual's limits, the day checked against month and leap
 // year". The limits and the day are checked where the line is read (7), so nothing else refuses it. `run_clock` promises one equation with `clock_by`
 // (specs/Clocks.antt), for any session. That a clock which was read is a date and a time is proved in crate `keeps_sound`.
+#![tactic(auto)]
+
 ghost use Rattle.std.specs.Prelude.{◌≡◌, []};
 ghost use Rattle.lent.specs.Lent.{world};
 ghost use Rattle.results.specs.Result.{ran};

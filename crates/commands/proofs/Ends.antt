@@ -6,10 +6,8 @@ use mathlib.Core.List.{List, [], ◌∷◌}
 use Prim.Native.Nat.{ℕ}
 use lib.ListN.{length}
 use lib.Dec.{ltb}
-use denote.Enum.Declared as Enum
-use types.Run.{OneOf, miss}
-use Rattle.grammar.specs.contracts.Command as Commands
 use Rattle.grammar.specs.declared.Command.{Command}
+use Rattle.grammar.specs.declared.Item.{Item}
 use Rattle.grammar.specs.declared.Command.TheVariants.{Item as item, End, Page, Forms, Pictures, Values, Listing, Clock}
 use Rattle.read.specs.declared.Fault.{Fault}
 use Rattle.read.specs.declared.Fault.TheVariants.{Form as form, Limit}
@@ -61,17 +59,17 @@ fault-by (Limit p) font w s line more o = refl
 -- ---- recording: only items and FE have a place
 
 pub misplaced-by :
-    (c : Command) (s : Session) (line : List ℕ) (i : ℕ) (w : World) → OneOf (2 ∷ 3 ∷ 4 ∷ 5 ∷ 6 ∷ 7 ∷ []) (Enum.tag_of Commands.the_type c) →
+    (c : Command) (s : Session) (line : List ℕ) (i : ℕ) (w : World) → ((it : Item) → c ≡ item it → ⊥) → (c ≡ End → ⊥) →
     ran (done Misplaced s 0) w [] ≡ record_by w s line i [] c
 unfolding answer_of is_taken number_of
-misplaced-by (item it) s line i w h = absurd (miss (2 ∷ 3 ∷ 4 ∷ 5 ∷ 6 ∷ 7 ∷ []) 0 tt h)
-misplaced-by End s line i w h = absurd (miss (2 ∷ 3 ∷ 4 ∷ 5 ∷ 6 ∷ 7 ∷ []) 1 tt h)
-misplaced-by (Page c) s line i w h = refl
-misplaced-by (Forms c) s line i w h = refl
-misplaced-by (Pictures c) s line i w h = refl
-misplaced-by (Values c) s line i w h = refl
-misplaced-by (Listing c) s line i w h = refl
-misplaced-by (Clock c) s line i w h = refl
+misplaced-by (item it) s line i w h e = absurd (h it refl)
+misplaced-by End s line i w h e = absurd (e refl)
+misplaced-by (Page c) s line i w h e = refl
+misplaced-by (Forms c) s line i w h e = refl
+misplaced-by (Pictures c) s line i w h e = refl
+misplaced-by (Values c) s line i w h e = refl
+misplaced-by (Listing c) s line i w h e = refl
+misplaced-by (Clock c) s line i w h e = refl
 
 recorded-world :
     (c : Command) (s : Session) (line : List ℕ) (i : ℕ) (b st l d v o : List ℕ) →

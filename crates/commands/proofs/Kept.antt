@@ -2,7 +2,7 @@
 -- Assumes nothing.
 use mathlib.Core.Path.{◌≡◌, refl, ap, ◌∙◌, subst}
 use mathlib.Core.List.{List, [], ◌∷◌, ◌++◌}
-use Prim.Native.Nat.{ℕ, suc, ◌+◌, ◌≤◌, ◌<◌}
+use Prim.Native.Nat.{ℕ, zero, suc, ◌+◌, ◌≤◌, ◌<◌}
 use native.Mathlib.Omega.{arith}
 use lib.ListN.{length, take, drop, replicate, length-replicate}
 use lib.Seq.{sets, sets-eq}
@@ -15,7 +15,9 @@ use Rattle.normal.proofs.Short.{normal-short}
 use Rattle.commands.specs.Running.{IsShort}
 
 feed : (xs : List ℕ) (m : ℕ) → length xs < m → take (suc (length xs)) (xs ++ drop (length xs) (replicate m 10)) ≡ xs ++ (10 ∷ [])
+feed [] zero h = elim h [ ]
 feed [] (suc m) h = refl
+feed (x ∷ xs) zero h = elim h [ ]
 feed (x ∷ xs) (suc m) h = ap (λ (k : List ℕ). x ∷ k) (feed xs m (omega arith))
 
 pub kept_line :

@@ -2,6 +2,8 @@
 //
 // Paper 01: "FR unsets all values; so does the end of activity, by N or FK. New entries and portions are the lowest free; room freed is used again, zeroed.
 // A starting form takes one portion." Room is asked of the session's number of free portions, which FS and FK keep right (paper 02, §6). `run_form` promises one equation with `form_by` (specs/Forms.antt): its rows of the table, then what it does.
+#![tactic(auto)]
+
 ghost use Rattle.std.specs.Prelude.{◌≡◌, []};
 ghost use Rattle.grammar.specs.declared.FormCommand.TheVariants.{Start, Retrieve, Erase};
 ghost use Rattle.lent.specs.Lent.{world};

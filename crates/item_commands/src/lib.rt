@@ -3,6 +3,8 @@
 // `item_answer` gives the table's rows 11 to 15 for an item after the declarations of the lines before it: recording asks it, and so does an item outside a
 // form, where "data elements find nothing declared" and the session's formats serve. `run_item` draws one on the background and promises one equation
 // with `item_by` (specs/Items.antt).
+#![tactic(auto)]
+
 ghost use Rattle.std.specs.Prelude.{◌≡◌, []};
 ghost use Rattle.answers.specs.Answers.{answer_of};
 ghost use Rattle.lent.specs.Lent.{world};

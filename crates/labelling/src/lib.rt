@@ -3,6 +3,8 @@
 // Paper 01's table decides first: 1, 2 and 3, then 21, "a label call with none owed". What a label is, `Session::label` says and does: "A label call
 // copies the background, runs the active form from the session's origin, turns the page, moves counters, and counts one drawn". `label` promises one
 // equation between its result with the page at exit and `labelled_by` (specs/Labelling.antt) of what it was lent; a refusal leaves session and page.
+#![tactic(auto)]
+
 ghost use Rattle.std.specs.Prelude.{◌≡◌};
 ghost use Rattle.answers.specs.Answers.{answer_of};
 ghost use Rattle.lent.specs.Lent.{world};

@@ -4,6 +4,8 @@
 // the body. What changes session and values alone, as each label does, goes into the slot that does not hold the last state, so that a cut leaves
 // that one whole (crate `slots`); any other change makes a whole new file. Head and body share a sum, and each slot has its own. `judge` says of any bytes
 // whether they are such a file, and which slot holds. Opening, writing and renaming are left to the program.
+#![tactic(auto)]
+
 mod judged; // any bytes judged
 mod links; // the links as bytes
 mod saved; // head and body, saved and loaded again

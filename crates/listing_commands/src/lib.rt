@@ -2,6 +2,8 @@
 //
 // Paper 01: "A listing line is size, comma, quoted name, in directory order. FP writes the form's bytes", and "A listing reports its bytes written; the output
 // beyond is unchanged." `run_listing` promises one equation with `listing_by` (specs/Listings.antt): its rows of the table, then what it writes.
+#![tactic(auto)]
+
 ghost use Rattle.std.specs.Prelude.{◌≡◌, [], ◌∷◌, length};
 ghost use Rattle.std.proofs.lemmas.List.Edits.{sets};
 ghost use Rattle.grammar.specs.declared.ListingCommand.TheVariants.{Form as ListForm};

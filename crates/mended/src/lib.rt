@@ -4,3 +4,4 @@
 // one that was repaired, stays as it is. specs/Fair.antt says "by itself" and "shares nothing" as plain facts, one a rule. The other files of proofs/ follow
 // the definitions: the walk along the links (Chains), one verdict (Reasons, Tests), the entries one after another (Judging, Kept), what is left (Fills, Cuts,
 // Left), a sound store (Unchanged). No code: the crates `verdicts`, `mending` and `repair` compute what is defined.
+#![tactic(auto)]

@@ -4,6 +4,8 @@
 // Which entries are kept, and how many bytes of kept content each portion holds, is known already: it comes from `verdicts` as two lists. `mend` makes of
 // store, links and directory what the definition (specs/Mending.antt) says of each byte and link by itself, on any memory and any two lists. The definition
 // goes byte by byte; the code zeroes what lies behind the kept bytes of a portion or an entry at once, so that one that is kept whole costs one step.
+#![tactic(auto)]
+
 ghost use Rattle.std.specs.Prelude.{◌≡◌, cond, ◌+◌, ◌-◌, ◌≤◌, ◌<◌, length, replicate};
 ghost use Rattle.std.proofs.lemmas.List.Edits.{sets};
 ghost use Rattle.store.specs.Entry.{bytes_an_entry};

@@ -2,6 +2,8 @@
 //
 // Paper 01: "`Qm,g` length m 1 to N, gap g 0 to 240", "`qm` width 80 to 608. Both whiten the background, as does `N`, which also ends the active form", and
 // `ZT`, `ZB`. Nothing refuses them. `run_page` promises one equation with `page_by` (specs/Page.antt), for any session and any lists.
+#![tactic(auto)]
+
 ghost use Rattle.std.specs.Prelude.{◌≡◌, cond, []};
 ghost use Rattle.grammar.specs.declared.PageCommand.TheVariants.{Length as Tall, Width as Wide, Turn as Turns, White};
 ghost use Rattle.lent.specs.Lent.{world};

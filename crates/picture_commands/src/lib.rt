@@ -3,6 +3,8 @@
 // Paper 01: `GM"Name",n` with the n bytes behind its line, and `GK"Name"`, where `"*"` erases all. Room is asked of the
 // session's number of free portions, which GM and GK keep right (paper 02, §6). `run_picture` promises one equation with `picture_by` (specs/Pictures.antt): its rows of
 // the table, then what it does.
+#![tactic(auto)]
+
 ghost use Rattle.std.specs.Prelude.{◌≡◌, []};
 ghost use Rattle.grammar.specs.declared.PictureCommand.TheVariants.{Store as Keep, Erase};
 ghost use Rattle.lent.specs.Lent.{world};

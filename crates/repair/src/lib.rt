@@ -3,6 +3,8 @@
 // "Stores are carried between stations, and one broken link makes all forms unreadable." `repair` judges every entry of a lent directory (crate `verdicts`), keeps
 // those that may be kept, zeroes and frees all else (`mending`), and lists what it did (`verdict_list`). It promises one equation between its outcome with every
 // lent list at exit and `repaired` (specs/Repair.antt), for any memory: all is judged before anything is written, so that a refusal leaves "nothing touched".
+#![tactic(auto)]
+
 ghost use Rattle.std.specs.Prelude.{◌≡◌, ◌*◌};
 ghost use Rattle.dots.specs.Dots.{bytes_a_row};
 ghost use Rattle.memory.specs.Memory.{memory};

@@ -3,6 +3,8 @@
 //
 // Each function writes the text of its definition (specs/RepairWords.antt) into a buffer, as far as there is room, and answers the place after it. What is said
 // of an entry goes by its verdict (crate `verdicts`); which of these lines are told as done, and which as dropped, is left to the program.
+#![tactic(auto)]
+
 ghost use Rattle.writing.specs.Writing.{Wrote};
 ghost use Rattle.repair_words.specs.RepairWords.{title_of, content_reason, reason_of, verdict_of, entry_of, sum_of, made_of};
 

@@ -3,6 +3,8 @@
 // What changes session and values alone, as each label does, goes into the slot that does not hold the last state, so that a cut leaves that one whole
 // (specs/Slots.antt). A slot's sum starts from the sum of head and body, so that it is not taken for one of another body. A file of version 1 was made before there
 // was a clock: its slots have less of a session's image, and its session is given the clock and the formats of an opening.
+#![tactic(auto)]
+
 ghost use Rattle.std.specs.Prelude.{◌≡◌, ◌+◌, take};
 ghost use Rattle.std.proofs.lemmas.List.Edits.{sets};
 ghost use Rattle.low_first.specs.Low.{number_at};

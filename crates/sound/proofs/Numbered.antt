@@ -8,7 +8,7 @@ use Prim.Native.Nat.{ℕ, ◌+◌}
 use native.Mathlib.Omega.{arith}
 use lib.ListN.{length}
 use lib.Dec.{eqb}
-use borrow.Author.Tests.{eq-eqb, ne_eqb, eqb-true, not-false}
+use borrow.Author.Tests.{eq-eqb, ne_eqb, eqb-true}
 use Rattle.ground.proofs.Tests.{same?}
 use Rattle.store.specs.Chain.{free_count}
 use Rattle.free_number.specs.Number.{called_for, free_number}
@@ -37,5 +37,5 @@ module _ (st ls dir : List ℕ) (h : store_sound st ls dir ≡ true) (n : ℕ) w
 
 -- as the code asks, once the store was found to be sound
 pub number_ok :
-    (st ls dir : List ℕ) (n : ℕ) (a r : Bool) → a ≡ store_sound st ls dir → not a ≡ false → r ≡ eqb n (free_count ls) → r ≡ free_number ls dir n
-number_ok st ls dir n a r e t f = f ∙ sym (number-decided st ls dir (sym e ∙ not-false a t) n)
+    (st ls dir : List ℕ) (n : ℕ) (a r : Bool) → a ≡ store_sound st ls dir → a ≡ true → r ≡ eqb n (free_count ls) → r ≡ free_number ls dir n
+number_ok st ls dir n a r e t f = f ∙ sym (number-decided st ls dir (sym e ∙ t) n)

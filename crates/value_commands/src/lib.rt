@@ -2,6 +2,8 @@
 //
 // Paper 01: "`?` looks at the active form", "`?Vn,"text"`, `?Cn,value` (0 to 10^w-1, else 17), `VC` (unsets variables, not counters), `Pk` with k 1..65535".
 // `run_value` promises one equation with `value_by` (specs/Values.antt): its rows of the table, then what it does.
+#![tactic(auto)]
+
 ghost use Rattle.std.specs.Prelude.{◌≡◌, []};
 ghost use Rattle.grammar.specs.declared.ValueCommand.TheVariants.{Variable as Enter, Counter as Count, Clear, Print as Owe};
 ghost use Rattle.lent.specs.Lent.{world};

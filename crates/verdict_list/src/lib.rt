@@ -3,6 +3,8 @@
 //
 // What was said comes from `verdicts`, a number for each entry. `list` writes the lines (specs/Lines.antt) to the front of an output, as far as there is room;
 // `list_length` tells how many bytes they are, so that a caller can refuse an output that is too short before anything is touched.
+#![tactic(auto)]
+
 ghost use Rattle.std.specs.Prelude.{◌≡◌, length};
 ghost use Rattle.writing.specs.Writing.{Wrote};
 ghost use Rattle.verdict_list.specs.Lines.{word, verdict_line, line_at, verdict_list};

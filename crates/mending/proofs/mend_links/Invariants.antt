@@ -1,0 +1,11 @@
+use Prim.Native.Nat.{◌-◌}
+use lib.ListN.{length}
+use Rattle.mending.specs.Mending.{kept_link}
+use Rattle.mending.proofs.Parts.{Mapped}
+use Rattle.mending.proofs.mend_links.Given as goal
+
+abbrev pub invariant-loop-q : goal.invariant-loop-q
+invariant-loop-q l = Mapped (kept_link l.initial.links l.fills) l.initial.links l.links l.q
+
+abbrev pub decreases-loop-q : goal.decreases-loop-q
+decreases-loop-q l = length l.initial.links - l.q

@@ -1,0 +1,6 @@
+use Rattle.kinds.specs.Bytes.{between}
+use Rattle.sound.proofs.is_in.Goals as goal
+
+pub returns : goal.returns
+unfolding between
+returns c = cc
