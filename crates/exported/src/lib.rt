@@ -4,6 +4,8 @@
 // clock call (§10). specs/Face.antt says what each call leaves of the answer's number, the session's image, the counts and every lent list: the
 // station's call on the session of the image, and 1 with nothing touched where the image or the counts have another length. proofs/Kept.antt: a
 // refusal leaves the image byte for byte and every lent list. Crate `face` has the calls.
+#![tactic(auto)]
+
 ghost use Rattle.std.specs.Prelude.{◌≡◌};
 ghost use Rattle.exported.specs.Face.{counts_stored};
 
