@@ -31,6 +31,9 @@ LEMMAS = {
 TYPES = {
     "keeps_sound/proofs/Limits.antt": {"ranged": "CommandRanged", "itemRanged": "ItemRanged"},
     "keeps_sound/proofs/SetsClock.antt": {"ranged": "CommandRanged"},
+    "keeps_sound/proofs/Numbers.antt": {"itemRanged": "ItemRanged"},
+    "demands/proofs/Slants.antt": {"itemRanged": "ItemRanged"},
+    "demands/proofs/TypeOne.antt": {"itemRanged": "ItemRanged"},
     "commands/specs/Running.antt": {"short": "IsShort", "shortStored": "IsStoredShort"},
     "commands/proofs/Kept.antt": {"short": "IsShort"},
     "commands/src/lines.rt": {"short": "IsShort"},

@@ -42,7 +42,7 @@ use Rattle.calls.specs.Outcomes.{After, after, outcome}
 use Rattle.unread.specs.Front.{line_of}
 use Rattle.keeps_sound.specs.Good.{Good}
 use Rattle.keeps_sound.proofs.Facts.{numbers-facts}
-use Rattle.keeps_sound.proofs.Limits.{item_ranged, read-ranges}
+use Rattle.keeps_sound.proofs.Limits.{ItemRanged, read-ranges}
 use Rattle.keeps_sound.proofs.Recording.{recording-owes-none}
 use Rattle.demands.specs.Calls.{Asked, answered, state_of, Says}
 use Rattle.demands.specs.Slants.{belongs, with_line, from_other_end, under_way, with_line_on}
@@ -57,7 +57,7 @@ short-sum m n h = omega arith
 
 module _
     (rows : ℕ) (line : List ℕ) (l : SlantLine) (reads : read_of rows line ≡ Reads (item (Slant l))) (x y : ℕ) (right : x ≤ 2048) (down : y ≤ 4096) where
-  ranges : item_ranged (Slant l)
+  ranges : ItemRanged (Slant l)
   ranges = read-ranges rows line (item (Slant l)) reads
 
   -- the two ends with R added

@@ -35,7 +35,7 @@ use Rattle.calls.specs.Outcomes.{after, outcome}
 use Rattle.unread.specs.Front.{line_of}
 use Rattle.keeps_sound.specs.Good.{Good}
 use Rattle.keeps_sound.proofs.Facts.{numbers-facts}
-use Rattle.keeps_sound.proofs.Limits.{item_ranged, read-ranges}
+use Rattle.keeps_sound.proofs.Limits.{ItemRanged, read-ranges}
 use Rattle.demands.specs.Calls.{Asked, answered, Says}
 use Rattle.demands.specs.Slants.{under_way}
 use Rattle.demands.specs.TypeOne.{with_symbols, with_symbols_on, on_background, shown_there}
@@ -47,7 +47,7 @@ use Rattle.demands.proofs.Slants.{short-sum, InLimits, lines_keep}
 
 module _
     (rows : ℕ) (line : List ℕ) (b : BarsLine) (reads : read_of rows line ≡ Reads (item (Bars b))) (x y : ℕ) (right : x ≤ 2048) (down : y ≤ 4096) where
-  ranges : item_ranged (Bars b)
+  ranges : ItemRanged (Bars b)
   ranges = read-ranges rows line (item (Bars b)) reads
 
   in-limits : in_limits b.e b.f b.g ≡ true

@@ -32,7 +32,7 @@ use Rattle.item_commands.specs.Items.{drawn_on, based_by}
 use Rattle.commands.specs.Does.{runs}
 use Rattle.keeps_sound.specs.Good.{Good}
 use Rattle.keeps_sound.proofs.Facts.{Numbers, numbers-facts, facts-numbers}
-use Rattle.keeps_sound.proofs.Limits.{Ranged, item_ranged, read-ranges}
+use Rattle.keeps_sound.proofs.Limits.{Ranged, ItemRanged, read-ranges}
 use Rattle.normal.proofs.Stays.{format-legal}
 use Rattle.sound.proofs.Times.{times-with}
 use Rattle.keeps_sound.proofs.Fresh.{white-zeros}
@@ -136,7 +136,7 @@ module _ (font : List ℕ) (w : World) (s : Session) (line more : List ℕ) (g :
   drawn-good : (it : Item) → Good s (drawn_on font line s w it)
   drawn-good it = background-good s s w _ g g.times refl (drawn-length it) (numbers-facts (rows_of w) s g.numbers) (drawn-white it) g.activity
 
-  item-good : (it : Item) → read_of (rows_of w) line ≡ Reads (item it) → item_ranged it → Good (based_by s it) (drawn_on font line s w it)
+  item-good : (it : Item) → read_of (rows_of w) line ≡ Reads (item it) → ItemRanged it → Good (based_by s it) (drawn_on font line s w it)
   unfolding activity_sound
   item-good (Origin o) e r =
       let n = numbers-facts (rows_of w) s g.numbers in

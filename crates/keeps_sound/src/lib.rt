@@ -3,3 +3,4 @@
 // through any calls on the sessions that were answered, no call answers 3 (proofs/Always.antt). What each kind of command does to the parts of sound is one theorem a
 // command, `keeps-..`: Numbers, Values, Starting, Recording, Erasing. No code: the definitions are those of the station, and specs/Calls.antt says what
 // calls one after another are.
+#![tactic(auto)]
