@@ -4,6 +4,8 @@
 // that pass, and §11 the repair of a damaged store. The session is lent as an image of 83 bytes (crate `image`), so that a caller keeps plain bytes, and any bytes are some session.
 // Each call is the station's call on that session, for any slices whatever; an image of another length is [1], and nothing is touched. Each promises
 // one equation with a definition of crate `exported`, over the answer's number and every lent slice at exit.
+#![tactic(auto)]
+
 ghost use Rattle.std.specs.Prelude.{◌≡◌};
 ghost use Rattle.lent.specs.Lent.{world};
 ghost use Rattle.memory.specs.Memory.{memory};

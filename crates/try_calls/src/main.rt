@@ -5,7 +5,7 @@
 // session, 4 background, 5 store, 6 links as bytes, 7 directory, 8 values). `O`, `C`, `L`, `W` (will it fit?), `T` (the clock) and `R` (a repair) are the six calls, with
 // the lengths of session, counts, page, background, store, links, directory, values and output; after them `C` has the length of its input and the input, `W` the
 // kind, the size in 8 bytes, the length of the name and the name, `T` the seconds in 8 bytes, and `R` the rows in 8 bytes. A desk has room for more than a call is lent. `stdout` has a line
-// for each call: its number, the answer, the three counts, and a digest of all slices, the room beyond what was lent included. Both files are those of peer/vectors.
+// for each call: its number, the answer, the three counts, and a digest of all slices, the room beyond what was lent included. Both files are the first 1,384 calls of those of peer/vectors, before its repairs.
 #![tactic(auto)]
 
 ghost use Rattle.std.specs.Prelude.{◌≡◌, length};
