@@ -1,4 +1,4 @@
-use Rattle.face.proofs.Called.{open-wrong}
+use Rattle.face.proofs.Called.{open-wrong, open_done}
 use Rattle.face.proofs.station_open.Goals as goal
 
 pub returns-then-session-ne-IMAGE : goal.returns-then-session-ne-IMAGE
@@ -26,4 +26,4 @@ pub shape_of-values : goal.shape_of-values
 shape_of-values c = c.values-1.given
 
 pub returns : goal.returns
-returns c = open_done _ _ _ _ _ _ _ _ c.if-session-ne-IMAGE.false c.«open».ensures c.encode.ensures c.number-2.ensures
+returns c = open_done _ _ _ _ _ _ _ _ c.if-session-ne-IMAGE.false c.open-o.ensures c.encode.ensures c.number-2.ensures
