@@ -66,7 +66,9 @@ fn number_ok(free: u16, links: &[u16]) -> bool
     wide(free) == store::free_count(links)
 }
 
-// Whether a session and the memory beside it are sound.
+// Whether a session and the memory beside it are sound. It stays a function of its own in what is built: what looks at pictures has a large room on the stack,
+// and a function that it is built into takes that room behind its first tests, where the compiler's back end was seen to lose a number that it still needed.
+#[inline(never)]
 pub fn is_sound(
     session: Session,
     background: &[u8],
