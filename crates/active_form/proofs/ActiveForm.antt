@@ -11,7 +11,7 @@ use Rattle.contents.specs.Content.{bytes_from, content_of, content, cursor, ahea
 use Rattle.declarations.specs.declared.Declared.{Declared}
 use Rattle.declarations.specs.Declarations.{nothing}
 use Rattle.forms.specs.Form.{declared_of, pictures_stored}
-use Rattle.item_drawing.specs.Draw.{Setting}
+use Rattle.form_drawing.specs.ItemDrawingDraw.{Setting}
 use Rattle.form_drawing.specs.Draw.{form_drawn}
 use Rattle.active_form.specs.Active.{no_form, active_bytes, active_cursor}
 use Rattle.forms.proofs.Growing.{declared_of-empty, pictures_stored-empty}

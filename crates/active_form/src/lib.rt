@@ -7,7 +7,7 @@
 
 ghost use Rattle.std.specs.Prelude.{◌≡◌};
 ghost use Rattle.forms.specs.Form.{declared_of, pictures_stored};
-ghost use Rattle.item_drawing.specs.Draw.{setting};
+ghost use Rattle.form_drawing.specs.ItemDrawingDraw.{setting};
 ghost use Rattle.form_drawing.specs.Draw.{form_drawn};
 ghost use Rattle.active_form.specs.Active.{active_bytes, active_cursor};
 
@@ -15,8 +15,9 @@ use calendar::Clock;
 use contents::Cursor;
 use counters::Counters;
 use declarations::Declared;
+use form_drawing::{Origin, Setting, Size, draw_form};
 
-// The active form is an entry of the directory; this number says that there is none.
+// The active form is an entry of the directory; this number says that there is none. No Option: it stands in the session's image, where C keeps it.
 pub const NO_FORM: u16 = 65535;
 
 // Nothing without one.
@@ -70,9 +71,7 @@ pub fn draw(
 )
     ensures { page.new ≡ form_drawn (setting font.now store.now links.now directory.now values.now counters clock width length) x y (active_bytes store.now links.now directory.now active) page.old }
 {
-    let place = reader(links, directory, active);
-    form_drawing::draw_form(
-        page,
+    let s = Setting {
         font,
         store,
         links,
@@ -80,10 +79,14 @@ pub fn draw(
         values,
         counters,
         clock,
-        width as usize,
-        length as usize,
-        x as usize,
-        y as usize,
-        place,
-    );
+        size: Size {
+            width: width as usize,
+            length: length as usize,
+        },
+    };
+    let origin = Origin {
+        x: x as usize,
+        y: y as usize,
+    };
+    draw_form(page, s, origin, reader(links, directory, active));
 }

@@ -7,7 +7,7 @@ use lib.Dec.{eqb, leb}
 use borrow.Author.Tests.{eq-eqb, ne_eqb}
 use Rattle.declarations.specs.declared.Declared.{Declared}
 use Rattle.values.specs.Sound.{values_sound}
-use Rattle.forms.specs.Form.{declared_of}
+use Rattle.active_form.specs.Form.{declared_of}
 use Rattle.session.specs.declared.Session.{Session}
 use Rattle.activity_check.specs.Activity.{active_ok, owed_with, owed_ok, activity_sound}
 

@@ -2,14 +2,14 @@
 -- ones unset; owed plus drawn at most 65,535; labels owed only when nothing is recorded, all declared values are set and the pictures exist". Paper 02, §3: "While
 -- labels are owed, sound now asks the same of each counter with k their number": its value plus (k-1) times its step in 0 to 10^w-1.
 -- Assumes nothing.
-use Rattle.std.specs.Prelude.{ℕ, ◌+◌, Bool, not, ◌&&◌, ◌||◌, List, eqb, leb}
+use Rattle.std.specs.Prelude.{ℕ, ◌+◌, Bool, not, ◌&&◌, ◌||◌, List, eqb, leb, is_some}
 use Rattle.store.specs.Entry.{entry, kind}
-use Rattle.finding.specs.Find.{is_at, recorded}
+use Rattle.finding.specs.Find.{recorded}
 use Rattle.declarations.specs.declared.Declared.{Declared}
 use Rattle.counters.specs.declared.Counters.{Counters}
 use Rattle.counter_steps.specs.Steps.{lasts}
 use Rattle.values.specs.Sound.{values_sound, all_set}
-use Rattle.forms.specs.Form.{declared_of, pictures_stored}
+use Rattle.active_form.specs.Form.{declared_of, pictures_stored}
 use Rattle.session.specs.declared.Session.{Session}
 use Rattle.session.specs.Session.{no_form, most_labels}
 
@@ -29,7 +29,7 @@ counts_ok s = leb (s.owed + s.drawn) most_labels
 -- form declares
 abbrev pub owed_with : Declared → ℕ → List ℕ → List ℕ → List ℕ → Counters → Bool
 owed_with d owed directory bytes values counters =
-    eqb owed 0 || (not (is_at (recorded directory)) && (all_set d values counters && (lasts d counters owed && pictures_stored directory bytes)))
+    eqb owed 0 || (not (is_some (recorded directory)) && (all_set d values counters && (lasts d counters owed && pictures_stored directory bytes)))
 
 unfoldable pub owed_ok : ℕ → List ℕ → List ℕ → List ℕ → Counters → Bool
 owed_ok owed directory bytes values counters = owed_with (declared_of bytes) owed directory bytes values counters

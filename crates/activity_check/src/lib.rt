@@ -3,8 +3,8 @@
 // that no counter runs out within the labels owed. On any memory and any session; the active form is walked twice, for what it declares and for its pictures.
 #![tactic(auto)]
 
-ghost use Rattle.std.specs.Prelude.{◌≡◌, ◌+◌, leb};
-ghost use Rattle.finding.specs.Find.{is_at, recorded};
+ghost use Rattle.std.specs.Prelude.{◌≡◌, ◌+◌, leb, is_some};
+ghost use Rattle.finding.specs.Find.{recorded};
 ghost use Rattle.active_form.specs.Active.{active_bytes};
 ghost use Rattle.session.specs.Session.{most_labels};
 ghost use Rattle.activity_check.specs.Activity.{active_ok, owed_with, activity_sound};
@@ -12,7 +12,6 @@ ghost use Rattle.activity_check.specs.Activity.{active_ok, owed_with, activity_s
 use active_form::{NO_FORM, active_declared, active_pictures};
 use counters::Counters;
 use declarations::Declared;
-use finding::is_at;
 use ground::both;
 use session::{MOST_LABELS, Session};
 
@@ -35,9 +34,9 @@ fn active_ok(directory: &[u8], active: u16) -> bool
 
 // Whether a form is being recorded.
 fn recording(directory: &[u8]) -> bool
-    ensures { result ≡ is_at (recorded directory.now) }
+    ensures { result ≡ is_some (recorded directory.now) }
 {
-    is_at(finding::recording(directory))
+    finding::recording(directory).is_some()
 }
 
 // "labels owed only when nothing is recorded, all declared values are set and the pictures exist", and no counter runs out within them; d is what the active form

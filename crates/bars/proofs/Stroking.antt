@@ -1,22 +1,21 @@
 -- The loops that sum the widths and draw the bars.
 -- Assumes nothing.
 use mathlib.Core.Path.{◌≡◌, refl, sym, ap, ◌∙◌}
-use mathlib.Core.Bool.{Bool, true, false, cond, ◌&&◌, ◌||◌}
+use mathlib.Core.Bool.{Bool, true, false, cond, not, ◌&&◌, ◌||◌}
 use mathlib.Core.List.{List, [], ◌∷◌, map}
 use Prim.Native.Nat.{ℕ, zero, suc, ◌+◌, ◌*◌, ◌≤◌, ◌<◌}
-use native.Mathlib.Decide.{dec_lt}
 use native.Mathlib.Nat.{le_of_suc-le-suc}
 use native.Mathlib.Numerals.{add-one}
 use native.Mathlib.Omega.{arith}
 use borrow.Author.Tests.{lt-ltb, le-leb}
-use lib.ListN.{length, get_or, take, drop, length-map, drop_of_length-le, get_or-eq_default}
+use lib.ListN.{length, get_or, take, drop, drop_of_length-le}
 use lib.Seq.{length-sets, length-take-le, drop-cons}
 use Rattle.dots.specs.declared.Ink.TheVariants.{Black}
 use Rattle.dots.specs.Dots.{within, box, drawn, cut}
 use Rattle.dots.proofs.Pages.{Bytes, length-drawn}
 use Rattle.dots.proofs.Shapes.{then-black, cut-ext}
 use Rattle.figures.specs.Figures.{placed}
-use Rattle.figures.proofs.Placed.{placed-or, placed-ext, none-placed}
+use Rattle.figures.proofs.Placed.{placed-or, placed-ext, as-placed, none-placed}
 use Rattle.kinds.specs.declared.Kind.{Kind}
 use Rattle.kinds.specs.Fit.{fit}
 use Rattle.symbols.specs.Elements.{elements}
@@ -35,9 +34,6 @@ pub map_at : (f : ℕ → ℕ) (l : List ℕ) (k : ℕ) → k < length l → f (
 map_at f [] k h = absurd (omega arith)
 map_at f (x ∷ l) zero h = refl
 map_at f (x ∷ l) (suc k) h = map_at f l k (le_of_suc-le-suc h)
-
-pub map-past : (f : ℕ → ℕ) (l : List ℕ) (k : ℕ) → length l ≤ k → 0 ≡ get_or (map f l) k 0
-map-past f l k h = sym (get_or-eq_default (map f l) 0 (rw (length-map l f) h))
 
 -- ---- the total width
 
@@ -62,68 +58,55 @@ adding-done ws n k total l i a =
 
 -- ---- the bars from element k on
 
--- a space, or no element at all, is passed over
-over-space : (ws : List ℕ) (j m u : ℕ) → in_bar false m (drop j ws) u ≡ in_bar true (m + get_or ws j 0) (drop (j + 1) ws) u
+-- element k, where it is a bar, and the bars behind it
+bar-more : (ws : List ℕ) (bar : Bool) (k at u : ℕ) → k < length ws
+    → ((bar && within at (at + get_or ws k 0) u) || in_bar (not bar) (at + get_or ws k 0) (drop (k + 1) ws) u) ≡ in_bar bar at (drop k ws) u
 unfolding in_bar
-over-space ws j m u = at (dec_lt j (length ws))
-  where
-    at : Dec (j < length ws) → in_bar false m (drop j ws) u ≡ in_bar true (m + get_or ws j 0) (drop (j + 1) ws) u
-    at (yes h) = rw (add-one j, drop-cons ws j 0 h)
-    at (no h) =
-        let l : length ws ≤ j = omega arith in
-        let l2 : length ws ≤ j + 1 = omega arith in
-        rw (drop_of_length-le ws l, drop_of_length-le ws l2)
+bar-more ws bar k at u h =
+    rw (drop-cons ws k 0 h) (ap (λ d. (bar && within at (at + get_or ws k 0) u) || in_bar (not bar) (at + get_or ws k 0) (drop d ws) u) (add-one k))
 
--- the bar of element k, and the bars behind it
-bar-more : (ws : List ℕ) (k at u : ℕ) → k < length ws
-    → (within at (at + get_or ws k 0) u || in_bar true (at + get_or ws k 0 + get_or ws (k + 1) 0) (drop (k + 2) ws) u) ≡ in_bar true at (drop k ws) u
-unfolding in_bar
-bar-more ws k at u h =
-    let two : k + 2 ≡ k + 1 + 1 = omega arith in
-    rw (drop-cons ws k 0 h)
-    (ap (λ d. within at (at + get_or ws k 0) u || in_bar true (at + get_or ws k 0 + get_or ws (k + 1) 0) (drop d ws) u) two
-    ∙ ap (λ t. within at (at + get_or ws k 0) u || t) (sym (over-space ws (k + 1) (at + get_or ws k 0) u))
-    ∙ ap (λ d. within at (at + get_or ws k 0) u || in_bar false (at + get_or ws k 0) (drop d ws) u) (add-one k))
+-- an element as `ink_part` draws it
+pub stroke-drawn : (W L r w g x y at end : ℕ) (bar : Bool) (p q : List ℕ) → bar ≡ true
+    → q ≡ drawn Black (cut W L (placed r w g x y (box at 0 end g))) p → q ≡ drawn Black (cut W L (placed r w g x y (λ u v. bar && within at end u))) p
+stroke-drawn W L r w g x y at end bar p q e d = as-placed Black W L r w g x y _ _ p q d (λ u v m n. full u v n)
+  where
+    full : (u v : ℕ) → v < g → box at 0 end g u v ≡ (bar && within at end u)
+    full u v n = rw (e, le-leb 0 v (omega arith), lt-ltb v g n) (and-true-right (within at end u))
+
+pub space-drawn : (W L r w g x y at end : ℕ) (bar : Bool) (p : List ℕ) → Bytes p → bar ≡ false
+    → p ≡ drawn Black (cut W L (placed r w g x y (λ u v. bar && within at end u))) p
+space-drawn W L r w g x y at end bar p by e = none-placed Black W L r w g x y _ p by (λ u v m n. ap (λ t. t && within at end u) e)
 
 module _ (W L x y r w g : ℕ) (ws p₀ : List ℕ) where
   -- what is left, on what is drawn, is the whole
-  pub record Stroking (p : List ℕ) (at k : ℕ) : Type 0 where
-    pub below : k ≤ length ws + 1
+  pub record Stroking (p : List ℕ) (bar : Bool) (at k : ℕ) : Type 0 where
     pub small : at ≤ 65025 * k
     pub long : length p ≡ length p₀
     pub bytes : Bytes p
-    pub whole : drawn Black (cut W L (placed r w g x y (λ u v. in_bar true at (drop k ws) u))) p ≡ drawn Black (cut W L (placed r w g x y (bars ws))) p₀
+    pub whole : drawn Black (cut W L (placed r w g x y (λ u v. in_bar bar at (drop k ws) u))) p ≡ drawn Black (cut W L (placed r w g x y (bars ws))) p₀
 
-  pub stroking-step : (p q : List ℕ) (n at k a b : ℕ) → length ws ≡ n → k < n → Bytes q → Stroking p at k → a ≡ get_or ws k 0 → a ≤ 65025 → b ≡ get_or ws (k + 1) 0 → b ≤ 65025
-      → q ≡ drawn Black (cut W L (placed r w g x y (box at 0 (at + a) g))) p → Stroking q (at + a + b) (k + 2)
-  stroking-step p q n at k a b l o by s e i f j d =
-      let h : k < length ws = omega arith in
-      let rest : ℕ → ℕ → Bool = λ u v. in_bar true (at + get_or ws k 0 + get_or ws (k + 1) 0) (drop (k + 2) ws) u in
-      let whole : ℕ → ℕ → Bool = λ u v. in_bar true at (drop k ws) u in
-      let bar : ℕ → ℕ → Bool = box at 0 (at + get_or ws k 0) g in
-      let drew : q ≡ drawn Black (cut W L (placed r w g x y bar)) p = rw (← e) d in
-      let on : at + a + b ≡ at + get_or ws k 0 + get_or ws (k + 1) 0 = omega arith in
-      let one : (u v : ℕ) → u < w → v < g → (bar u v || rest u v) ≡ whole u v =
-      λ u v m n. ap (λ t. t || rest u v) (full at (at + get_or ws k 0) u v n) ∙ bar-more ws k at u h in
+  pub stroking-step : (p q : List ℕ) (bar : Bool) (at k a : ℕ) → k < length ws → Bytes q → Stroking p bar at k → a ≡ get_or ws k 0 → a ≤ 65025
+      → q ≡ drawn Black (cut W L (placed r w g x y (λ u v. bar && within at (at + a) u))) p → Stroking q (not bar) (at + a) (k + 1)
+  stroking-step p q bar at k a h by s e i d =
+      let rest : ℕ → ℕ → Bool = λ u v. in_bar (not bar) (at + a) (drop (k + 1) ws) u in
+      let whole : ℕ → ℕ → Bool = λ u v. in_bar bar at (drop k ws) u in
+      let one : ℕ → ℕ → Bool = λ u v. bar && within at (at + a) u in
       record {
-        below = omega arith;
         small = omega (arith, s.small);
         bytes = by;
         long = ap length d ∙ length-drawn Black _ p ∙ s.long;
-        whole = ap (λ m. drawn Black (cut W L (placed r w g x y (λ u v. in_bar true m (drop (k + 2) ws) u))) q) on
-            ∙ then-black W L (placed r w g x y bar) (placed r w g x y rest) p q _ drew refl
+        whole = then-black W L (placed r w g x y one) (placed r w g x y rest) p q _ d refl
             ∙ cut-ext Black W L _ (placed r w g x y whole) p
-            (λ a b _ _ _ _. sym (placed-or r w g x y bar rest a b) ∙ placed-ext r w g x y (λ u v. bar u v || rest u v) whole one a b)
+            (λ b c _ _ _ _. sym (placed-or r w g x y one rest b c) ∙ placed-ext r w g x y (λ u v. one u v || rest u v) whole (λ u v m n. more u) b c)
             ∙ s.whole;
       }
     where
-      full : (x0 x1 u v : ℕ) → v < g → box x0 0 x1 g u v ≡ within x0 x1 u
-      full x0 x1 u v n = rw (le-leb 0 v (omega arith), lt-ltb v g n) (and-true-right (within x0 x1 u))
+      more : (u : ℕ) → ((bar && within at (at + a) u) || in_bar (not bar) (at + a) (drop (k + 1) ws) u) ≡ in_bar bar at (drop k ws) u
+      more u = rw e (bar-more ws bar k at u h)
 
-  pub stroking-done : (p : List ℕ) (n at k : ℕ) → length ws ≡ n → n ≤ k → Stroking p at k → p ≡ drawn Black (cut W L (placed r w g x y (bars ws))) p₀
+  pub stroking-done : (p : List ℕ) (bar : Bool) (at k : ℕ) → length ws ≤ k → Stroking p bar at k → p ≡ drawn Black (cut W L (placed r w g x y (bars ws))) p₀
   unfolding in_bar
-  stroking-done p n at k l i s =
-      let h : length ws ≤ k = omega arith in
+  stroking-done p bar at k h s =
       let none = rw (drop_of_length-le ws h) at s.whole in
       none-placed Black W L r w g x y (λ u v. false) p s.bytes (λ u v m n. refl) ∙ none
 

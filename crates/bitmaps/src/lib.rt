@@ -1,5 +1,5 @@
 // Bitmaps on a page of dots: rows of whole bytes, each dot scaled, in a box that is turned clockwise by quarters and cut at the label's width and length.
-// Paper 01 draws each glyph of a text so. `ink_bitmap` promises `drawn ink (cut width length (placed .. (scaled .. (bitmap ..))))` of the page, by the
+// Paper 01 draws each glyph of a text so. `ink_bitmap` promises `drawn ink (on_label spot (shifted .. (scaled .. (bitmap ..))))` of the page, by the
 // definitions of figures/Figures, for any page, any bytes and any numbers. A row is drawn in runs of equal dots; where nothing is turned and each dot
 // is one dot wide, it is drawn eight dots at a time.
 #![tactic(auto)]
@@ -9,13 +9,36 @@ ghost use Rattle.std.specs.Int.Bits.{bit_and};
 ghost use Rattle.std.specs.Int.Count.{count_leading_zeros};
 ghost use Rattle.dots.specs.Dots.{bit_of, drawn, box, cut};
 ghost use Rattle.ground.specs.Numbers.{capped};
-ghost use Rattle.figures.specs.Figures.{bitmap, bit_row, row_of, scaled, shifted, placed};
+ghost use Rattle.figures.specs.Figures.{bitmap as bitmap_of, bit_row, row_of, scaled, shifted, placed, on_label};
 ghost use Rattle.bitmaps.specs.Run.{Run};
 
 use dots::Ink;
 use eights::ink_eights;
-use figures::ink_part;
+use figures::{Area, Spot, ink_part};
 use ground::{capped_sum, least, less};
+
+// A bitmap of `wide` by `high` dots, whose rows are of `stride` bytes; each dot is drawn hm dots wide and vm high.
+#[derive(Clone, Copy)]
+pub struct Bitmap<'a> {
+    pub bits: &'a [u8],
+    pub stride: usize,
+    pub wide: usize,
+    pub high: usize,
+    pub hm: usize,
+    pub vm: usize,
+}
+
+// One row of a bitmap: the `wide` dots from byte `at` on, each m dots wide, as the rows v0 up to v1 of a figure that starts at d.
+#[derive(Clone, Copy)]
+struct Row<'a> {
+    bits: &'a [u8],
+    at: usize,
+    wide: usize,
+    m: usize,
+    d: usize,
+    v0: usize,
+    v1: usize,
+}
 
 // The same as `edge`, for numbers of which one may be so large that the product does not fit.
 fn far_edge(d: usize, g: usize, m: usize) -> usize
@@ -43,20 +66,6 @@ fn edge(d: usize, g: usize, m: usize) -> usize
     far_edge(d, g, m)
 }
 
-// The byte of dot g of the row of a bitmap that starts at byte `at`, white past the end.
-fn byte_of(bits: &[u8], at: usize, g: usize) -> u8
-    ensures { result ≡ get_or bits.now (at + g / 8) 0 }
-{
-    ground::byte(bits, capped_sum(at, g / 8))
-}
-
-// Whether dot g of the row of a bitmap that starts at byte `at` is black.
-fn black(bits: &[u8], at: usize, g: usize) -> bool
-    ensures { result ≡ bit_row bits.now at g }
-{
-    (byte_of(bits, at, g) >> (7 - g % 8)) % 2 == 1
-}
-
 // The first black dot of a byte after dot k, 8 where there is none.
 fn next_black(b: u8, k: usize) -> usize
     requires { k < 8 }
@@ -76,73 +85,58 @@ fn run_in_byte(b: u8, k: usize, on: bool) -> usize
     next_black(b, k)
 }
 
-// Where a run of equal dots ends that starts at dot g of a row of w dots, which is on or off; no run goes on into the next byte.
-fn run_end(bits: &[u8], at: usize, g: usize, w: usize, on: bool) -> usize
-    requires { (g < w) × (on ≡ bit_row bits.now at g) }
-    ensures { Run (bit_row bits.now at) g w result }
-{
-    let k = g % 8;
-    let end = run_in_byte(byte_of(bits, at, g), k, on);
-    g + least(end - k, w - g)
+impl<'a> Row<'a> {
+    // The byte of dot g, white past the end.
+    fn byte(self, g: usize) -> u8
+        ensures { result ≡ get_or self.entry.bits.now (self.entry.at + g / 8) 0 }
+    {
+        ground::byte(self.bits, capped_sum(self.at, g / 8))
+    }
+
+    // Whether dot g is black.
+    fn black(self, g: usize) -> bool
+        ensures { result ≡ bit_row self.entry.bits.now self.entry.at g }
+    {
+        (self.byte(g) >> (7 - g % 8)) % 2 == 1
+    }
+
+    // Where a run of equal dots ends that starts at dot g, which is on or off; no run goes on into the next byte.
+    fn run_end(self, g: usize, on: bool) -> usize
+        requires { (g < self.wide) × (on ≡ bit_row self.bits.now self.at g) }
+        ensures { Run (bit_row self.entry.bits.now self.entry.at) g self.entry.wide result }
+    {
+        let k = g % 8;
+        let end = run_in_byte(self.byte(g), k, on);
+        g + least(end - k, self.wide - g)
+    }
 }
 
-// Draws the cells g up to e of a figure, each m dots wide, as `ink_part` does, where they are on.
-fn ink_run(
-    page: &mut [u8],
-    ink: Ink,
-    width: usize,
-    length: usize,
-    r: usize,
-    x: usize,
-    y: usize,
-    w: usize,
-    h: usize,
-    on: bool,
-    d: usize,
-    g: usize,
-    e: usize,
-    m: usize,
-    v0: usize,
-    v1: usize,
-)
-    ensures { page.new ≡ drawn ink (cut width length (placed r w h x y (λ u v. on && box (capped (d + g * m)) v0 (capped (d + e * m)) v1 u v))) page.old }
+// Draws the cells g up to e of a row, as `ink_part` does, where they are on.
+fn ink_run(page: &mut [u8], ink: Ink, spot: Spot, row: Row, on: bool, g: usize, e: usize)
+    ensures { page.new ≡ drawn ink (on_label spot (λ u v. on && box (capped (row.entry.d + g * row.entry.m)) row.entry.v0 (capped (row.entry.d + e * row.entry.m)) row.entry.v1 u v)) page.old }
 {
     if !on {
         return;
     }
-    let u0 = edge(d, g, m);
-    let u1 = edge(d, e, m);
-    ink_part(page, ink, width, length, r, x, y, w, h, u0, v0, u1, v1);
+    let part = Area {
+        x0: edge(row.d, g, row.m),
+        y0: row.v0,
+        x1: edge(row.d, e, row.m),
+        y1: row.v1,
+    };
+    ink_part(page, ink, spot, part);
 }
 
-// Draws one row of a bitmap in runs: the bw dots from byte `at` on, each hm dots wide, as the rows v0 up to v1 of a figure that starts at d.
-fn ink_runs(
-    page: &mut [u8],
-    ink: Ink,
-    width: usize,
-    length: usize,
-    r: usize,
-    x: usize,
-    y: usize,
-    w: usize,
-    h: usize,
-    d: usize,
-    bits: &[u8],
-    at: usize,
-    bw: usize,
-    hm: usize,
-    v0: usize,
-    v1: usize,
-)
-    ensures { page.new ≡ drawn ink (cut width length (placed r w h x y (shifted d (row_of (bit_row bits.now at) bw hm v0 v1)))) page.old }
+// Draws one row of a bitmap in runs.
+fn ink_runs(page: &mut [u8], ink: Ink, spot: Spot, row: Row)
+    ensures { page.new ≡ drawn ink (on_label spot (shifted row.entry.d (row_of (bit_row row.entry.bits.now row.entry.at) row.entry.wide row.entry.m row.entry.v0 row.entry.v1))) page.old }
 {
     let mut g = 0;
-    while g < bw {
-        let on = black(bits, at, g);
-        let e = run_end(bits, at, g, bw, on);
-        ink_run(
-            page, ink, width, length, r, x, y, w, h, on, d, g, e, hm, v0, v1,
-        );
+    // A while: the step is as long as the run of equal dots that stands there.
+    while g < row.wide {
+        let on = row.black(g);
+        let e = row.run_end(g, on);
+        ink_run(page, ink, spot, row, on, g, e);
         g = e;
     }
 }
@@ -155,146 +149,62 @@ fn first_dots(b: u8, n: usize) -> u8
     (b as u32 & (255 - (255u32 >> n))) as u8
 }
 
-// Draws the dots of the byte b as the dots from g on of a row of bw dots, as the rows v0 up to v1 of a figure that starts at d and is not turned.
-fn ink_eight(
-    page: &mut [u8],
-    ink: Ink,
-    width: usize,
-    length: usize,
-    x: usize,
-    y: usize,
-    w: usize,
-    h: usize,
-    d: usize,
-    b: u8,
-    g: usize,
-    bw: usize,
-    v0: usize,
-    v1: usize,
-)
-    requires { g < bw }
-    ensures { page.new ≡ drawn ink (cut width length (placed 0 w h x y (shifted d (λ u v. box g v0 (min (g + 8) bw) v1 u v && bit_of b (u - g))))) page.old }
+// Draws the dots of the byte b as the dots from g on of a row, where the figure is not turned and each dot is one dot wide.
+fn ink_eight(page: &mut [u8], ink: Ink, spot: Spot, row: Row, b: u8, g: usize)
+    requires { g < row.wide }
+    ensures { page.new ≡ drawn ink (cut spot.corner.size.width spot.corner.size.length (placed 0 spot.wide spot.high spot.corner.x spot.corner.y (shifted row.entry.d (λ u v. box g row.entry.v0 (min (g + 8) row.entry.wide) row.entry.v1 u v && bit_of b (u - g))))) page.old }
 {
     if b == 0 {
         return;
     }
-    let left = capped_sum(d, g);
-    let from = capped_sum(x, left);
-    let cells = least(8, bw - g);
-    let seen = least(less(w, left), less(width, from));
+    let left = capped_sum(row.d, g);
+    let from = capped_sum(spot.corner.x, left);
+    let cells = least(8, row.wide - g);
+    let seen = least(less(spot.wide, left), less(spot.corner.size.width, from));
     let m = first_dots(b, least(cells, seen));
-    let top = capped_sum(y, v0);
-    let end = capped_sum(y, least(v1, h));
-    ink_eights(page, ink, from, top, least(end, length), m);
+    let top = capped_sum(spot.corner.y, row.v0);
+    let end = capped_sum(spot.corner.y, least(row.v1, spot.high));
+    ink_eights(page, ink, from, top, least(end, spot.corner.size.length), m);
 }
 
 // Draws one row of a bitmap byte by byte, as `ink_row` does, where the figure is not turned and each dot is one dot wide.
-fn ink_bytes(
-    page: &mut [u8],
-    ink: Ink,
-    width: usize,
-    length: usize,
-    x: usize,
-    y: usize,
-    w: usize,
-    h: usize,
-    d: usize,
-    bits: &[u8],
-    at: usize,
-    bw: usize,
-    v0: usize,
-    v1: usize,
-)
-    ensures { page.new ≡ drawn ink (cut width length (placed 0 w h x y (shifted d (row_of (bit_row bits.now at) bw 1 v0 v1)))) page.old }
+fn ink_bytes(page: &mut [u8], ink: Ink, spot: Spot, row: Row)
+    ensures { page.new ≡ drawn ink (cut spot.corner.size.width spot.corner.size.length (placed 0 spot.wide spot.high spot.corner.x spot.corner.y (shifted row.entry.d (row_of (bit_row row.entry.bits.now row.entry.at) row.entry.wide 1 row.entry.v0 row.entry.v1)))) page.old }
 {
-    let n = bw / 8 + (bw % 8 + 7) / 8;
-    let mut k: usize = 0;
-    while k < n {
-        let b = byte_of(bits, at, k * 8);
-        ink_eight(
-            page,
-            ink,
-            width,
-            length,
-            x,
-            y,
-            w,
-            h,
-            d,
-            b,
-            k * 8,
-            bw,
-            v0,
-            v1,
-        );
-        k += 1;
+    let n = row.wide / 8 + (row.wide % 8 + 7) / 8;
+    for k in 0..n {
+        let b = row.byte(k * 8);
+        ink_eight(page, ink, spot, row, b, k * 8);
     }
 }
 
-// Draws one row of a bitmap: the bw dots from byte `at` on, each hm dots wide, as the rows v0 up to v1 of a figure that starts at d.
-fn ink_row(
-    page: &mut [u8],
-    ink: Ink,
-    width: usize,
-    length: usize,
-    r: usize,
-    x: usize,
-    y: usize,
-    w: usize,
-    h: usize,
-    d: usize,
-    bits: &[u8],
-    at: usize,
-    bw: usize,
-    hm: usize,
-    v0: usize,
-    v1: usize,
-)
-    ensures { page.new ≡ drawn ink (cut width length (placed r w h x y (shifted d (row_of (bit_row bits.now at) bw hm v0 v1)))) page.old }
+// Draws one row of a bitmap.
+fn ink_row(page: &mut [u8], ink: Ink, spot: Spot, row: Row)
+    ensures { page.new ≡ drawn ink (on_label spot (shifted row.entry.d (row_of (bit_row row.entry.bits.now row.entry.at) row.entry.wide row.entry.m row.entry.v0 row.entry.v1))) page.old }
 {
-    if hm == 1 {
-        if r % 4 == 0 {
-            ink_bytes(
-                page, ink, width, length, x, y, w, h, d, bits, at, bw, v0, v1,
-            );
+    if row.m == 1 {
+        if spot.corner.r % 4 == 0 {
+            ink_bytes(page, ink, spot, row);
             return;
         }
     }
-    ink_runs(
-        page, ink, width, length, r, x, y, w, h, d, bits, at, bw, hm, v0, v1,
-    );
+    ink_runs(page, ink, spot, row);
 }
 
-// Draws a bitmap of bw by bh dots, whose rows are of `stride` bytes, each dot hm dots wide and vm high, d to the right of the corner of a figure in a
-// box of w by h dots, which is turned by r quarters and then has its corner at (x, y).
-pub fn ink_bitmap(
-    page: &mut [u8],
-    ink: Ink,
-    width: usize,
-    length: usize,
-    r: usize,
-    x: usize,
-    y: usize,
-    w: usize,
-    h: usize,
-    d: usize,
-    bits: &[u8],
-    stride: usize,
-    bw: usize,
-    bh: usize,
-    hm: usize,
-    vm: usize,
-)
-    ensures { page.new ≡ drawn ink (cut width length (placed r w h x y (shifted d (scaled bw bh hm vm (bitmap bits.now stride))))) page.old }
+// Draws a bitmap, d to the right of the corner of a figure whose box stands at a spot.
+pub fn ink_bitmap(page: &mut [u8], ink: Ink, spot: Spot, d: usize, bitmap: Bitmap)
+    ensures { page.new ≡ drawn ink (on_label spot (shifted d (scaled bitmap.entry.wide bitmap.entry.high bitmap.entry.hm bitmap.entry.vm (bitmap_of bitmap.entry.bits.now bitmap.entry.stride)))) page.old }
 {
-    let mut g = 0;
-    while g < bh {
-        let at = edge(0, g, stride);
-        let v0 = edge(0, g, vm);
-        let v1 = edge(0, g + 1, vm);
-        ink_row(
-            page, ink, width, length, r, x, y, w, h, d, bits, at, bw, hm, v0, v1,
-        );
-        g += 1;
+    for g in 0..bitmap.high {
+        let row = Row {
+            bits: bitmap.bits,
+            at: edge(0, g, bitmap.stride),
+            wide: bitmap.wide,
+            m: bitmap.hm,
+            d,
+            v0: edge(0, g, bitmap.vm),
+            v1: edge(0, g + 1, bitmap.vm),
+        };
+        ink_row(page, ink, spot, row);
     }
 }

@@ -9,6 +9,22 @@ ghost use Rattle.dots.specs.Dots.{bytes_a_row, dots_a_row, drawn, box, cut};
 use dots::{BYTES_A_ROW, DOTS_A_ROW, Ink, ink_dots, span_mask};
 use ground::least;
 
+// The label's width and length, which cut whatever is drawn.
+#[derive(Clone, Copy)]
+pub struct Size {
+    pub width: usize,
+    pub length: usize,
+}
+
+// A box of dots: those from x0 up to, not including, x1 of the rows from y0 up to, not including, y1.
+#[derive(Clone, Copy)]
+pub struct Area {
+    pub x0: usize,
+    pub y0: usize,
+    pub x1: usize,
+    pub y1: usize,
+}
+
 // Draws the dots lo up to hi of byte i of row y.
 fn ink_byte(page: &mut [u8], ink: Ink, y: usize, i: usize, lo: usize, hi: usize)
     requires { (i < bytes_a_row) × (y * bytes_a_row + bytes_a_row ≤ length page.old) × (lo ≤ hi) × (hi ≤ 8) }
@@ -24,10 +40,8 @@ fn ink_bytes(page: &mut [u8], ink: Ink, y: usize, i: usize, j: usize)
     requires { (i ≤ j) × (j ≤ bytes_a_row) × (y * bytes_a_row + bytes_a_row ≤ length page.old) }
     ensures { page.new ≡ drawn ink (box (i * 8) y (j * 8) (y + 1)) page.old }
 {
-    let mut n = i;
-    while n < j {
+    for n in i..j {
         ink_byte(page, ink, y, n, 0, 8);
-        n += 1;
     }
 }
 
@@ -49,27 +63,16 @@ fn ink_span(page: &mut [u8], ink: Ink, y: usize, x0: usize, x1: usize)
     }
 }
 
-// LO, LW, LE: draws the dots from x0 up to x1 of the rows from y0 up to y1 in an ink, cut at width and length.
-pub fn ink_box(
-    page: &mut [u8],
-    ink: Ink,
-    width: usize,
-    length: usize,
-    x0: usize,
-    y0: usize,
-    x1: usize,
-    y1: usize,
-)
-    ensures { page.new ≡ drawn ink (cut width length (box x0 y0 x1 y1)) page.old }
+// LO, LW, LE: draws the dots of a box in an ink, cut at width and length.
+pub fn ink_box(page: &mut [u8], ink: Ink, size: Size, area: Area)
+    ensures { page.new ≡ drawn ink (cut size.width size.length (box area.x0 area.y0 area.x1 area.y1)) page.old }
 {
-    let right = least(least(x1, width), DOTS_A_ROW);
-    let bottom = least(least(y1, length), page.len() / BYTES_A_ROW);
-    if right <= x0 {
+    let right = least(least(area.x1, size.width), DOTS_A_ROW);
+    let bottom = least(least(area.y1, size.length), page.len() / BYTES_A_ROW);
+    if right <= area.x0 {
         return;
     }
-    let mut y = y0;
-    while y < bottom {
-        ink_span(page, ink, y, x0, right);
-        y += 1;
+    for y in area.y0..bottom {
+        ink_span(page, ink, y, area.x0, right);
     }
 }

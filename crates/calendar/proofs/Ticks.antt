@@ -7,8 +7,9 @@ use native.Mathlib.Decide.{dec_lt}
 use native.Mathlib.Omega.{arith}
 use lib.Dec.{leb, ltb, eqb}
 use borrow.Author.Tests.{leb-true, lt-ltb, le-ltb, eqb-true}
+use Rattle.std.proofs.Common.{Ok, Err}
 use Rattle.calendar.specs.declared.Clock.{Clock}
-use Rattle.calendar.specs.declared.Moved.TheVariants.{To, NoClock, TooLong}
+use Rattle.calendar.specs.declared.Unmoved.TheVariants.{NoClock, TooLong}
 use Rattle.calendar.specs.Clock.{clock, days_in, legal_clock, last_day, last, next_day, tick, after, moved}
 use Rattle.calendar.specs.Day.{time_of, at_time}
 use Rattle.ground.proofs.Tests.{and_left, and_right}
@@ -197,16 +198,16 @@ module _ (c : Clock) (n : ℕ) (l : Legal c) where
 -- ---- the clock call
 
 -- where the call moves the clock, it was legal, at most a day passed, and the clock is where its seconds bring it
-pub moved_to : (c d : Clock) (n : ℕ) → moved c n ≡ To d → (legal_clock c ≡ true) × (n ≤ 86400) × (d ≡ after c n)
+pub moved_to : (c d : Clock) (n : ℕ) → moved c n ≡ Ok d → (legal_clock c ≡ true) × (n ≤ 86400) × (d ≡ after c n)
 unfolding moved
 moved_to c d n = go (legal_clock c) (leb n 86400) refl refl
   where
-    go : (a b : Bool) → legal_clock c ≡ a → leb n 86400 ≡ b → cond a (cond b (To (after c n)) TooLong) NoClock ≡ To d
+    go : (a b : Bool) → legal_clock c ≡ a → leb n 86400 ≡ b → cond a (cond b (Ok (after c n)) (Err TooLong)) (Err NoClock) ≡ Ok d
         → (legal_clock c ≡ true) × (n ≤ 86400) × (d ≡ after c n)
     go true true p q e = (p, leb-true n 86400 q, let z : after c n ≡ d = cc in sym z)
     go true false p q e = absurd (let z : ◌≡◌ {A = ℕ} 0 1 = cc in omega arith)
     go false b p q e = absurd (let z : ◌≡◌ {A = ℕ} 0 1 = cc in omega arith)
 
 -- and it is legal again
-pub moved-legal : (c d : Clock) (n : ℕ) → moved c n ≡ To d → legal_clock d ≡ true
+pub moved-legal : (c d : Clock) (n : ℕ) → moved c n ≡ Ok d → legal_clock d ≡ true
 moved-legal c d n e = let m = moved_to c d n e in rw m.2 (after-legal c n m.0)

@@ -1,9 +1,9 @@
 -- Dates, the manual's example, and the edges of the calendar, computed.
 -- Assumes nothing.
-use Rattle.std.specs.Prelude.{ℕ, ◌≡◌, refl, true, false, List, [], ◌∷◌}
+use Rattle.std.specs.Prelude.{ℕ, ◌≡◌, refl, true, false, List, [], ◌∷◌, Ok, Err}
 use Rattle.kinds.specs.Bytes.{between}
 use Rattle.calendar.specs.declared.Clock.{Clock}
-use Rattle.calendar.specs.declared.Moved.TheVariants.{To, NoClock, TooLong}
+use Rattle.calendar.specs.declared.Unmoved.TheVariants.{NoClock, TooLong}
 use Rattle.calendar.specs.Clock.{clock, leap, thirty, days_in, legal_clock, fresh, last, last_day, next_day, tick, after, moved}
 
 -- 2000, 2004 and 2096 are leap years, 2001, 2098 and 2099 are none; by the same rule 2100 is none, and 2400 is one
@@ -90,6 +90,6 @@ case-last = refl
 -- nothing passed; a second too many; a clock that is none, of which nothing else is asked
 case-moved :
     moved (clock 4 4 2 14 10 12) 0 ∷ moved (clock 4 4 2 14 10 12) 86401 ∷ moved (clock 1 2 29 0 0 0) 86401 ∷ []
-    ≡ To (clock 4 4 2 14 10 12) ∷ TooLong ∷ NoClock ∷ []
+    ≡ Ok (clock 4 4 2 14 10 12) ∷ Err TooLong ∷ Err NoClock ∷ []
 unfolding moved legal_clock days_in leap thirty between after
 case-moved = refl

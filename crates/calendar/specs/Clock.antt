@@ -1,10 +1,10 @@
 -- Paper 02, §10: the clock, which dates and times there are, and the seconds that pass.
 -- Assumes nothing.
-use Rattle.std.specs.Prelude.{ℕ, zero, suc, ◌+◌, ◌%◌, Bool, cond, ◌&&◌, ◌||◌, leb, ltb, eqb}
+use Rattle.std.specs.Prelude.{ℕ, zero, suc, ◌+◌, ◌%◌, Bool, cond, ◌&&◌, ◌||◌, leb, ltb, eqb, Result, Ok, Err}
 use Rattle.kinds.specs.Bytes.{between}
 use Rattle.calendar.specs.declared.Clock.{Clock}
-use Rattle.calendar.specs.declared.Moved.{Moved}
-use Rattle.calendar.specs.declared.Moved.TheVariants.{To, NoClock, TooLong}
+use Rattle.calendar.specs.declared.Unmoved.{Unmoved}
+use Rattle.calendar.specs.declared.Unmoved.TheVariants.{NoClock, TooLong}
 
 abbrev pub clock : ℕ → ℕ → ℕ → ℕ → ℕ → ℕ → Clock
 clock y mo d h mi s = record { year = y; month = mo; day = d; hour = h; minute = mi; second = s }
@@ -67,5 +67,5 @@ after c zero = c
 after c (suc n) = after (tick c) n
 
 -- "a call that gives the seconds passed, 0 to 86,400"; "3 from the clock call for a bad clock, 7 for a wrong date or seconds"
-unfoldable pub moved : Clock → ℕ → Moved
-moved c n = cond (legal_clock c) (cond (leb n 86400) (To (after c n)) TooLong) NoClock
+unfoldable pub moved : Clock → ℕ → Result Clock Unmoved
+moved c n = cond (legal_clock c) (cond (leb n 86400) (Ok (after c n)) (Err TooLong)) (Err NoClock)

@@ -25,10 +25,9 @@ pub struct Clock {
     pub second: u8,
 }
 
-// What becomes of the clock when seconds pass: it moves; [3] it is no date and time; [7] more than a day.
+// Why the clock doesn't move: [3] it is no date and time; [7] more than a day.
 #[derive(Clone, Copy)]
-pub enum Moved {
-    To(Clock),
+pub enum Unmoved {
     NoClock,
     TooLong,
 }
@@ -69,12 +68,6 @@ pub fn days_in(year: usize, month: usize) -> usize
         return 30;
     }
     31
-}
-
-fn long(x: u8) -> u64
-    ensures { result ≡ x }
-{
-    x as u64
 }
 
 impl Clock {
@@ -198,7 +191,7 @@ impl Clock {
     fn time_of(self) -> u64
         ensures { result ≡ time_of self }
     {
-        long(self.hour) * 3600 + long(self.minute) * 60 + long(self.second)
+        u64::from(self.hour) * 3600 + u64::from(self.minute) * 60 + u64::from(self.second)
     }
 
     // The same day, t seconds after midnight.
@@ -235,14 +228,14 @@ impl Clock {
 }
 
 // The clock call: the clock after the seconds passed, 0 to 86,400.
-pub fn move_clock(c: Clock, seconds: u64) -> Moved
+pub fn move_clock(c: Clock, seconds: u64) -> Result<Clock, Unmoved>
     ensures { result ≡ moved c seconds }
 {
-    if c.is_legal() {
-        if seconds <= 86400 {
-            return Moved::To(c.after(seconds));
-        }
-        return Moved::TooLong;
+    if !c.is_legal() {
+        return Err(Unmoved::NoClock);
     }
-    Moved::NoClock
+    if seconds > 86400 {
+        return Err(Unmoved::TooLong);
+    }
+    Ok(c.after(seconds))
 }

@@ -18,7 +18,7 @@ use Rattle.session.specs.Session.{none, fresh}
 use Rattle.lent.specs.Lent.{World, rows_of, wrong_lent}
 use Rattle.calls.specs.Outcomes.{After, after, outcome, Drawn, drawn_by, labelled, Opened, opened_by}
 use Rattle.calls.specs.Table.{command_table, label_table}
-use Rattle.results.specs.World.{State}
+use Rattle.commands.specs.World.{State}
 use Rattle.calls.specs.Station.{cleared, opened, does_front, lists_front, accepted, refused, commanded, label_page, label_session, labelled_by}
 
 -- ---- a label call that is refused keeps session and page

@@ -11,12 +11,12 @@ use Rattle.answers.specs.declared.Answer.{Answer}
 use Rattle.answers.specs.declared.Answer.TheVariants.{Taken}
 use Rattle.answers.specs.Answers.{is_taken, answer_of}
 use Rattle.lent.specs.Lent.{World, rows_of}
-use Rattle.results.specs.World.{State, state}
+use Rattle.commands.specs.World.{State, state}
 use Rattle.calls.specs.Outcomes.{After, after, outcome}
 use Rattle.unread.specs.Front.{line_of, more_of, read_by}
 use Rattle.calls.specs.Table.{command_table}
 use Rattle.commands.specs.Does.{does_line, lists_line}
-use Rattle.results.specs.Result.{Ran}
+use Rattle.commands.specs.Result.{Ran}
 unfoldable pub use Rattle.opening.specs.Opening.{cleared, opened}
 pub use Rattle.session.specs.Label.{turned_by}
 unfoldable pub use Rattle.session.specs.Label.{label_page, label_session}

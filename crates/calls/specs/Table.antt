@@ -10,7 +10,7 @@ use Rattle.answers.specs.Answers.{Row, row}
 use Rattle.lent.specs.Lent.{World, rows_of, wrong_lent}
 use Rattle.commands.specs.Rows.{line_rows}
 use Rattle.unread.specs.Front.{line_of, more_of, front_answer}
-pub use Rattle.sound.specs.Entry.{entry_rows}
+pub use Rattle.labelling.specs.Entry.{entry_rows}
 unfoldable pub use Rattle.labelling.specs.Labelling.{label_table}
 
 -- 4 and 5 by the front of the input, and from 6 on by the line in it

@@ -1,1 +1,2 @@
 pub mod Carried
+pub use Rattle.recording.specs.Judged

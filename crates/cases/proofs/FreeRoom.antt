@@ -8,7 +8,7 @@ use lib.ListN.{drop, replicate}
 use Rattle.pcx.specs.Cases.{header, file}
 use Rattle.growing.specs.Keep.{kept}
 use Rattle.erasing.specs.Erase.{freed, erased}
-use Rattle.commands.specs.Running.{line_table, line_by}
+use Rattle.calls.specs.Running.{line_table, line_by}
 use Rattle.store_sound.specs.Sound.{store_sound}
 use Rattle.sound.specs.Sound.{sound}
 use Rattle.session.specs.declared.Session.{Session}

@@ -7,7 +7,7 @@ use lib.ListN.{replicate}
 use Rattle.kinds.specs.Text.{bytes}
 use Rattle.dots.specs.Dots.{redrawn, drawn}
 use Rattle.slanted_lines.specs.Slanted.{gap, squared, cross, near, in_limits, slanted}
-use Rattle.grammar.specs.declared.Ink.TheVariants.{Black, White, Inverted}
+use Rattle.dots.specs.declared.Ink.TheVariants.{Black, White, Inverted}
 use Rattle.grammar.specs.declared.Slant.{Slant as SlantLine}
 use Rattle.grammar.specs.declared.Item.TheVariants.{Slant}
 use Rattle.grammar.specs.declared.Command.TheVariants.{Item as item}

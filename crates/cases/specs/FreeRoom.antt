@@ -12,7 +12,7 @@ use Rattle.answers.specs.Answers.{number_of}
 use Rattle.lent.specs.Lent.{World, world}
 use Rattle.calls.specs.Outcomes.{After}
 use Rattle.calls.specs.Station.{commanded}
-use Rattle.commands.specs.Running.{line_by}
+use Rattle.calls.specs.Running.{line_by}
 use Rattle.cases.specs.Calls.{font, output}
 
 -- the number after each of so many calls, each of which reads at the front of what the calls before it left unread

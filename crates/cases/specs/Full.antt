@@ -1,13 +1,12 @@
 -- Which kind of full (paper 02, §5): what FS and GM are answered outside recording, computed, with two portions free and with none. Of `directory` one entry of two is
 -- empty, of `all_in_use` none.
 -- Assumes nothing.
-use Rattle.std.specs.Prelude.{ℕ, ◌≡◌, refl, false, List, [], ◌∷◌}
+use Rattle.std.specs.Prelude.{ℕ, ◌≡◌, refl, false, List, [], ◌∷◌, None}
 use Rattle.kinds.specs.Bytes.{between}
 use Rattle.kinds.specs.Text.{bytes}
 use Rattle.cells.specs.Cell.{cell}
 use Rattle.cells.specs.Scan.{lowest_from}
 use Rattle.store.specs.Samples.{directory}
-use Rattle.finding.specs.declared.Found.TheVariants.{Nothing}
 use Rattle.finding.specs.Find.{found, titled, same_name}
 use Rattle.parts.specs.Names.{capital, name_byte}
 use Rattle.pcx.specs.Cases.{header, file}
@@ -20,11 +19,11 @@ use Rattle.answers.specs.Answers.{answer_of, number_of}
 use Rattle.full.specs.Cases.{all_in_use}
 use Rattle.lent.specs.Lent.{world}
 use Rattle.session.specs.Session.{fresh}
-use Rattle.commands.specs.Rows.{placed_rows}
+use Rattle.calls.specs.Rows.{placed_rows}
 
 -- the number that a command is answered with so many portions free, this directory and these bytes behind its line
 unfoldable given : ℕ → List ℕ → List ℕ → List ℕ → Command → ℕ
-given free dir line more c = number_of (answer_of (placed_rows (world [] [] [] dir []) (fresh 1 free) line more 0 c Nothing))
+given free dir line more c = number_of (answer_of (placed_rows (world [] [] [] dir []) (fresh 1 free) line more 0 c None))
 
 -- FS of a name of one byte, and GM of "B" with these bytes
 unfoldable starts : ℕ → List ℕ → List ℕ → ℕ

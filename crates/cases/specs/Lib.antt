@@ -4,3 +4,5 @@ pub mod Table
 pub mod Full
 pub mod FreeRoom
 pub mod Slants
+pub use Rattle.calls.specs.Outcomes
+pub use Rattle.calls.specs.Station

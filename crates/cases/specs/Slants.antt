@@ -1,15 +1,15 @@
 -- Paper 02, §8: slanted lines as they are read, kept and drawn.
 -- Assumes nothing.
-use Rattle.std.specs.Prelude.{ℕ, ◌+◌, List, [], ◌∷◌, ◌++◌, map, get_or, replicate}
+use Rattle.std.specs.Prelude.{ℕ, ◌+◌, List, [], ◌∷◌, ◌++◌, map, get_or, replicate, Result, Ok, Err}
+use Rattle.read.specs.declared.Fault.{Fault}
+use Rattle.grammar.specs.declared.Command.{Command}
 use Rattle.kinds.specs.Text.{bytes}
 use Rattle.calendar.specs.Clock.{fresh as midnight}
 use Rattle.counters.specs.Counters.{none_set}
-use Rattle.grammar.specs.declared.Ink.{Ink}
+use Rattle.dots.specs.declared.Ink.{Ink}
 use Rattle.grammar.specs.declared.Item.TheVariants.{Slant}
 use Rattle.grammar.specs.declared.Command.TheVariants.{Item as item}
 use Rattle.read.specs.declared.Fault.TheVariants.{Form as form, Limit}
-use Rattle.read.specs.declared.Read.{Read}
-use Rattle.read.specs.declared.Read.TheVariants.{Taken, Refused}
 use Rattle.read.specs.Commands.{read_of}
 use Rattle.item_drawing.specs.Draw.{setting}
 use Rattle.form_drawing.specs.Draw.{form_drawn}
@@ -32,24 +32,24 @@ numbers =
     ∷ []
 
 -- behind `LS`, `LSE` or `LSW`
-abbrev pub read_behind : List ℕ → List Read
+abbrev pub read_behind : List ℕ → List (Result Command Fault)
 read_behind letters = map (λ (n : List ℕ). read_of 240 (letters ++ n)) numbers
 
-abbrev pub slant : Ink → ℕ → ℕ → ℕ → ℕ → ℕ → Read
-slant ink a b c d e = Taken (item (Slant (record { ink = ink; a = a; b = b; c = c; d = d; e = e })))
+abbrev pub slant : Ink → ℕ → ℕ → ℕ → ℕ → ℕ → Result Command Fault
+slant ink a b c d e = Ok (item (Slant (record { ink = ink; a = a; b = b; c = c; d = d; e = e })))
 
 -- a line in an ink, or 7 at the number that is out, of which the first stands at a place
-abbrev pub expected : Ink → ℕ → List Read
+abbrev pub expected : Ink → ℕ → List (Result Command Fault)
 expected ink at =
     slant ink 0 0 1 0 0
     ∷ slant ink 2047 4095 80 2047 4095
-    ∷ Refused (Limit at)
-    ∷ Refused (Limit (at + 5))
-    ∷ Refused (Limit (at + 10))
-    ∷ Refused (Limit (at + 10))
-    ∷ Refused (Limit (at + 13))
-    ∷ Refused (Limit (at + 18))
-    ∷ Refused (Limit at)
+    ∷ Err (Limit at)
+    ∷ Err (Limit (at + 5))
+    ∷ Err (Limit (at + 10))
+    ∷ Err (Limit (at + 10))
+    ∷ Err (Limit (at + 13))
+    ∷ Err (Limit (at + 18))
+    ∷ Err (Limit at)
     ∷ []
 
 -- ---- 6, with its place
@@ -68,11 +68,11 @@ unwritten =
     ∷ (bytes "LSW2048,0,0,0,0,", 15)
     ∷ []
 
-abbrev pub read_as : List (List ℕ × ℕ) → List Read
+abbrev pub read_as : List (List ℕ × ℕ) → List (Result Command Fault)
 read_as cs = map (λ (c : List ℕ × ℕ). read_of 240 c.0) cs
 
-abbrev pub pointed : List (List ℕ × ℕ) → List Read
-pointed cs = map (λ (c : List ℕ × ℕ). Refused (form c.1)) cs
+abbrev pub pointed : List (List ℕ × ℕ) → List (Result Command Fault)
+pointed cs = map (λ (c : List ℕ × ℕ). Err (form c.1)) cs
 
 -- ---- what a form draws on a page of four rows, and the first byte of each
 

@@ -19,8 +19,7 @@ fn claim(links: &[u16], first: usize, n: usize, marks: &mut [u8]) -> bool
     ensures marked { result ≡ true → marks.new ≡ set_all marks.old (chain links.now first n) 1 }
 {
     let mut p = first;
-    let mut k = n;
-    while 0 < k {
+    for _ in 0..n {
         if links.len() <= p {
             return false;
         }
@@ -29,7 +28,6 @@ fn claim(links: &[u16], first: usize, n: usize, marks: &mut [u8]) -> bool
         }
         marks[p] = 1;
         p = links[p] as usize;
-        k -= 1;
     }
     p == END_LINK as usize
 }
@@ -67,12 +65,10 @@ fn claim_all(links: &[u16], directory: &[u8], marks: &mut [u8]) -> bool
     ensures claimed { result ≡ true → Claimed links.now (firsts directory.now) (counts directory.now) (entries directory.now) marks.new }
 {
     let n = directory.len() / BYTES_AN_ENTRY;
-    let mut i = 0;
-    while i < n {
+    for i in 0..n {
         if !claim_entry(links, directory, i, marks) {
             return false;
         }
-        i += 1;
     }
     true
 }
@@ -82,14 +78,7 @@ fn marks_fit(links: &[u16], marks: &[u8]) -> bool
     requires { length links.now ≤ length marks.now }
     ensures { result ≡ all_to (mark_fits links.now marks.now) (length links.now) }
 {
-    let mut q = 0;
-    while q < links.len() {
-        if !mark_fits(links, marks, q) {
-            return false;
-        }
-        q += 1;
-    }
-    true
+    (0..links.len()).all(|q| mark_fits(links, marks, q))
 }
 
 // There are no more portions than may be lent, each chain has its portions and then ends, no portion is in two, and all others are free.

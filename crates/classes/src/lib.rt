@@ -19,62 +19,18 @@ pub enum Class {
     Side,
 }
 
-// Whether a byte is of a class.
+// Whether a byte is of a class. A quoted text asks for the quote first, so that the rest of its bytes are one range.
+#[tactic(auto, unfolding(kinds::specs::Bytes::between))]
 pub fn in_class(k: Class, b: u8) -> bool
     ensures { result ≡ in_class k b }
 {
     match k {
-        Class::Digit => match b {
-            b'0'..=b'9' => true,
-            _ => false,
-        },
-        Class::Quoted => is_quoted(b),
-        Class::Inside => match b {
-            b'\n' => false,
-            _ => true,
-        },
-        Class::Named => match b {
-            b' '..=b'!' => true,
-            b'#'..=b')' => true,
-            b'+'..=b'~' => true,
-            _ => false,
-        },
-        Class::Mode => is_mode(b),
-        Class::Side => is_side(b),
-    }
-}
-
-// The quote first, so that the rest of a text's bytes are one range.
-fn is_quoted(b: u8) -> bool
-    ensures { result ≡ in_class Class.Quoted b }
-{
-    match b {
-        b'"' => false,
-        b' '..=b'~' => true,
-        _ => false,
-    }
-}
-
-fn is_mode(b: u8) -> bool
-    ensures { result ≡ in_class Class.Mode b }
-{
-    match b {
-        b'N' => true,
-        b'R' => true,
-        _ => false,
-    }
-}
-
-fn is_side(b: u8) -> bool
-    ensures { result ≡ in_class Class.Side b }
-{
-    match b {
-        b'L' => true,
-        b'R' => true,
-        b'C' => true,
-        b'N' => true,
-        b'Z' => true,
-        _ => false,
+        Class::Digit => matches!(b, b'0'..=b'9'),
+        Class::Quoted => b != b'"' && matches!(b, b' '..=b'~'),
+        Class::Inside => b != b'\n',
+        Class::Named => matches!(b, b' '..=b'!' | b'#'..=b')' | b'+'..=b'~'),
+        Class::Mode => matches!(b, b'N' | b'R'),
+        Class::Side => matches!(b, b'L' | b'R' | b'C' | b'N' | b'Z'),
     }
 }
 
@@ -82,14 +38,10 @@ fn is_side(b: u8) -> bool
 pub fn run_end(line: &[u8], k: Class, at: usize) -> usize
     ensures { result ≡ at + run k (drop at line.now) }
 {
-    let mut i = at;
-    while i < line.len() {
-        let b = line[i];
-        if in_class(k, b) {
-            i += 1;
-        } else {
+    for i in at..line.len() {
+        if !in_class(k, line[i]) {
             return i;
         }
     }
-    i
+    at.max(line.len())
 }

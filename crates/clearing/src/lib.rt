@@ -13,11 +13,7 @@ use store::FREE_LINK;
 fn free_all(links: &mut [u16])
     ensures { links.new ≡ replicate (length links.old) free_link }
 {
-    let mut i = 0;
-    while i < links.len() {
-        links[i] = FREE_LINK;
-        i += 1;
-    }
+    links.fill(FREE_LINK);
 }
 
 fn zero(bytes: &mut [u8])

@@ -9,7 +9,7 @@ ghost use Rattle.std.specs.Prelude.{◌≡◌};
 ghost use Rattle.clock_call.specs.Passing.{passed};
 
 use answers::Answer;
-use calendar::{Moved, move_clock};
+use calendar::{Unmoved, move_clock};
 use session::{Labelled, Session};
 
 // Seconds pass.
@@ -18,15 +18,15 @@ pub fn pass(session: Session, seconds: u64) -> Labelled
 {
     let before = session.clock;
     match move_clock(before, seconds) {
-        Moved::To(clock) => Labelled {
+        Ok(clock) => Labelled {
             answer: Answer::Taken,
             session: session.clocked(clock),
         },
-        Moved::NoClock => Labelled {
+        Err(Unmoved::NoClock) => Labelled {
             answer: Answer::Unsound,
             session: session,
         },
-        Moved::TooLong => Labelled {
+        Err(Unmoved::TooLong) => Labelled {
             answer: Answer::Limits(0),
             session: session,
         },

@@ -7,7 +7,7 @@
 ghost use Rattle.std.specs.Prelude.{◌≡◌, ◌-◌, ◌≤◌, get_or};
 ghost use Rattle.code128.specs.Code128.{rows128, last_bar, check128};
 
-use ground::{byte_at, wide};
+use ground::byte_at;
 
 // The symbol after all others.
 pub const STOP: usize = 106;
@@ -51,10 +51,8 @@ pub fn check(symbols: &[u8]) -> usize
     ensures { result ≡ check128 symbols.now }
 {
     let mut sum = byte_at(symbols, 0);
-    let mut i = 1;
-    while i < symbols.len() {
+    for i in 1..symbols.len() {
         sum = sum % 103 + i % 103 * byte_at(symbols, i);
-        i += 1;
     }
     sum % 103
 }
@@ -63,5 +61,5 @@ pub fn check(symbols: &[u8]) -> usize
 pub fn above(b: u8, k: u8) -> usize
     ensures { (result ≡ b - k) × (result ≤ 255) }
 {
-    if b < k { 0 } else { wide(b - k) }
+    usize::from(b.saturating_sub(k))
 }

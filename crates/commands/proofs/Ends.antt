@@ -1,5 +1,6 @@
 -- A line: the ways it ends.
 -- Assumes nothing.
+use Rattle.std.proofs.Common.{Result, Err}
 use mathlib.Core.Path.{◌≡◌, refl, sym, ap, ◌∙◌}
 use mathlib.Core.Bool.{true, false}
 use mathlib.Core.List.{List, [], ◌∷◌}
@@ -11,8 +12,6 @@ use Rattle.grammar.specs.declared.Item.{Item}
 use Rattle.grammar.specs.declared.Command.TheVariants.{Item as item, End, Page, Forms, Pictures, Values, Listing, Clock}
 use Rattle.read.specs.declared.Fault.{Fault}
 use Rattle.read.specs.declared.Fault.TheVariants.{Form as form, Limit}
-use Rattle.read.specs.declared.Read.{Read}
-use Rattle.read.specs.declared.Read.TheVariants.{Refused}
 use Rattle.read.specs.Commands.{read_of}
 use Rattle.session.specs.declared.Session.{Session}
 use Rattle.answers.specs.declared.Answer.{Answer}
@@ -40,7 +39,7 @@ long-by font w s line more o h k = rw (h, k)
 
 -- what a line leaves is what it leaves as it was read
 pub line_read :
-    (font : List ℕ) (w : World) (s : Session) (line more o : List ℕ) (r : Read) → wrong_lent w ≡ false → ltb 255 (length line) ≡ false →
+    (font : List ℕ) (w : World) (s : Session) (line more o : List ℕ) (r : Result Command Fault) → wrong_lent w ≡ false → ltb 255 (length line) ≡ false →
     read_of (rows_of w) line ≡ r → ran_read font w s line more o r ≡ line_by font w s line more o
 unfolding line_by line_table
 line_read font w s line more o r h k e =
@@ -51,7 +50,7 @@ line_read font w s line more o r h k e =
 -- ---- 6 and 7
 
 pub fault-by :
-    (f : Fault) (font : List ℕ) (w : World) (s : Session) (line more o : List ℕ) → ran (done (fault_answer f) s 0) w o ≡ ran_read font w s line more o (Refused f)
+    (f : Fault) (font : List ℕ) (w : World) (s : Session) (line more o : List ℕ) → ran (done (fault_answer f) s 0) w o ≡ ran_read font w s line more o (Err f)
 unfolding answer_of is_taken number_of
 fault-by (form p) font w s line more o = refl
 fault-by (Limit p) font w s line more o = refl

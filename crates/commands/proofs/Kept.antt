@@ -1,5 +1,6 @@
 -- A recorded line: its normal form in a buffer of LFs, and the LF behind it.
 -- Assumes nothing.
+use Rattle.std.proofs.Common.{Ok}
 use mathlib.Core.Path.{◌≡◌, refl, ap, ◌∙◌, subst}
 use mathlib.Core.List.{List, [], ◌∷◌, ◌++◌}
 use Prim.Native.Nat.{ℕ, zero, suc, ◌+◌, ◌≤◌, ◌<◌}
@@ -8,7 +9,6 @@ use lib.ListN.{length, take, drop, replicate, length-replicate}
 use lib.Seq.{sets, sets-eq}
 use Rattle.grammar.specs.declared.Command.{Command}
 use Rattle.grammar.specs.declared.Command.TheVariants.{Item as item, End, Page, Forms, Pictures, Values, Listing, Clock}
-use Rattle.read.specs.declared.Read.TheVariants.{Taken}
 use Rattle.read.specs.Commands.{read_of}
 use Rattle.writing.specs.Writing.{Wrote}
 use Rattle.normal.proofs.Short.{normal-short}
@@ -40,7 +40,7 @@ wrote-length xs o r h w =
 
 -- ---- the normal form of an item that was read is a line
 
-pub short-read : (rows : ℕ) (line : List ℕ) (c : Command) → length line ≤ 255 → read_of rows line ≡ Taken c → IsShort c line
+pub short-read : (rows : ℕ) (line : List ℕ) (c : Command) → length line ≤ 255 → read_of rows line ≡ Ok c → IsShort c line
 short-read rows line (item it) h e = let k = normal-short rows line it e h in omega (arith, k)
 short-read rows line End h e = tt
 short-read rows line (Page c) h e = tt

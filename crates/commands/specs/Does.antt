@@ -1,16 +1,13 @@
 -- What a command does, once it is taken: to the session, to the lent lists, and to the output.
 -- Assumes nothing.
-use Rattle.std.specs.Prelude.{ℕ, ◌+◌, List, [], ◌∷◌, ◌++◌, length}
+use Rattle.std.specs.Prelude.{ℕ, ◌+◌, List, [], ◌∷◌, ◌++◌, length, Result, Ok, Err, None, Option, Some}
+use Rattle.read.specs.declared.Fault.{Fault}
 use Rattle.store.specs.Entry.{entry}
-use Rattle.finding.specs.declared.Found.{Found}
-use Rattle.finding.specs.declared.Found.TheVariants.{At, Nothing}
 use Rattle.finding.specs.Find.{recorded}
 use Rattle.growing.specs.Grow.{grown}
 use Rattle.starting.specs.Start.{finished}
 use Rattle.grammar.specs.declared.Command.{Command}
 use Rattle.grammar.specs.declared.Command.TheVariants.{Item as item, End, Page, Forms, Pictures, Values, Listing, Clock}
-use Rattle.read.specs.declared.Read.{Read}
-use Rattle.read.specs.declared.Read.TheVariants.{Taken as Reads, Refused}
 use Rattle.normal.specs.Written.{normal}
 use Rattle.session.specs.declared.Session.{Session}
 use Rattle.free_number.specs.After.{after_grown}
@@ -57,9 +54,9 @@ runs font w s line more (Values c) = value_runs w s line c
 runs font w s line more (Listing c) = state s w
 runs font w s line more (Clock c) = clock_runs w s c
 
-abbrev pub placed : List ℕ → World → Session → List ℕ → List ℕ → Command → Found → State
-placed font w s line more c (At i) = records w s line i c
-placed font w s line more c Nothing = runs font w s line more c
+abbrev pub placed : List ℕ → World → Session → List ℕ → List ℕ → Command → Option ℕ → State
+placed font w s line more c (Some i) = records w s line i c
+placed font w s line more c None = runs font w s line more c
 
 abbrev pub does : List ℕ → World → Session → List ℕ → List ℕ → Command → State
 does font w s line more c = placed font w s line more c (recorded w.directory)
@@ -76,10 +73,10 @@ listed w line (Listing c) = listed_by w line c
 listed w line (Clock c) = []
 
 -- a line that was read
-abbrev pub does_line : List ℕ → World → Session → List ℕ → List ℕ → Read → State
-does_line font w s line more (Reads c) = does font w s line more c
-does_line font w s line more (Refused f) = state s w
+abbrev pub does_line : List ℕ → World → Session → List ℕ → List ℕ → Result Command Fault → State
+does_line font w s line more (Ok c) = does font w s line more c
+does_line font w s line more (Err f) = state s w
 
-abbrev pub lists_line : World → List ℕ → Read → List ℕ
-lists_line w line (Reads c) = listed w line c
-lists_line w line (Refused f) = []
+abbrev pub lists_line : World → List ℕ → Result Command Fault → List ℕ
+lists_line w line (Ok c) = listed w line c
+lists_line w line (Err f) = []

@@ -1,9 +1,8 @@
 -- Paper 01's table from 6 on: a row for each line of it that a command can give, in its order.
 -- Assumes nothing.
-use Rattle.std.specs.Prelude.{ℕ, ◌+◌, true, not, List, [], ◌∷◌, length, ltb}
+use Rattle.std.specs.Prelude.{ℕ, ◌+◌, true, not, List, [], ◌∷◌, length, ltb, Option, Some, None, Result, Ok, Err}
+use Rattle.grammar.specs.declared.Item.{Item}
 use Rattle.declarations.specs.Declarations.{outside_forms}
-use Rattle.finding.specs.declared.Found.{Found}
-use Rattle.finding.specs.declared.Found.TheVariants.{At, Nothing}
 use Rattle.store.specs.Entry.{entry}
 use Rattle.finding.specs.Find.{recorded}
 use Rattle.room.specs.Room.{can_grow}
@@ -11,11 +10,7 @@ use Rattle.grammar.specs.declared.Command.{Command}
 use Rattle.grammar.specs.declared.Command.TheVariants.{Item as item, End, Page, Forms, Pictures, Values, Listing, Clock}
 use Rattle.read.specs.declared.Fault.{Fault}
 use Rattle.read.specs.declared.Fault.TheVariants.{Form as form, Limit}
-use Rattle.read.specs.declared.Read.{Read}
-use Rattle.read.specs.declared.Read.TheVariants.{Taken as Reads, Refused}
 use Rattle.normal.specs.Written.{normal}
-use Rattle.kept_line.specs.declared.Stored.{Stored}
-use Rattle.kept_line.specs.declared.Stored.TheVariants.{Holds, Nothing as NoItem}
 use Rattle.forms.specs.Form.{declared_of}
 use Rattle.kept_line.specs.Held.{held_command}
 use Rattle.session.specs.declared.Session.{Session}
@@ -34,11 +29,11 @@ use Rattle.places.specs.Places.{places_of}
 -- ---- 9 and later
 
 -- an item recorded in entry i: [19] "fewer free portions than needed" for the line and its LF. It makes no entry, so [23] is none of its rows. FE has no rows
-abbrev pub kept_rows : World → Session → List ℕ → ℕ → Stored → List Row
-kept_rows w s line i (Holds it) =
+abbrev pub kept_rows : World → Session → List ℕ → ℕ → Option Item → List Row
+kept_rows w s line i (Some it) =
     item_rows (declared_of (content_at w i)) w.directory line it
     (row FewPortions (not (can_grow s.free (entry w.directory i) (length (normal line) + 1))) ∷ [])
-kept_rows w s line i NoItem = []
+kept_rows w s line i None = []
 
 -- while the form of entry i is recorded
 abbrev pub record_rows : World → Session → List ℕ → ℕ → Command → List Row
@@ -60,9 +55,9 @@ abbrev pub run_rows : World → Session → List ℕ → List ℕ → ℕ → Co
 run_rows w s line more room c = row Misplaced (not (places_of c).otherwise) ∷ group_rows w s line more room c
 
 -- by whether a form is being recorded
-abbrev pub placed_rows : World → Session → List ℕ → List ℕ → ℕ → Command → Found → List Row
-placed_rows w s line more room c (At i) = record_rows w s line i c
-placed_rows w s line more room c Nothing = run_rows w s line more room c
+abbrev pub placed_rows : World → Session → List ℕ → List ℕ → ℕ → Command → Option ℕ → List Row
+placed_rows w s line more room c (Some i) = record_rows w s line i c
+placed_rows w s line more room c None = run_rows w s line more room c
 
 -- [6] "the line has not the written form", [7] "a number, name or prompt outside its limits", each with the place that reading found
 abbrev pub fault_answer : Fault → Answer
@@ -70,6 +65,6 @@ fault_answer (form p) = Unwritten p
 fault_answer (Limit p) = Limits p
 
 -- ---- 6, 7, 8: a line that is read. more are the bytes of a well-formed GM
-abbrev pub line_rows : World → Session → List ℕ → List ℕ → ℕ → Read → List Row
-line_rows w s line more room (Refused f) = row (fault_answer f) true ∷ []
-line_rows w s line more room (Reads c) = row Owing (ltb 0 s.owed) ∷ placed_rows w s line more room c (recorded w.directory)
+abbrev pub line_rows : World → Session → List ℕ → List ℕ → ℕ → Result Command Fault → List Row
+line_rows w s line more room (Err f) = row (fault_answer f) true ∷ []
+line_rows w s line more room (Ok c) = row Owing (ltb 0 s.owed) ∷ placed_rows w s line more room c (recorded w.directory)

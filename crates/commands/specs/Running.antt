@@ -1,12 +1,11 @@
 -- A line run or recorded: what it leaves of everything that it is lent.
 -- Assumes nothing.
-use Rattle.std.specs.Prelude.{ℕ, ◌<◌, List, ◌∷◌, length, ltb}
+use Rattle.std.specs.Prelude.{ℕ, ◌<◌, List, ◌∷◌, length, ltb, Option, Some, None, Result}
+use Rattle.read.specs.declared.Fault.{Fault}
+use Rattle.grammar.specs.declared.Item.{Item}
 use Rattle.grammar.specs.declared.Command.{Command}
-use Rattle.read.specs.declared.Read.{Read}
 use Rattle.read.specs.Commands.{read_of}
 use Rattle.normal.specs.Written.{normal}
-use Rattle.kept_line.specs.declared.Stored.{Stored}
-use Rattle.kept_line.specs.declared.Stored.TheVariants.{Holds, Nothing as NoItem}
 use Rattle.kept_line.specs.Held.{held_command}
 use Rattle.session.specs.declared.Session.{Session}
 use Rattle.answers.specs.declared.Answer.TheVariants.{Lengths, Long}
@@ -24,7 +23,7 @@ abbrev pub run_by : List ℕ → World → Session → List ℕ → List ℕ →
 run_by font w s line more o c = ran_by (answer_of (run_rows w s line more (length o) c)) s w o (runs font w s line more c) (listed w line c)
 
 -- a line that was read, by 6, 7 and 8 and what stands after them
-abbrev pub ran_read : List ℕ → World → Session → List ℕ → List ℕ → List ℕ → Read → Ran
+abbrev pub ran_read : List ℕ → World → Session → List ℕ → List ℕ → List ℕ → Result Command Fault → Ran
 ran_read font w s line more o r =
     ran_by (answer_of (line_rows w s line more (length o) r)) s w o (does_line font w s line more r) (lists_line w line r)
 
@@ -39,9 +38,9 @@ line_by font w s line more o =
     (lists_line w line (read_of (rows_of w) line))
 
 -- What serves the code alone: the normal form of an item that was read is a line.
-abbrev pub IsStoredShort : Stored → List ℕ → Type 0
-IsStoredShort (Holds it) line = length (normal line) < 256
-IsStoredShort NoItem line = Unit {0}
+abbrev pub IsStoredShort : Option Item → List ℕ → Type 0
+IsStoredShort (Some it) line = length (normal line) < 256
+IsStoredShort None line = Unit {0}
 
 abbrev pub IsShort : Command → List ℕ → Type 0
 IsShort c line = IsStoredShort (held_command c) line

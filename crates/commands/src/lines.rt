@@ -1,7 +1,6 @@
 // One line that was read at the front of the input: run, or recorded.
-ghost use Rattle.std.specs.Prelude.{◌≡◌};
+ghost use Rattle.std.specs.Prelude.{◌≡◌, Ok};
 ghost use Rattle.lent.specs.Lent.{world};
-ghost use Rattle.read.specs.declared.Read.TheVariants.{Taken as Reads};
 ghost use Rattle.results.specs.Result.{ran};
 ghost use Rattle.commands.specs.Rows.{fault_answer};
 ghost use Rattle.commands.specs.Running.{ran_read, line_by, IsShort};
@@ -9,9 +8,8 @@ ghost use Rattle.commands.specs.Running.{ran_read, line_by, IsShort};
 use crate::records::record;
 use crate::runs::run;
 use answers::Answer;
-use finding::Found;
 use grammar::Command;
-use read::{Fault, Read};
+use read::Fault;
 use results::{Done, answered};
 use session::Session;
 
@@ -40,15 +38,15 @@ fn on_command(
     output: &mut [u8],
 ) -> Done
     requires { IsShort command line.now }
-    ensures { ran result (world background.new store.new links.new directory.new values.new) output.new ≡ ran_read font.now (world background.old store.old links.old directory.old values.old) session line.now more.now output.old (Reads command) }
+    ensures { ran result (world background.new store.new links.new directory.new values.new) output.new ≡ ran_read font.now (world background.old store.old links.old directory.old values.old) session line.now more.now output.old (Ok command) }
 {
     let owed = session.owed;
     if 0 < owed {
         return answered(Answer::Owing, session);
     }
     match finding::recording(directory) {
-        Found::At(i) => record(session, command, line, i, store, links, directory),
-        Found::Nothing => run(
+        Some(i) => record(session, command, line, i, store, links, directory),
+        None => run(
             session, command, font, line, more, background, store, links, directory, values, output,
         ),
     }
@@ -83,9 +81,9 @@ pub fn run_line(
     }
     let rows = background.len() / 76;
     match read::read_line(line, rows) {
-        Read::Taken(command) => on_command(
+        Ok(command) => on_command(
             session, command, font, line, more, background, store, links, directory, values, output,
         ),
-        Read::Refused(fault) => answered(fault_answer(fault), session),
+        Err(fault) => answered(fault_answer(fault), session),
     }
 }

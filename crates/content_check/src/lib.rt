@@ -53,11 +53,8 @@ fn all_ok(store: &[u8], links: &[u16], directory: &[u8], buffer: &mut [u8]) -> b
     ensures { result ≡ contents_ok store.now links.now directory.now }
 {
     let n = directory.len() / BYTES_AN_ENTRY;
-    let mut i = 0;
-    while i < n {
-        if content_ok(store, links, directory, i, buffer) {
-            i += 1;
-        } else {
+    for i in 0..n {
+        if !content_ok(store, links, directory, i, buffer) {
             return false;
         }
     }

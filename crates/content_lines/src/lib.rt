@@ -14,7 +14,8 @@ use store::BYTES_A_PORTION;
 // "up to 255 bytes".
 const LONGEST_LINE: usize = 255;
 
-// What a reader finds next: a line of a length, with the reader behind its LF; the end; or no line of at most 255 bytes.
+// What a reader finds next: a line of a length, with the reader behind its LF; the end; or no line of at most 255 bytes. An enum of its own, for
+// `Result<Option<(usize, Cursor)>, Bad>` would wrap the line twice and name none of the three: no plainer.
 #[derive(Clone, Copy)]
 pub enum Next {
     Line(usize, Cursor),
@@ -39,14 +40,12 @@ fn line_run(store: &[u8], p: usize, at: usize, most: usize, buffer: &mut [u8], n
     }
     let from = p * BYTES_A_PORTION + at;
     let m = least(most, LAST_PLACE - at);
-    let mut j = 0;
-    while j < m {
+    for j in 0..m {
         let b = store[from + j];
         if b == b'\n' {
             return j;
         }
         buffer[n + j] = b;
-        j += 1;
     }
     m
 }
@@ -59,6 +58,7 @@ pub fn line_into(store: &[u8], links: &[u16], place: Cursor, buffer: &mut [u8]) 
     let mut at = place.at;
     let mut left = place.left;
     let mut n: usize = 0;
+    // A while: a turn goes on by a run of bytes and the byte behind it, as many as lie in the portion.
     while 0 < left {
         let r = line_run(store, p, at, least(left - 1, LONGEST_LINE - n), buffer, n);
         at += r;

@@ -91,11 +91,7 @@ fn copy_run(store: &[u8], p: usize, at: usize, most: usize, out: &mut [u8], k: u
     }
     let from = p * BYTES_A_PORTION + at;
     let n = least(most, LAST_PLACE - at);
-    let mut j = 0;
-    while j < n {
-        out[k + j] = store[from + j];
-        j += 1;
-    }
+    out[k..k + n].copy_from_slice(&store[from..from + n]);
     n
 }
 
@@ -108,6 +104,7 @@ pub fn copy_out(store: &[u8], links: &[u16], directory: &[u8], i: usize, out: &m
     let n = least(extent_at(links, directory, i), out.len());
     let mut at: usize = 0;
     let mut k: usize = 0;
+    // A while: a turn goes on by a run of bytes and the byte behind it, as many as lie in the portion.
     while k < n {
         let r = copy_run(store, p, at, n - k - 1, out, k);
         k += r;

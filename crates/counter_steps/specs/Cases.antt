@@ -4,12 +4,12 @@ use Rattle.std.specs.Prelude.{ℕ, ◌≡◌, refl, true, false}
 use Rattle.declarations.specs.declared.Declared.{Declared}
 use Rattle.declarations.specs.Declarations.{nothing, with_counter}
 use Rattle.counters.specs.declared.Counters.{Counters}
-use Rattle.counters.specs.Counters.{ten_to, none_set, counter_value, counter_entered}
+use Rattle.counters.specs.Counters.{ten_to, none_set, counter_value, counter_entered, counters_after}
 use Rattle.counter_steps.specs.Steps.{onward, inside, lasts, stepped_at, moved_at, moved_all, moved_times}
 
 -- counter 4 of a form, set to v
 at : Declared → ℕ → Counters
-at d v = (counter_entered d none_set 4 v).counters
+at d v = counters_after none_set (counter_entered d none_set 4 v)
 
 -- "A three-digit counter passed 999": at 999 it has a number for one label, at 997 for three, and two labels on it stands at 999
 three : Declared
@@ -85,13 +85,13 @@ both : Declared
 both = with_counter (with_counter nothing 4 1 false 1) 5 2 false 5
 
 nines : Counters
-nines = (counter_entered both (at both 9) 5 9).counters
+nines = counters_after (at both 9) (counter_entered both (at both 9) 5 9)
 
 case-both : lasts both nines 2 ≡ false
 unfolding both nines at with_counter nothing none_set counter_entered ten_to onward inside lasts
 case-both = refl
 
-case-other : moved_all both nines ≡ (counter_entered both none_set 5 14).counters
+case-other : moved_all both nines ≡ counters_after none_set (counter_entered both none_set 5 14)
 unfolding both nines at with_counter nothing none_set counter_entered ten_to onward inside stepped_at moved_at moved_all
 case-other = refl
 

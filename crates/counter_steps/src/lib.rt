@@ -13,7 +13,7 @@ use counters::{Counters, ten, wide32};
 use declarations::{Declared, tenth_byte};
 use ground::{both, either, less};
 
-// One counter: set (0 or 1) and value (0 where unset).
+// One counter: set (0 or 1) and value (0 where unset). No Option: `moved_all` leaves a counter that does not count as it stands, whatever its flag is.
 #[derive(Clone, Copy)]
 pub struct Counter {
     pub set: u8,
@@ -73,11 +73,8 @@ fn lasts_at(d: Declared, c: Counters, n: u16, k: usize) -> bool
 pub fn lasts(d: Declared, c: Counters, n: u16) -> bool
     ensures { result ≡ lasts d c n }
 {
-    let mut k: usize = 0;
-    while k < 10 {
-        if lasts_at(d, c, n, k) {
-            k += 1;
-        } else {
+    for k in 0..10 {
+        if !lasts_at(d, c, n, k) {
             return false;
         }
     }
@@ -124,12 +121,10 @@ pub fn move_all(d: Declared, c: Counters) -> Counters
 {
     let mut set = c.set;
     let mut value = c.value;
-    let mut i: usize = 0;
-    while i < 10 {
+    for i in 0..10 {
         let moved = moved_at(d, c, i);
         set[i] = moved.set;
         value[i] = moved.value;
-        i += 1;
     }
     Counters { set, value }
 }

@@ -1,4 +1,5 @@
 -- Sound counters: unset, or declared and below 10^w. Entering keeps each so.
+use Rattle.std.proofs.Common.{Ok, Err}
 use mathlib.Core.Path.{◌≡◌, refl, sym, ap, ◌∙◌}
 use mathlib.Core.Bool.{Bool, true, false, cond, ◌&&◌, ◌||◌, true≢false}
 use mathlib.Core.Logic.{◌⊎◌, inl, inr, ⊎_elim}
@@ -10,11 +11,11 @@ use lib.Dec.{eqb, ltb}
 use borrow.Author.Tests.{lt-ltb, eqb-true, ltb-true}
 use Rattle.ground.proofs.Tests.{or-second, and_left, and_right, and_both}
 use Rattle.declarations.specs.declared.Declared.{Declared}
-use Rattle.declarations.specs.declared.Entered.TheVariants.{Taken, Undeclared, Unfit}
+use Rattle.declarations.specs.declared.Refused.TheVariants.{Undeclared, Unfit}
 use Rattle.declarations.specs.Declarations.{tenth, width_at, counter_declared}
 use Rattle.declarations.proofs.Tenths.{tenth-same, tenth-other, tenth-none}
 use Rattle.counters.specs.declared.Counters.{Counters}
-use Rattle.counters.specs.Counters.{ten_to, counters, none_set, counter_set, counter_value, counted, counter_entered, counter_sound}
+use Rattle.counters.specs.Counters.{ten_to, counters, none_set, counter_set, counter_value, counter_entered, counters_after, counter_sound}
 
 -- ---- one counter
 
@@ -83,12 +84,12 @@ module _ (d : Declared) (c : Counters) (ten : length c.value ≡ 10) (old : (k :
     ]
 
     -- `?C`, taken or refused
-    pub counted-counter : (k : ℕ) → k < 10 → counter_sound d (counter_entered d c n v).counters k ≡ true
+    pub counted-counter : (k : ℕ) → k < 10 → counter_sound d (counters_after c (counter_entered d c n v)) k ≡ true
     unfolding counter_entered set-counters
     counted-counter k l = go (counter_declared d n) (ltb v (ten_to (width_at d n))) refl refl
       where
         go : (a b : Bool) → counter_declared d n ≡ a → ltb v (ten_to (width_at d n)) ≡ b
-            → counter_sound d (cond a (cond b (counted Taken set-counters) (counted Unfit c)) (counted Undeclared c)).counters k ≡ true
+            → counter_sound d (counters_after c (cond a (cond b (Ok set-counters) (Err Unfit)) (Err Undeclared))) k ≡ true
         go true true p q = taken-counter (ltb-true 0 (width_at d n) p) (ltb-true v (ten_to (width_at d n)) q) k l
         go true false p q = old k l
         go false b p q = old k l

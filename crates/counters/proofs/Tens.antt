@@ -1,4 +1,5 @@
 -- Powers of ten, the digits of a counter as a loop writes them, and a value entered.
+use Rattle.std.proofs.Common.{Ok, Err}
 use mathlib.Core.Path.{◌≡◌, refl, ap, ◌∙◌}
 use mathlib.Core.List.{List, [], ◌∷◌, ◌++◌}
 use Prim.Native.Nat.{ℕ, zero, suc, ◌+◌, ◌-◌, ◌*◌, ◌/◌, ◌%◌, ◌^◌, ◌≤◌, ◌<◌, min}
@@ -11,9 +12,9 @@ use borrow.Author.Tests.{lt-ltb, le-ltb}
 use Rattle.ground.proofs.Stores.{sets_last}
 use Rattle.declarations.specs.declared.Declared.{Declared}
 use Rattle.counters.specs.declared.Counters.{Counters}
-use Rattle.declarations.specs.declared.Entered.TheVariants.{Taken, Undeclared, Unfit}
+use Rattle.declarations.specs.declared.Refused.TheVariants.{Undeclared, Unfit}
 use Rattle.declarations.specs.Declarations.{width_at}
-use Rattle.counters.specs.Counters.{ten_to, digits, digits_of, counters, counted, counter_entered}
+use Rattle.counters.specs.Counters.{ten_to, digits, digits_of, counters, counter_entered}
 
 pub ten-is : (w : ℕ) → w ≤ 9 → ten_to w ≡ 10 ^ w
 unfolding ten_to
@@ -76,14 +77,14 @@ digits-none out rest left h = go left (omega arith)
 -- ---- a value entered
 
 module _ (d : Declared) (c : Counters) (n v : ℕ) where
-  pub entered-undeclared : width_at d n < 1 → counted Undeclared c ≡ counter_entered d c n v
+  pub entered-undeclared : width_at d n < 1 → Err Undeclared ≡ counter_entered d c n v
   unfolding counter_entered
   entered-undeclared h = rw (le-ltb 0 (width_at d n) (omega arith))
 
-  pub entered-unfit : 1 ≤ width_at d n → ten_to (width_at d n) ≤ v → counted Unfit c ≡ counter_entered d c n v
+  pub entered-unfit : 1 ≤ width_at d n → ten_to (width_at d n) ≤ v → Err Unfit ≡ counter_entered d c n v
   unfolding counter_entered
   entered-unfit h k = rw (lt-ltb 0 (width_at d n) (omega arith), le-ltb v (ten_to (width_at d n)) k)
 
-  pub entered-taken : 1 ≤ width_at d n → v < ten_to (width_at d n) → counted Taken (counters (set c.set n 1) (set c.value n v)) ≡ counter_entered d c n v
+  pub entered-taken : 1 ≤ width_at d n → v < ten_to (width_at d n) → Ok (counters (set c.set n 1) (set c.value n v)) ≡ counter_entered d c n v
   unfolding counter_entered
   entered-taken h k = rw (lt-ltb 0 (width_at d n) (omega arith), lt-ltb v (ten_to (width_at d n)) k)

@@ -1,13 +1,12 @@
 -- "A counter is its w digits"; its value, set or unset.
 -- Assumes nothing.
 use Prim.Native.Char.{code}
-use Rattle.std.specs.Prelude.{ℕ, zero, suc, ◌+◌, ◌/◌, ◌%◌, ◌^◌, min, Bool, cond, ◌&&◌, ◌||◌, List, [], ◌∷◌, set, replicate, eqb, ltb}
+use Rattle.std.specs.Prelude.{ℕ, zero, suc, ◌+◌, ◌/◌, ◌%◌, ◌^◌, min, Bool, cond, ◌&&◌, ◌||◌, List, [], ◌∷◌, set, replicate, eqb, ltb, Result, Ok, Err}
 use Rattle.std.proofs.lemmas.List.Edits.{sets}
 use Rattle.declarations.specs.declared.Declared.{Declared}
 use Rattle.counters.specs.declared.Counters.{Counters}
-use Rattle.declarations.specs.declared.Entered.{Entered}
-use Rattle.declarations.specs.declared.Entered.TheVariants.{Taken, Undeclared, Unfit}
-use Rattle.counters.specs.declared.Counted.{Counted}
+use Rattle.declarations.specs.declared.Refused.{Refused}
+use Rattle.declarations.specs.declared.Refused.TheVariants.{Undeclared, Unfit}
 use Rattle.declarations.specs.Declarations.{tenth, width_at, counter_declared}
 
 -- 10^w; a width is at most 9
@@ -41,15 +40,16 @@ counter_value c k = tenth c.value k
 unfoldable pub none_set : Counters
 none_set = counters (replicate 10 0) (replicate 10 0)
 
--- an answer, and the counters after it
-abbrev pub counted : Entered → Counters → Counted
-counted a c = record { answer = a; counters = c }
-
 -- `?Cn,value`: [13] not declared; [17] not "0 to 10^w-1"; else counter n is set to it
-unfoldable pub counter_entered : Declared → Counters → ℕ → ℕ → Counted
+unfoldable pub counter_entered : Declared → Counters → ℕ → ℕ → Result Counters Refused
 counter_entered d c n v = cond (counter_declared d n)
-    (cond (ltb v (ten_to (width_at d n))) (counted Taken (counters (set c.set n 1) (set c.value n v))) (counted Unfit c))
-    (counted Undeclared c)
+    (cond (ltb v (ten_to (width_at d n))) (Ok (counters (set c.set n 1) (set c.value n v))) (Err Unfit))
+    (Err Undeclared)
+
+-- the counters after it: where it is refused, as they were
+abbrev pub counters_after : Counters → Result Counters Refused → Counters
+counters_after c (Ok after) = after
+counters_after c (Err refused) = c
 
 -- ---- sound
 

@@ -9,24 +9,17 @@
 ghost use Rattle.std.specs.Prelude.{◌≡◌};
 ghost use Rattle.counters.specs.Counters.{ten_to, digits_of, none_set, counter_set, counter_value, counter_entered, counter_sound};
 
-use declarations::{Declared, Entered, tenth_byte, tenth_number};
+use declarations::{Declared, Refused, tenth_byte, tenth_number};
 use ground::{both, least};
 
-// The session's ten counters: set (0 or 1) and value (0 where unset).
+// The session's ten counters: set (0 or 1) and value (0 where unset). No Options: they stand in the session's image, and any bytes there are some counters.
 #[derive(Clone, Copy)]
 pub struct Counters {
     pub set: [u8; 10],
     pub value: [u32; 10],
 }
 
-// The answer to a value for a counter, and the counters after it.
-#[derive(Clone, Copy)]
-pub struct Counted {
-    pub answer: Entered,
-    pub counters: Counters,
-}
-
-// A counter's number to reckon with.
+// A counter's number to reckon with. A cast: a usize is made from no u32 by `From`.
 pub fn wide32(x: u32) -> usize
     ensures { result ≡ x }
 {
@@ -39,10 +32,8 @@ pub fn ten(w: usize) -> u32
 {
     let width = least(w, 9);
     let mut power: u32 = 1;
-    let mut i: usize = 0;
-    while i < width {
+    for _ in 0..width {
         power *= 10;
-        i += 1;
     }
     power
 }
@@ -53,9 +44,7 @@ pub fn digits_of(n: u32, w: usize) -> [u8; 9]
 {
     let mut out = [0u8; 9];
     let mut rest = n;
-    let mut left = least(w, 9);
-    while 0 < left {
-        left -= 1;
+    for left in (0..least(w, 9)).rev() {
         out[left] = (rest % 10) as u8 + b'0';
         rest /= 10;
     }
@@ -87,31 +76,21 @@ impl Counters {
     }
 }
 
-// `?Cn,value`.
-pub fn set_counter(d: Declared, c: Counters, n: usize, value: usize) -> Counted
+// `?Cn,value`: the counters after it.
+pub fn set_counter(d: Declared, c: Counters, n: usize, value: usize) -> Result<Counters, Refused>
     ensures { result ≡ counter_entered d c n value }
 {
     let w = d.width_at(n);
     if w < 1 {
-        return Counted {
-            answer: Entered::Undeclared,
-            counters: c,
-        };
+        return Err(Refused::Undeclared);
     }
     if wide32(ten(w)) <= value {
-        return Counted {
-            answer: Entered::Unfit,
-            counters: c,
-        };
+        return Err(Refused::Unfit);
     }
-    let mut set = c.set;
-    let mut values = c.value;
-    set[n] = 1;
-    values[n] = value as u32;
-    Counted {
-        answer: Entered::Taken,
-        counters: Counters { set, value: values },
-    }
+    let mut after = c;
+    after.set[n] = 1;
+    after.value[n] = value as u32;
+    Ok(after)
 }
 
 // Whether counter k is sound under a form's declarations. Mostly it is unset, and then no power is worked out.

@@ -1,34 +1,28 @@
 -- Paper 01, "Data": "One or more elements side by side", as the last field of a line.
 -- Assumes nothing.
-use Rattle.std.specs.Prelude.{ℕ, ◌+◌, Bool, true, cond, ◌&&◌, List, [], ◌∷◌, length, eqb, ltb}
-use Rattle.kinds.specs.Bytes.{between}
-use Rattle.fields.specs.declared.Field.{Field}
-use Rattle.fields.specs.declared.Field.TheVariants.{Is, Not}
+use Rattle.std.specs.Prelude.{ℕ, ◌+◌, Bool, true, cond, ◌&&◌, List, [], ◌∷◌, length, eqb, ltb, Result, Ok, Err}
+use Rattle.fields.specs.KindsBytes.{between}
 use Rattle.elements.specs.Elements.{element_at, elements}
 use Rattle.elements.specs.declared.Part.{Part}
 use Rattle.elements.specs.declared.Part.TheVariants.{Whole, First, Last, Middle}
 use Rattle.elements.specs.declared.What.{What}
 use Rattle.elements.specs.declared.What.TheVariants.{Text, Variable, Counter, Stamped}
 use Rattle.elements.specs.declared.Element.{Element}
-use Rattle.elements.specs.declared.Step.{Step}
-use Rattle.elements.specs.declared.Step.TheVariants.{Next, Stop}
-use Rattle.data_field.specs.declared.Limits.{Limits}
-use Rattle.data_field.specs.declared.Limits.TheVariants.{Within, Outside}
 
 -- how many bytes they take
 unfoldable pub total : List Element → ℕ
 total [] = 0
 total (e ∷ es) = e.length + total es
 
-abbrev pub stopped : ℕ → Step → ℕ
-stopped at (Next e) = at
-stopped at (Stop p) = p
+abbrev pub stopped : ℕ → Result Element ℕ → ℕ
+stopped at (Ok e) = at
+stopped at (Err p) = p
 
 -- one or more elements to the end of the line. As a field data has no value (0). Where it goes wrong the first piece that is no element is at fault
-unfoldable pub data_at : List ℕ → ℕ → Field
+unfoldable pub data_at : List ℕ → ℕ → Result (ℕ × ℕ) ℕ
 data_at s at =
     let e : ℕ = at + total (elements s at) in
-    cond (ltb at e && eqb e (length s)) (Is 0 e) (Not (stopped e (element_at s e)))
+    cond (ltb at e && eqb e (length s)) (Ok (0, e)) (Err (stopped e (element_at s e)))
 
 -- "n and p from 1 to 32"
 abbrev pub part_good : Part → Bool
@@ -44,6 +38,6 @@ what_good (Counter n p) = part_good p
 what_good (Stamped st) = true
 
 -- whether all modifiers are within their limits, or the place of the first element that is outside
-unfoldable pub limits : List Element → Limits
-limits [] = Within
-limits (e ∷ es) = cond (what_good e.what) (limits es) (Outside e.at)
+unfoldable pub limits : List Element → Result Unit ℕ
+limits [] = Ok tt
+limits (e ∷ es) = cond (what_good e.what) (limits es) (Err e.at)

@@ -5,48 +5,33 @@
 #![tactic(auto)]
 
 ghost use Rattle.std.specs.Prelude.{◌≡◌};
-ghost use Rattle.kinds.specs.Bytes.{between};
+ghost use Rattle.fields.specs.KindsBytes.{between};
 ghost use Rattle.elements.specs.Elements.{elements};
 ghost use Rattle.data_field.specs.Data.{data_at, limits, part_good, what_good};
 
-use elements::{Part, Step, What, element_at};
+use elements::{Part, What, element_at};
 use fields::Field;
-
-// Whether all modifiers are within their limits, or the place of the first element outside.
-#[derive(Clone, Copy)]
-pub enum Limits {
-    Within,
-    Outside(usize),
-}
 
 // Whether one or more elements stand from a place to the end of the line.
 pub fn data_form(line: &[u8], at: usize) -> Field
     ensures { result ≡ data_at line.now at }
 {
     if line.len() <= at {
-        return Field::Not(at);
+        return Err(at);
     }
     let mut i = at;
+    // A while: each element says how long it is, and so where the next begins.
     while i < line.len() {
-        match element_at(line, i) {
-            Step::Next(e) => {
-                i = e.at + e.length;
-            }
-            Step::Stop(fault) => {
-                return Field::Not(fault);
-            }
-        }
+        let e = element_at(line, i)?;
+        i = e.at + e.length;
     }
-    Field::Is(0, i)
+    Ok((0, i))
 }
 
 fn counts(n: usize) -> bool
     ensures { result ≡ between 1 32 n }
 {
-    if n < 1 {
-        return false;
-    }
-    n <= 32
+    (1..=32).contains(&n)
 }
 
 fn part_good(part: Part) -> bool
@@ -56,7 +41,7 @@ fn part_good(part: Part) -> bool
         Part::Whole => true,
         Part::First(n) => counts(n),
         Part::Last(n) => counts(n),
-        Part::Middle(p, n) => { if counts(p) { counts(n) } else { false } }
+        Part::Middle(p, n) => counts(p) && counts(n),
     }
 }
 
@@ -71,21 +56,21 @@ fn what_good(what: What) -> bool
     }
 }
 
-// Whether the modifiers of the elements from a place on are within their limits.
-pub fn data_limits(line: &[u8], at: usize) -> Limits
+// Holds the modifiers of the elements from a place on to their limits: the place of the first element outside is what is refused.
+pub fn data_limits(line: &[u8], at: usize) -> Result<(), usize>
     ensures { result ≡ limits (elements line.now at) }
 {
     let mut i = at;
+    // A while: each element says how long it is, and so where the next begins.
     while i < line.len() {
-        let Step::Next(e) = element_at(line, i) else {
-            return Limits::Within;
+        let Ok(e) = element_at(line, i) else {
+            return Ok(());
         };
         let what = e.what;
-        if what_good(what) {
-            i = e.at + e.length;
-        } else {
-            return Limits::Outside(e.at);
+        if !what_good(what) {
+            return Err(e.at);
         }
+        i = e.at + e.length;
     }
-    Limits::Within
+    Ok(())
 }

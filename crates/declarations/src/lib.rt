@@ -7,12 +7,13 @@
 // and `counters`.
 #![tactic(auto)]
 
-ghost use Rattle.std.specs.Prelude.{◌≡◌, cond};
+ghost use Rattle.std.specs.Prelude.{◌≡◌};
 ghost use Rattle.declarations.specs.Declarations.{tenth, length_at, side_at, width_at, minus_at, step_at, variable_declared, counter_declared, nothing, outside_forms, with_variable, with_counter, formatted};
 
 use formats::{Format, Formats, Stamp};
 use ground::{least, wide};
 
+// No list of Options: the definitions say what is declared of any ten numbers, `length_at` and `width_at` of numbers above 32 and 9 too.
 #[derive(Clone, Copy)]
 pub struct Declared {
     pub lengths: [u8; 10],
@@ -23,10 +24,9 @@ pub struct Declared {
     pub formats: Formats,
 }
 
-// What becomes of a value that is entered: taken; [13] not declared; [17] it does not fit.
+// Why a value that is entered is refused: [13] not declared; [17] it does not fit.
 #[derive(Clone, Copy)]
-pub enum Entered {
-    Taken,
+pub enum Refused {
     Undeclared,
     Unfit,
 }
@@ -42,12 +42,6 @@ pub fn tenth_number(l: [u32; 10], k: usize) -> u32
     ensures { result ≡ tenth l k }
 {
     if k < 10 { l[k] } else { 0 }
-}
-
-fn flag(x: bool) -> u8
-    ensures { result ≡ cond x 1 0 }
-{
-    if x { 1 } else { 0 }
 }
 
 impl Declared {
@@ -68,9 +62,10 @@ impl Declared {
     pub fn outside(formats: Formats) -> Declared
         ensures { result ≡ outside_forms formats }
     {
-        let mut d = Declared::none();
-        d.formats = formats;
-        d
+        Declared {
+            formats,
+            ..Declared::none()
+        }
     }
 
     pub fn length_at(self, k: usize) -> usize
@@ -124,60 +119,34 @@ impl Declared {
     pub fn with_variable(self, n: usize, m: usize, j: u8) -> Declared
         ensures { result ≡ with_variable self n m j }
     {
+        let mut d = self;
         if n < 10 {
-            let mut lengths = self.lengths;
-            let mut sides = self.sides;
-            let widths = self.widths;
-            let minus = self.minus;
-            let steps = self.steps;
-            let formats = self.formats;
-            lengths[n] = least(m, 32) as u8;
-            sides[n] = j;
-            return Declared {
-                lengths,
-                sides,
-                widths,
-                minus,
-                steps,
-                formats,
-            };
+            d.lengths[n] = least(m, 32) as u8;
+            d.sides[n] = j;
         }
-        self
+        d
     }
 
     // Counter n with width w, and the step's sign and size.
     pub fn with_counter(self, n: usize, w: usize, minus: bool, step: usize) -> Declared
         ensures { result ≡ with_counter self n w minus step }
     {
+        let mut d = self;
         if n < 10 {
-            let lengths = self.lengths;
-            let sides = self.sides;
-            let mut widths = self.widths;
-            let mut flags = self.minus;
-            let mut steps = self.steps;
-            let formats = self.formats;
-            widths[n] = least(w, 9) as u8;
-            flags[n] = flag(minus);
-            steps[n] = least(step, 99999) as u32;
-            return Declared {
-                lengths,
-                sides,
-                widths,
-                minus: flags,
-                steps,
-                formats,
-            };
+            d.widths[n] = least(w, 9) as u8;
+            d.minus[n] = u8::from(minus);
+            d.steps[n] = least(step, 99999) as u32;
         }
-        self
+        d
     }
 
     // A format of the date or of the time, for what comes after it.
     pub fn formatted(self, stamp: Stamp, format: Format) -> Declared
         ensures { result ≡ formatted self stamp format }
     {
-        let before = self.formats;
-        let mut d = self;
-        d.formats = before.with(stamp, format);
-        d
+        Declared {
+            formats: self.formats.with(stamp, format),
+            ..self
+        }
     }
 }

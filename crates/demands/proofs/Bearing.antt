@@ -13,7 +13,7 @@ use Rattle.cells.proofs.Counts.{all-at, all_of}
 use Rattle.cells.proofs.Scan.{lowest-same}
 use Rattle.parts.specs.Names.{capital, name_byte}
 use Rattle.store.specs.Entry.{entries, entry, kind, name_length, name, of_kind}
-use Rattle.finding.specs.declared.Found.TheVariants.{At, Nothing}
+use Rattle.std.specs.Prelude.{None, Some}
 use Rattle.finding.specs.Find.{found, same_name, titled, titled_at}
 use Rattle.store_sound.specs.Sound.{name_byte_ok, name_ok}
 use Rattle.keeps_sound.proofs.Titles.{legal-some, eight-at, title-byte}
@@ -108,7 +108,7 @@ module _ (t : List ℕ) (n : IsName t) where
       user_of directory picture t ≡ titled_at directory picture (title_of t)
   unfolding found in_use titled
   user-titled directory picture names =
-      ap (λ (x : ℕ). cond (ltb x (entries directory)) (At x) Nothing)
+      ap (λ (x : ℕ). cond (ltb x (entries directory)) (Some x) None)
       (lowest-same (in_use directory picture t) (titled directory picture (title_of t)) 0 (entries directory) (λ i h. each i (omega arith)))
     where
       some : (p : Bool) (k : ℕ) → of_kind p k ≡ true → k ≡ 0 → ⊥

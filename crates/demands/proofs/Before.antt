@@ -1,18 +1,18 @@
 -- The number of an answer is the one that was given before places were asked for.
 -- Assumes nothing.
+use Rattle.std.proofs.Common.{Result, Ok, Err}
 use mathlib.Core.Path.{◌≡◌, refl, sym, ap, ◌∙◌}
 use mathlib.Core.Bool.{Bool, true, false, cond}
 use mathlib.Core.List.{List, [], ◌∷◌}
 use Prim.Native.Nat.{ℕ}
 use native.Mathlib.Omega.{arith}
 use lib.ListN.{length}
+use Rattle.read.specs.declared.Fault.{Fault}
 use Rattle.grammar.specs.declared.Command.{Command}
 use Rattle.front.specs.declared.Front.{Front}
 use Rattle.front.specs.declared.Front.TheVariants.{Short, Long as LongLine, Idle, Line}
 use Rattle.front.specs.Front.{front_of}
 use Rattle.read.specs.declared.Fault.TheVariants.{Form as form, Limit}
-use Rattle.read.specs.declared.Read.{Read}
-use Rattle.read.specs.declared.Read.TheVariants.{Taken as Reads, Refused}
 use Rattle.read.specs.Commands.{read_of}
 use Rattle.pointing.specs.Base.{plain_read_of, placeless}
 use Rattle.pointing.proofs.Base.{reads-as-before}
@@ -22,8 +22,8 @@ use Rattle.answers.specs.Answers.{Row, answer_of, number_of}
 use Rattle.lent.specs.Lent.{World, rows_of, wrong_lent}
 use Rattle.commands.specs.Rows.{line_rows}
 use Rattle.unread.specs.Front.{line_of, more_of}
-use Rattle.calls.specs.Table.{entry_rows, command_table, front_rows}
-use Rattle.calls.specs.Station.{commanded}
+use Rattle.keeps_sound.specs.Table.{entry_rows, command_table, front_rows}
+use Rattle.keeps_sound.specs.Station.{commanded}
 use Rattle.demands.specs.Before.{rows_before, table_before}
 use Rattle.demands.proofs.Refusal.{command-answer}
 
@@ -38,17 +38,17 @@ behind r a b e = by r.applies
 
 module _ (w : World) (s : Session) (line more : List ℕ) (room : ℕ) where
   -- what differs in its place alone has the same number
-  placeless-number : (x y : Read) → placeless x ≡ placeless y → number_of (answer_of (line_rows w s line more room x)) ≡ number_of (answer_of (line_rows w s line more room y))
+  placeless-number : (x y : Result Command Fault) → placeless x ≡ placeless y → number_of (answer_of (line_rows w s line more room x)) ≡ number_of (answer_of (line_rows w s line more room y))
   unfolding answer_of number_of
-  placeless-number (Reads c) (Reads d) e = let q : c ≡ d = cc in ap (λ (k : Command). number_of (answer_of (line_rows w s line more room (Reads k)))) q
-  placeless-number (Reads c) (Refused (form p)) e = absurd (let z : ◌≡◌ {A = ℕ} 0 1 = cc in omega arith)
-  placeless-number (Reads c) (Refused (Limit p)) e = absurd (let z : ◌≡◌ {A = ℕ} 0 1 = cc in omega arith)
-  placeless-number (Refused (form p)) (Reads c) e = absurd (let z : ◌≡◌ {A = ℕ} 0 1 = cc in omega arith)
-  placeless-number (Refused (form p)) (Refused (form q)) e = refl
-  placeless-number (Refused (form p)) (Refused (Limit q)) e = absurd (let z : ◌≡◌ {A = ℕ} 0 1 = cc in omega arith)
-  placeless-number (Refused (Limit p)) (Reads c) e = absurd (let z : ◌≡◌ {A = ℕ} 0 1 = cc in omega arith)
-  placeless-number (Refused (Limit p)) (Refused (form q)) e = absurd (let z : ◌≡◌ {A = ℕ} 0 1 = cc in omega arith)
-  placeless-number (Refused (Limit p)) (Refused (Limit q)) e = refl
+  placeless-number (Ok c) (Ok d) e = let q : c ≡ d = cc in ap (λ (k : Command). number_of (answer_of (line_rows w s line more room (Ok k)))) q
+  placeless-number (Ok c) (Err (form p)) e = absurd (let z : ◌≡◌ {A = ℕ} 0 1 = cc in omega arith)
+  placeless-number (Ok c) (Err (Limit p)) e = absurd (let z : ◌≡◌ {A = ℕ} 0 1 = cc in omega arith)
+  placeless-number (Err (form p)) (Ok c) e = absurd (let z : ◌≡◌ {A = ℕ} 0 1 = cc in omega arith)
+  placeless-number (Err (form p)) (Err (form q)) e = refl
+  placeless-number (Err (form p)) (Err (Limit q)) e = absurd (let z : ◌≡◌ {A = ℕ} 0 1 = cc in omega arith)
+  placeless-number (Err (Limit p)) (Ok c) e = absurd (let z : ◌≡◌ {A = ℕ} 0 1 = cc in omega arith)
+  placeless-number (Err (Limit p)) (Err (form q)) e = absurd (let z : ◌≡◌ {A = ℕ} 0 1 = cc in omega arith)
+  placeless-number (Err (Limit p)) (Err (Limit q)) e = refl
 
 front-number : (w : World) (s : Session) (input : List ℕ) (room : ℕ) (f : Front) → number_of (answer_of (front_rows w s input room f)) ≡ number_of (answer_of (rows_before w s input room f))
 front-number w s input room Short = refl
@@ -67,13 +67,13 @@ number-as-before s font w output input =
     ∙ behind _ _ _ (behind _ _ _ (behind _ _ _ (front-number w s input (length output) (front_of input))))
 
 -- what a line holds, and with it which stored forms are sound
-held-placeless : (x y : Read) → placeless x ≡ placeless y → held_read x ≡ held_read y
-held-placeless (Reads c) (Reads d) e = let q : c ≡ d = cc in ap held_command q
-held-placeless (Reads c) (Refused (form p)) e = absurd (let z : ◌≡◌ {A = ℕ} 0 1 = cc in omega arith)
-held-placeless (Reads c) (Refused (Limit p)) e = absurd (let z : ◌≡◌ {A = ℕ} 0 1 = cc in omega arith)
-held-placeless (Refused (form p)) (Reads c) e = absurd (let z : ◌≡◌ {A = ℕ} 0 1 = cc in omega arith)
-held-placeless (Refused (Limit p)) (Reads c) e = absurd (let z : ◌≡◌ {A = ℕ} 0 1 = cc in omega arith)
-held-placeless (Refused f) (Refused g) e = refl
+held-placeless : (x y : Result Command Fault) → placeless x ≡ placeless y → held_read x ≡ held_read y
+held-placeless (Ok c) (Ok d) e = let q : c ≡ d = cc in ap held_command q
+held-placeless (Ok c) (Err (form p)) e = absurd (let z : ◌≡◌ {A = ℕ} 0 1 = cc in omega arith)
+held-placeless (Ok c) (Err (Limit p)) e = absurd (let z : ◌≡◌ {A = ℕ} 0 1 = cc in omega arith)
+held-placeless (Err (form p)) (Ok c) e = absurd (let z : ◌≡◌ {A = ℕ} 0 1 = cc in omega arith)
+held-placeless (Err (Limit p)) (Ok c) e = absurd (let z : ◌≡◌ {A = ℕ} 0 1 = cc in omega arith)
+held-placeless (Err f) (Err g) e = refl
 
 pub held-as-before : (rows : ℕ) (line : List ℕ) → held_read (read_of rows line) ≡ held_read (plain_read_of rows line)
 held-as-before rows line = held-placeless (read_of rows line) (plain_read_of rows line) (reads-as-before rows line)

@@ -1,5 +1,6 @@
 -- Paper 02, §10: the clock and the formats, through any calls.
 -- Assumes nothing.
+use Rattle.std.proofs.Common.{Some}
 use mathlib.Core.Path.{◌≡◌, refl, sym, ap, ◌∙◌, subst}
 use mathlib.Core.Bool.{Bool, true, false, cond, ◌&&◌, ◌||◌}
 use mathlib.Core.List.{List, [], ◌∷◌}
@@ -8,8 +9,9 @@ use native.Mathlib.Omega.{arith}
 use lib.ListN.{length}
 use lib.Dec.{eqb, leb}
 use borrow.Author.Tests.{le-leb, lt-leb}
+use Rattle.std.proofs.Common.{Ok, Err}
 use Rattle.calendar.specs.declared.Clock.{Clock as Time}
-use Rattle.calendar.specs.declared.Moved.TheVariants.{To, NoClock, TooLong}
+use Rattle.calendar.specs.declared.Unmoved.TheVariants.{NoClock, TooLong}
 use Rattle.calendar.specs.Clock.{legal_clock, last, after as later, moved}
 use Rattle.calendar.proofs.Ticks.{after-legal, after-after, after_last, never-past}
 use Rattle.formats.specs.declared.Formats.{Formats}
@@ -26,11 +28,9 @@ use Rattle.grammar.specs.declared.PageCommand.TheVariants.{Length, Width, Turn, 
 use Rattle.grammar.specs.declared.FormCommand.TheVariants.{Start, Retrieve, Erase as EraseForm}
 use Rattle.grammar.specs.declared.PictureCommand.TheVariants.{Store, Erase as ErasePicture}
 use Rattle.grammar.specs.declared.ValueCommand.TheVariants.{Variable as EnterVariable, Counter as EnterCounter, Clear, Print}
-use Rattle.finding.specs.declared.Found.{Found}
-use Rattle.finding.specs.declared.Found.TheVariants.{At, Nothing}
+use Rattle.std.specs.Prelude.{None, Option, Some}
 use Rattle.finding.specs.Find.{recorded}
 use Rattle.recording.specs.Judged.{declaration, declares, has_picture}
-use Rattle.kept_line.specs.declared.Stored.TheVariants.{Holds}
 use Rattle.kept_line.specs.Held.{item_in}
 use Rattle.carried.specs.Carried.{carried}
 use Rattle.item_drawing.specs.Draw.{Setting, draws_item}
@@ -40,7 +40,7 @@ use Rattle.clock_commands.specs.Clocks.{clock_said}
 use Rattle.clock_call.specs.Passing.{passed, passed_by}
 use Rattle.results.specs.Named.{named, erased_named, erased_every, place_of}
 use Rattle.results.specs.World.{State, state, inactive}
-use Rattle.form_commands.specs.Forms.{erased_form}
+use Rattle.commands.specs.Forms.{erased_form}
 use Rattle.session.specs.declared.Session.{Session}
 use Rattle.session.specs.declared.Labelled.{Labelled}
 use Rattle.session.specs.Session.{clocked, formatted}
@@ -49,10 +49,10 @@ use Rattle.answers.specs.declared.Answer.TheVariants.{Taken, Unsound, Limits}
 use Rattle.answers.specs.Answers.{is_taken, number_of, answer_of}
 use Rattle.lent.specs.Lent.{World}
 use Rattle.commands.specs.Does.{records, runs, placed}
-use Rattle.calls.specs.Outcomes.{After, after, outcome, Drawn}
-use Rattle.calls.specs.Table.{label_table}
+use Rattle.keeps_sound.specs.Outcomes.{After, after, outcome, Drawn}
+use Rattle.keeps_sound.specs.Table.{label_table}
 use Rattle.unread.specs.Front.{line_of, more_of}
-use Rattle.calls.specs.Station.{labelled_by}
+use Rattle.keeps_sound.specs.Station.{labelled_by}
 use Rattle.keeps_sound.specs.Good.{Good}
 use Rattle.keeps_sound.specs.Calls.{Call, command, label, pass, called, through}
 use Rattle.keeps_sound.proofs.Passing.{passed-keeps}
@@ -81,7 +81,7 @@ module _ (s : Session) (n : ℕ) where
   unfolding passed moved number_of
   pass-never h e = go (leb n 86400) (rw h at e)
     where
-      go : (b : Bool) → (passed_by s (cond b (To (later s.clock n)) TooLong)).answer ≡ Unsound → ⊥
+      go : (b : Bool) → (passed_by s (cond b (Ok (later s.clock n)) (Err TooLong))).answer ≡ Unsound → ⊥
       go true k = let z : ◌≡◌ {A = ℕ} 0 3 = ap number_of k in omega (arith, z)
       go false k = let z : ◌≡◌ {A = ℕ} 7 3 = ap number_of k in omega (arith, z)
 
@@ -102,7 +102,7 @@ module _ (s : Session) (n : ℕ) where
   unfolding passed moved
   pass-stands e = go (legal_clock s.clock) (leb n 86400)
     where
-      go : (a b : Bool) → (passed_by s (cond a (cond b (To (later s.clock n)) TooLong) NoClock)).session.clock ≡ last
+      go : (a b : Bool) → (passed_by s (cond a (cond b (Ok (later s.clock n)) (Err TooLong)) (Err NoClock))).session.clock ≡ last
       go true true = rw e (after_last n)
       go true false = e
       go false b = e
@@ -142,9 +142,9 @@ module _ (font : List ℕ) (w : World) (s : Session) (line more : List ℕ) (P :
   based (Picture p) k = same
   based (Format f) k = k f refl
 
-  erased : (f : Found) → Left (erased_named s w f)
-  erased (At i) = same
-  erased Nothing = same
+  erased : (f : Option ℕ) → Left (erased_named s w f)
+  erased (Some i) = same
+  erased None = same
 
   ran : (c : Command) → ((k : SetClock) → c ≡ Clock k → P (clock_said k) s.formats) → ((it : Item) → c ≡ item it → Setting-format it) → Left (runs font w s line more c)
   ran (item it) p q = based it (q it refl)
@@ -180,10 +180,10 @@ module _ (font : List ℕ) (w : World) (s : Session) (line more : List ℕ) (P :
   recording i (Clock c) = same
 
   pub left :
-      (f : Found) (c : Command) → ((k : SetClock) → c ≡ Clock k → P (clock_said k) s.formats) →
-      (f ≡ Nothing → (it : Item) → c ≡ item it → Setting-format it) → Left (placed font w s line more c f)
-  left (At i) c p q = recording i c
-  left Nothing c p q = ran c p (q refl)
+      (f : Option ℕ) (c : Command) → ((k : SetClock) → c ≡ Clock k → P (clock_said k) s.formats) →
+      (f ≡ None → (it : Item) → c ≡ item it → Setting-format it) → Left (placed font w s line more c f)
+  left (Some i) c p q = recording i c
+  left None c p q = ran c p (q refl)
 
 -- a label call leaves both
 counted-left : (P : Time → Formats → Type 0) (b : Bool) (x y : Session) → P x.clock x.formats → P y.clock y.formats → P (cond b x y).clock (cond b x y).formats
@@ -256,7 +256,7 @@ formats-stay (pass n ∷ cs) st a = formats-stay cs (called st (pass n)) a.1 ∙
 
 -- ---- TS, TD and TT outside a form
 
-module _ (s : Session) (w : World) (g : Good s w) (none : s.owed ≡ 0) (quiet : recorded w.directory ≡ Nothing) (a : Asked) (legal : legal_font a.font ≡ true) where
+module _ (s : Session) (w : World) (g : Good s w) (none : s.owed ≡ 0) (quiet : recorded w.directory ≡ None) (a : Asked) (legal : legal_font a.font ≡ true) where
   pub clock-taken :
       (c : SetClock) (r : Says w a.input (Clock c)) → answered s w a ≡ after (outcome Taken (clocked s (clock_said c)) r.whole 0) w a.output
   clock-taken c r = command-taken s w a.font g legal a.output a.input (Clock c) r none (rw quiet) ∙ rw quiet
@@ -276,7 +276,7 @@ label-any-formats font s fs w = refl
 
 -- a line of TD or TT draws nothing, and leaves its format to the lines behind it
 pub format-on-label :
-    (g : Setting) (t : Drawing) (line : List ℕ) (f : SetFormat) → item_in line ≡ Holds (Format f) →
+    (g : Setting) (t : Drawing) (line : List ℕ) (f : SetFormat) → item_in line ≡ Some (Format f) →
     draws_line g t line ≡ drawing (carried (showing t.carried.declared f.stamp f.format) t.carried.origin) t.page
 unfolding draws_line declares draws_item
 format-on-label g t line f e = rw e

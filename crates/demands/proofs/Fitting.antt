@@ -22,9 +22,8 @@ use Rattle.grammar.specs.declared.StorePicture.{StorePicture}
 use Rattle.grammar.specs.declared.Command.TheVariants.{Forms, Pictures}
 use Rattle.grammar.specs.declared.FormCommand.TheVariants.{Start}
 use Rattle.grammar.specs.declared.PictureCommand.TheVariants.{Store}
-use Rattle.finding.specs.declared.Found.{Found}
-use Rattle.finding.specs.declared.Found.TheVariants.{At, Nothing}
-use Rattle.finding.specs.Find.{is_at, recorded, titled_at}
+use Rattle.std.specs.Prelude.{None, Option, Some, is_some}
+use Rattle.finding.specs.Find.{recorded, titled_at}
 use Rattle.store_sound.proofs.Facts.{sound-facts}
 use Rattle.session.specs.declared.Session.{Session}
 use Rattle.answers.specs.declared.Answer.{Answer}
@@ -106,21 +105,21 @@ picture-right name size n low high =
 
 module _ (w : World) (s : Session) (line more : List ℕ) (room : ℕ) where
   start-placed :
-      (n : Named) (f : Found) →
+      (n : Named) (f : Option ℕ) →
       answer_of (placed_rows w s line more room (Forms (Start n)) f)
-      ≡ answer_of (row Misplaced (is_at f) ∷ row InUse (is_at (titled_at w.directory false (packed_of line n.at n.length))) ∷ full_rows s.free w.directory 0)
+      ≡ answer_of (row Misplaced (is_some f) ∷ row InUse (is_some (titled_at w.directory false (packed_of line n.at n.length))) ∷ full_rows s.free w.directory 0)
   unfolding answer_of
-  start-placed n (At i) = refl
-  start-placed n Nothing = refl
+  start-placed n (Some i) = refl
+  start-placed n None = refl
 
   store-placed :
-      (p : StorePicture) (f : Found) →
+      (p : StorePicture) (f : Option ℕ) →
       answer_of (placed_rows w s line more room (Pictures (Store p)) f)
-      ≡ answer_of (row Misplaced (is_at f) ∷ row InUse (is_at (titled_at w.directory true (packed_of line p.at p.length))) ∷ row Illegal (not (legal_picture more))
+      ≡ answer_of (row Misplaced (is_some f) ∷ row InUse (is_some (titled_at w.directory true (packed_of line p.at p.length))) ∷ row Illegal (not (legal_picture more))
       ∷ full_rows s.free w.directory (length more))
   unfolding answer_of
-  store-placed p (At i) = refl
-  store-placed p Nothing = refl
+  store-placed p (Some i) = refl
+  store-placed p None = refl
 
 -- 16 stands behind 10 and before 19
 but-illegal :
@@ -139,10 +138,10 @@ module _ (s : Session) (w : World) (g : Good s w) where
   -- the entry in use is the one that the line's name finds
   used :
       (line : List ℕ) (at n : ℕ) → Name line at n → (picture : Bool) →
-      is_at (titled_at w.directory picture (packed_of line at n)) ≡ is_at (user_of w.directory picture (part line (at + 1) n))
+      is_some (titled_at w.directory picture (packed_of line at n)) ≡ is_some (user_of w.directory picture (part line (at + 1) n))
   used line at n h picture =
-      ap (λ (t : List ℕ). is_at (titled_at w.directory picture t)) (given-title line at n h)
-      ∙ ap is_at (sym (user-titled (part line (at + 1) n) (given-name line at n h) w.directory picture
+      ap (λ (t : List ℕ). is_some (titled_at w.directory picture t)) (given-title line at n h)
+      ∙ ap is_some (sym (user-titled (part line (at + 1) n) (given-name line at n h) w.directory picture
       (sound-facts w.store w.links w.directory g.store).names))
 
   module _ (a : Asked) (legal : legal_font a.font ≡ true) where
@@ -175,4 +174,4 @@ module _ (s : Session) (w : World) (g : Good s w) where
           fits-within s w g.lengths 2 (name_given r p.at p.length) (length (bytes_given r))
               (picture-right _ (length (bytes_given r)) (given-name line p.at p.length h) b.1.0 b.1.1),
         )
-        (but-illegal (ltb 0 s.owed) (is_at (recorded w.directory)) (is_at (user_of w.directory true (name_given r p.at p.length))) (legal_picture (bytes_given r)) _)
+        (but-illegal (ltb 0 s.owed) (is_some (recorded w.directory)) (is_some (user_of w.directory true (name_given r p.at p.length))) (legal_picture (bytes_given r)) _)

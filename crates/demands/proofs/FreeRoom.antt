@@ -17,8 +17,7 @@ use Rattle.grammar.specs.declared.PageCommand.TheVariants.{Length, Width, Turn, 
 use Rattle.grammar.specs.declared.FormCommand.TheVariants.{Start, Retrieve, Erase as EraseForm}
 use Rattle.grammar.specs.declared.PictureCommand.TheVariants.{Store, Erase as ErasePicture}
 use Rattle.grammar.specs.declared.ValueCommand.TheVariants.{Variable as EnterVariable, Counter as EnterCounter, Clear, Print}
-use Rattle.finding.specs.declared.Found.{Found}
-use Rattle.finding.specs.declared.Found.TheVariants.{At, Nothing}
+use Rattle.std.specs.Prelude.{None, Option, Some}
 use Rattle.finding.specs.Find.{recorded}
 use Rattle.store.specs.Chain.{free_count}
 use Rattle.store_sound.specs.Sound.{store_sound}
@@ -28,14 +27,14 @@ use Rattle.session.specs.Session.{roomed}
 use Rattle.answers.specs.declared.Answer.TheVariants.{Unsound}
 use Rattle.answers.specs.Answers.{answer_of, is_taken}
 use Rattle.lent.specs.Lent.{World, rows_of, wrong_lent}
-use Rattle.sound.specs.Sound.{numbers_ok, times_ok, background_ok, sound}
+use Rattle.keeps_sound.specs.Sound.{numbers_ok, times_ok, background_ok, sound}
 use Rattle.results.specs.World.{State}
 use Rattle.item_commands.specs.Items.{based_by}
 use Rattle.commands.specs.Does.{placed}
-use Rattle.calls.specs.Outcomes.{After, Drawn}
-use Rattle.calls.specs.Table.{command_table, label_table}
+use Rattle.keeps_sound.specs.Outcomes.{After, Drawn}
+use Rattle.keeps_sound.specs.Table.{command_table, label_table}
 use Rattle.unread.specs.Front.{line_of, more_of}
-use Rattle.calls.specs.Station.{commanded, label_session, labelled_by}
+use Rattle.keeps_sound.specs.Station.{commanded, label_session, labelled_by}
 use Rattle.ground.proofs.Tests.{and_left, and_right, is_false}
 use Rattle.keeps_sound.specs.Calls.{Call, command, label, pass, called, through}
 use Rattle.keeps_sound.proofs.Passing.{passed-keeps}
@@ -102,32 +101,32 @@ module _ (font : List ℕ) (w : World) (s : Session) (line more : List ℕ) wher
   based-stays (Picture p) = refl
   based-stays (Format f) = refl
 
-  placed-stays : (f : Found) (c : Command) → storing f c ≡ false → (placed font w s line more c f).session.free ≡ s.free
-  placed-stays (At i) (item it) e = absurd (true≢false e)
-  placed-stays (At i) End e = refl
-  placed-stays (At i) (Page c) e = refl
-  placed-stays (At i) (Forms c) e = refl
-  placed-stays (At i) (Pictures c) e = refl
-  placed-stays (At i) (Values c) e = refl
-  placed-stays (At i) (Listing c) e = refl
-  placed-stays (At i) (Clock c) e = refl
-  placed-stays Nothing (item it) e = based-stays it
-  placed-stays Nothing End e = refl
-  placed-stays Nothing (Page (Length l)) e = refl
-  placed-stays Nothing (Page (Width m)) e = refl
-  placed-stays Nothing (Page (Turn t)) e = refl
-  placed-stays Nothing (Page White) e = refl
-  placed-stays Nothing (Forms (Start n)) e = absurd (true≢false e)
-  placed-stays Nothing (Forms (Retrieve n)) e = refl
-  placed-stays Nothing (Forms (EraseForm n)) e = absurd (true≢false e)
-  placed-stays Nothing (Pictures (Store p)) e = absurd (true≢false e)
-  placed-stays Nothing (Pictures (ErasePicture n)) e = absurd (true≢false e)
-  placed-stays Nothing (Values (EnterVariable v)) e = refl
-  placed-stays Nothing (Values (EnterCounter c)) e = refl
-  placed-stays Nothing (Values Clear) e = refl
-  placed-stays Nothing (Values (Print p)) e = refl
-  placed-stays Nothing (Listing c) e = refl
-  placed-stays Nothing (Clock c) e = refl
+  placed-stays : (f : Option ℕ) (c : Command) → storing f c ≡ false → (placed font w s line more c f).session.free ≡ s.free
+  placed-stays (Some i) (item it) e = absurd (true≢false e)
+  placed-stays (Some i) End e = refl
+  placed-stays (Some i) (Page c) e = refl
+  placed-stays (Some i) (Forms c) e = refl
+  placed-stays (Some i) (Pictures c) e = refl
+  placed-stays (Some i) (Values c) e = refl
+  placed-stays (Some i) (Listing c) e = refl
+  placed-stays (Some i) (Clock c) e = refl
+  placed-stays None (item it) e = based-stays it
+  placed-stays None End e = refl
+  placed-stays None (Page (Length l)) e = refl
+  placed-stays None (Page (Width m)) e = refl
+  placed-stays None (Page (Turn t)) e = refl
+  placed-stays None (Page White) e = refl
+  placed-stays None (Forms (Start n)) e = absurd (true≢false e)
+  placed-stays None (Forms (Retrieve n)) e = refl
+  placed-stays None (Forms (EraseForm n)) e = absurd (true≢false e)
+  placed-stays None (Pictures (Store p)) e = absurd (true≢false e)
+  placed-stays None (Pictures (ErasePicture n)) e = absurd (true≢false e)
+  placed-stays None (Values (EnterVariable v)) e = refl
+  placed-stays None (Values (EnterCounter c)) e = refl
+  placed-stays None (Values Clear) e = refl
+  placed-stays None (Values (Print p)) e = refl
+  placed-stays None (Listing c) e = refl
+  placed-stays None (Clock c) e = refl
 
 counted-stays : (b : Bool) (x y : Session) (n : ℕ) → x.free ≡ n → y.free ≡ n → (cond b x y).free ≡ n
 counted-stays true x y n e f = e

@@ -1,5 +1,6 @@
 -- Paper 02, §5: which kind of full. What FS and GM are answered, and what 23 tells, of any lists and any input.
 -- Assumes nothing.
+use Rattle.std.proofs.Common.{Result, Ok, Err}
 use mathlib.Core.Path.{◌≡◌, refl, sym, ap, ◌∙◌}
 use mathlib.Core.Bool.{Bool, true, false, not, ◌||◌, false≢true}
 use mathlib.Core.List.{List}
@@ -8,6 +9,7 @@ use native.Mathlib.Omega.{arith}
 use lib.ListN.{length}
 use lib.Dec.{ltb}
 use borrow.Author.Tests.{not-true, not-false, ltb-false, leb-true}
+use Rattle.read.specs.declared.Fault.{Fault}
 use Rattle.font.specs.Rules.{legal as legal_font}
 use Rattle.pcx.specs.Rules.{legal as legal_picture}
 use Rattle.grammar.specs.declared.Named.{Named}
@@ -19,29 +21,26 @@ use Rattle.grammar.specs.declared.PictureCommand.TheVariants.{Store, Erase as Er
 use Rattle.grammar.specs.declared.ValueCommand.TheVariants.{Variable as EnterVariable, Counter as EnterCounter, Clear, Print}
 use Rattle.grammar.specs.declared.ListingCommand.TheVariants.{Forms as ListForms, Pictures as ListPictures, Form as ListForm}
 use Rattle.read.specs.declared.Fault.TheVariants.{Form as form, Limit}
-use Rattle.read.specs.declared.Read.{Read}
-use Rattle.read.specs.declared.Read.TheVariants.{Taken as Reads, Refused}
 use Rattle.read.specs.Commands.{read_of}
 use Rattle.front.specs.declared.Front.{Front}
 use Rattle.front.specs.declared.Front.TheVariants.{Short, Long as LongLine, Idle, Line}
 use Rattle.front.specs.Front.{front_of}
-use Rattle.finding.specs.declared.Found.{Found}
-use Rattle.finding.specs.declared.Found.TheVariants.{At, Nothing}
+use Rattle.std.specs.Prelude.{None, Option, Some}
 use Rattle.finding.specs.Find.{recorded, titled_at}
 use Rattle.store.specs.Chain.{needed, free_count}
 use Rattle.room.specs.Room.{empty_count, has_portions, has_entry}
 use Rattle.room.proofs.Counting.{entry-counted}
 use Rattle.parts.specs.Names.{packed_of}
-use Rattle.sound.specs.Sound.{sound}
+use Rattle.keeps_sound.specs.Sound.{sound}
 use Rattle.session.specs.declared.Session.{Session}
 use Rattle.answers.specs.Answers.{answer_of, is_taken, number_of}
 use Rattle.full.specs.Full.{full_rows}
 use Rattle.lent.specs.Lent.{World, rows_of, wrong_lent}
 use Rattle.results.proofs.Answers.{or-none}
 use Rattle.commands.specs.Rows.{record_rows, run_rows, placed_rows, line_rows}
-use Rattle.calls.specs.Table.{command_table, front_rows}
+use Rattle.keeps_sound.specs.Table.{command_table, front_rows}
 use Rattle.unread.specs.Front.{line_of, more_of}
-use Rattle.calls.specs.Station.{commanded}
+use Rattle.keeps_sound.specs.Station.{commanded}
 use Rattle.keeps_sound.specs.Good.{Good}
 use Rattle.keeps_sound.proofs.Layers.{sound-good}
 use Rattle.demands.specs.Calls.{Says, title_in}
@@ -55,7 +54,7 @@ use Rattle.demands.proofs.Unfit.{own-answer}
 
 -- of the two rows of a new entry
 rows-ran-out :
-    (w : World) (s : Session) (size : ℕ) → s.free ≡ free_count w.links → recorded w.directory ≡ Nothing → (not (has_entry w.directory) || false) ≡ true →
+    (w : World) (s : Session) (size : ℕ) → s.free ≡ free_count w.links → recorded w.directory ≡ None → (not (has_entry w.directory) || false) ≡ true →
     (not (has_portions s.free (needed size)) || false) ≡ false → EntriesRanOut w
 rows-ran-out w s size counted quiet full some = record {
   quiet = quiet;
@@ -90,7 +89,7 @@ module _ (w : World) (s : Session) (counted : s.free ≡ free_count w.links) (li
   record-no-entry i (Clock c) = refl
 
   run-ran-out :
-      (c : Command) → recorded w.directory ≡ Nothing → applies 23 (run_rows w s line more room c) ≡ true → applies 19 (run_rows w s line more room c) ≡ false →
+      (c : Command) → recorded w.directory ≡ None → applies 23 (run_rows w s line more room c) ≡ true → applies 19 (run_rows w s line more room c) ≡ false →
       EntriesRanOut w
   unfolding number_of
   run-ran-out (item it) q e h = absurd (false≢true e)
@@ -111,17 +110,17 @@ module _ (w : World) (s : Session) (counted : s.free ≡ free_count w.links) (li
   run-ran-out (Clock c) q e h = absurd (false≢true e)
 
   placed-ran-out :
-      (c : Command) (f : Found) → recorded w.directory ≡ f → applies 23 (placed_rows w s line more room c f) ≡ true →
+      (c : Command) (f : Option ℕ) → recorded w.directory ≡ f → applies 23 (placed_rows w s line more room c f) ≡ true →
       applies 19 (placed_rows w s line more room c f) ≡ false → EntriesRanOut w
-  placed-ran-out c (At i) q e h = absurd (false≢true (sym (record-no-entry i c) ∙ e))
-  placed-ran-out c Nothing q e h = run-ran-out c q e h
+  placed-ran-out c (Some i) q e h = absurd (false≢true (sym (record-no-entry i c) ∙ e))
+  placed-ran-out c None q e h = run-ran-out c q e h
 
   line-ran-out :
-      (r : Read) → applies 23 (line_rows w s line more room r) ≡ true → applies 19 (line_rows w s line more room r) ≡ false → EntriesRanOut w
+      (r : Result Command Fault) → applies 23 (line_rows w s line more room r) ≡ true → applies 19 (line_rows w s line more room r) ≡ false → EntriesRanOut w
   unfolding number_of
-  line-ran-out (Refused (form p)) e h = absurd (false≢true e)
-  line-ran-out (Refused (Limit p)) e h = absurd (false≢true e)
-  line-ran-out (Reads c) e h = placed-ran-out c (recorded w.directory) refl e h
+  line-ran-out (Err (form p)) e h = absurd (false≢true e)
+  line-ran-out (Err (Limit p)) e h = absurd (false≢true e)
+  line-ran-out (Ok c) e h = placed-ran-out c (recorded w.directory) refl e h
 
 front-ran-out :
     (w : World) (s : Session) → s.free ≡ free_count w.links → (input : List ℕ) (room : ℕ) (f : Front) → applies 23 (front_rows w s input room f) ≡ true →
@@ -149,24 +148,24 @@ module _ (s : Session) (font : List ℕ) (w : World) (output input : List ℕ) w
       front-ran-out w s (sound-good s w long fine).free input (length output) (front_of input) here (before 19 (rw t))
 
   -- so that no line is answered so while a form is recorded
-  pub recording-no-entry : (i : ℕ) → recorded w.directory ≡ At i → number_of (commanded s font w output input).outcome.answer ≡ 23 → ⊥
+  pub recording-no-entry : (i : ℕ) → recorded w.directory ≡ Some i → number_of (commanded s font w output input).outcome.answer ≡ 23 → ⊥
   recording-no-entry i still e = other i (sym still ∙ (no-entry-says e).quiet)
     where
-      other : (i : ℕ) → At i ≡ Nothing → ⊥
+      other : (i : ℕ) → Some i ≡ None → ⊥
       other i z = let k : ◌≡◌ {A = ℕ} 0 1 = cc in omega arith
 
 -- ---- FS and GM, where nothing that stands before 19 in the table keeps them out
 
-module _ (s : Session) (w : World) (g : Good s w) (font output input : List ℕ) (legal : legal_font font ≡ true) (none : s.owed ≡ 0) (quiet : recorded w.directory ≡ Nothing) where
+module _ (s : Session) (w : World) (g : Good s w) (font output input : List ℕ) (legal : legal_font font ≡ true) (none : s.owed ≡ 0) (quiet : recorded w.directory ≡ None) where
   pub start-answer :
-      (n : Named) (r : Says w input (Forms (Start n))) → titled_at w.directory false (title_in r n) ≡ Nothing →
+      (n : Named) (r : Says w input (Forms (Start n))) → titled_at w.directory false (title_in r n) ≡ None →
       (commanded s font w output input).outcome.answer ≡ answer_of (full_rows (free_count w.links) w.directory 0)
   unfolding answer_of
   start-answer n r free = own-answer s w font output input (Forms (Start n)) r g legal none ∙ rw (quiet, free, g.free)
 
   pub picture-answer :
       (p : StorePicture) (r : Says w input (Pictures (Store p))) →
-      titled_at w.directory true (packed_of (line_of input r.line) p.at p.length) ≡ Nothing →
+      titled_at w.directory true (packed_of (line_of input r.line) p.at p.length) ≡ None →
       legal_picture (more_of input r.line r.whole) ≡ true →
       (commanded s font w output input).outcome.answer ≡ answer_of (full_rows (free_count w.links) w.directory (length (more_of input r.line r.whole)))
   unfolding answer_of

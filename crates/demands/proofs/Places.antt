@@ -1,5 +1,6 @@
 -- Paper 02, §2: where a refusal points. Never past the LF, and to the number that a V, a C or a `?` names.
 -- Assumes nothing.
+use Rattle.std.specs.Prelude.{Result, Ok, Err, None, Option, Some}
 use mathlib.Core.Path.{◌≡◌, refl, sym, ap, ◌∙◌, subst}
 use mathlib.Core.Bool.{Bool, true, false, not, ◌&&◌, cond, true≢false}
 use mathlib.Core.List.{List, [], ◌∷◌, ◌++◌}
@@ -10,7 +11,6 @@ use lib.ListN.{length, get_or}
 use lib.Dec.{eqb, ltb}
 use borrow.Author.Tests.{ltb-true}
 use Rattle.kinds.specs.Text.{bytes}
-use Rattle.fields.specs.declared.Field.TheVariants.{Is, Not}
 use Rattle.fields.specs.Field.{byte_at}
 use Rattle.elements.specs.declared.What.{What}
 use Rattle.elements.specs.declared.Element.{Element}
@@ -19,6 +19,7 @@ use Rattle.declarations.specs.Declarations.{outside_forms}
 use Rattle.reach.specs.Answers.{undeclared_by, past_by}
 use Rattle.reach.proofs.Leftmost.{leftmost-inside}
 use Rattle.reader.specs.Letters.{field_at}
+use Rattle.fields.proofs.Pairs.{ok_second}
 use Rattle.row_fields.specs.Reading.{good, fields_from}
 use Rattle.row_fields.proofs.Rows.{fields_split}
 use Rattle.grammar.specs.Named.{VARIABLE, COUNTER, SET-VARIABLE, SET-COUNTER, DECLARED-AT, ENTERED-AT}
@@ -34,14 +35,10 @@ use Rattle.grammar.specs.declared.ValueCommand.TheVariants.{Variable as EnterVar
 use Rattle.grammar.specs.declared.ListingCommand.TheVariants.{Forms as ListForms, Pictures as ListPictures, Form as ListForm}
 use Rattle.heads.specs.Heads.{head_of, head_by, find}
 use Rattle.read.specs.declared.Fault.TheVariants.{Form as form, Limit}
-use Rattle.read.specs.declared.Read.{Read}
-use Rattle.read.specs.declared.Read.TheVariants.{Taken as Reads, Refused}
 use Rattle.read.specs.Commands.{read_of, headed}
 use Rattle.normal.specs.Written.{normal}
 use Rattle.pointing.proofs.Inside.{form-inside, limit-inside}
 use Rattle.normal.proofs.Data.{a-stamp, Chain, ended, then, a-text, a-variable, a-counter}
-use Rattle.finding.specs.declared.Found.{Found}
-use Rattle.finding.specs.declared.Found.TheVariants.{At, Nothing}
 use Rattle.finding.specs.Find.{recorded}
 use Rattle.store.specs.Entry.{entry}
 use Rattle.room.specs.Room.{can_grow}
@@ -57,12 +54,13 @@ use Rattle.forms.specs.Form.{declared_of}
 use Rattle.results.specs.World.{content_at}
 use Rattle.item_commands.specs.Items.{Shows, no_data, data_at, shown_by, leftmost_in, data_place, item_rows}
 use Rattle.commands.specs.Rows.{placed_rows, line_rows}
-use Rattle.calls.specs.Table.{command_table, front_rows}
+use Rattle.keeps_sound.specs.Table.{command_table, front_rows}
 use Rattle.unread.specs.Front.{line_of, more_of, is_line}
-use Rattle.calls.specs.Station.{commanded}
+use Rattle.keeps_sound.specs.Station.{commanded}
 use Rattle.keeps_sound.proofs.Titles.{line-parted}
 use Rattle.keeps_sound.proofs.Judging.{Tells, item-tells}
 use Rattle.demands.proofs.Refusal.{command-answer}
+use Rattle.read.specs.declared.Fault.{Fault}
 
 -- ---- the number behind a row's letters
 
@@ -71,12 +69,12 @@ abbrev Letters : List ℕ → Type 0
 Letters [] = Unit {0}
 Letters (f ∷ fs) = ((s : List ℕ) (at : ℕ) → field_at f s at ≡ byte_at f s at) × Letters fs
 
-byte_one : (b : ℕ) (s : List ℕ) (at v e : ℕ) → byte_at b s at ≡ Is v e → (e ≡ at + 1) × (at < length s)
+byte_one : (b : ℕ) (s : List ℕ) (at v e : ℕ) → byte_at b s at ≡ Ok (v, e) → (e ≡ at + 1) × (at < length s)
 unfolding byte_at
 byte_one b s at v e h = go (ltb at (length s)) (eqb (get_or s at 0) b) refl h
   where
-    go : (x y : Bool) → ltb at (length s) ≡ x → cond (x && y) (Is b (at + 1)) (Not at) ≡ Is v e → (e ≡ at + 1) × (at < length s)
-    go true true t k = (let z : at + 1 ≡ e = cc in sym z, ltb-true at (length s) t)
+    go : (x y : Bool) → ltb at (length s) ≡ x → cond {A = Result (ℕ × ℕ) ℕ} (x && y) (Ok (b, at + 1)) (Err at) ≡ Ok (v, e) → (e ≡ at + 1) × (at < length s)
+    go true true t k = (sym (ok_second k), ltb-true at (length s) t)
     go true false t k = absurd (let z : ◌≡◌ {A = ℕ} 0 1 = cc in omega arith)
     go false y t k = absurd (let z : ◌≡◌ {A = ℕ} 0 1 = cc in omega arith)
 
@@ -180,7 +178,7 @@ entering =
     & (λ j s vs ps k. tt)
 
 module _ (rows : ℕ) (s : List ℕ) where
-  entered-within : (c : Command) → read_of rows s ≡ Reads c → Entered s c
+  entered-within : (c : Command) → read_of rows s ≡ Ok c → Entered s c
   unfolding Entering
   entered-within c h = let p = line-parted rows s c h in subst (Entered s) p.command (each_row Entering entering p.row s p.vs p.ps p.read)
 
@@ -204,11 +202,11 @@ module _ (rows : ℕ) (s : List ℕ) where
   told-within (Picture p) t = omega arith
   told-within (Format f) t = omega arith
 
-  data-within : (i : Item) → read_of rows s ≡ Reads (item i) → data_place (shown_by i) ≤ length s
+  data-within : (i : Item) → read_of rows s ≡ Ok (item i) → data_place (shown_by i) ≤ length s
   data-within i h = told-within i (item-tells rows s i h)
 
 -- a line that is read has a byte
-some_byte : (rows : ℕ) (s : List ℕ) (c : Command) → read_of rows s ≡ Reads c → 1 ≤ length s
+some_byte : (rows : ℕ) (s : List ℕ) (c : Command) → read_of rows s ≡ Ok c → 1 ≤ length s
 unfolding read_of headed head_of head_by find
 some_byte rows [] c h = absurd (let z : ◌≡◌ {A = ℕ} 0 1 = cc in omega arith)
 some_byte rows (x ∷ l) c h = omega arith
@@ -237,7 +235,7 @@ leftmost-within q line (data_at at kind) = leftmost-inside q line at
 
 module _ (w : World) (line : List ℕ) (rows : ℕ) where
   item-within :
-      (d : Declared) (it : Item) (rs : List Row) → read_of rows line ≡ Reads (item it) → Within (length line) rs →
+      (d : Declared) (it : Item) (rs : List Row) → read_of rows line ≡ Ok (item it) → Within (length line) rs →
       Within (length line) (item_rows d w.directory line it rs)
   unfolding place_of
   item-within d it rs h k =
@@ -252,34 +250,34 @@ module _ (w : World) (line : List ℕ) (rows : ℕ) where
     zero : 0 ≤ length line
     zero = none-far (length line)
 
-    placed-within : (c : Command) (f : Found) → read_of rows line ≡ Reads c → Within (length line) (placed_rows w s line more room c f)
+    placed-within : (c : Command) (f : Option ℕ) → read_of rows line ≡ Ok c → Within (length line) (placed_rows w s line more room c f)
     unfolding place_of
-    placed-within (item it) (At i) h =
+    placed-within (item it) (Some i) h =
         let full : Row = row FewPortions (not (can_grow s.free (entry w.directory i) (length (normal line) + 1))) in
         (zero, item-within (declared_of (content_at w i)) it (full ∷ []) h (zero, tt))
-    placed-within End (At i) h = (zero, tt)
-    placed-within (Page c) (At i) h = (zero, tt)
-    placed-within (Forms c) (At i) h = (zero, tt)
-    placed-within (Pictures c) (At i) h = (zero, tt)
-    placed-within (Values c) (At i) h = (zero, tt)
-    placed-within (Listing c) (At i) h = (zero, tt)
-    placed-within (Clock c) (At i) h = (zero, tt)
-    placed-within (item it) Nothing h = (zero, item-within (outside_forms s.formats) it [] h tt)
-    placed-within End Nothing h = (zero, tt)
-    placed-within (Page c) Nothing h = (zero, tt)
-    placed-within (Forms (Start n)) Nothing h = zero & zero & zero & zero & tt
-    placed-within (Forms (Retrieve n)) Nothing h = zero & zero & tt
-    placed-within (Forms (EraseForm n)) Nothing h = zero & zero & tt
-    placed-within (Pictures (Store p)) Nothing h = zero & zero & zero & zero & zero & tt
-    placed-within (Pictures (ErasePicture n)) Nothing h = zero & zero & tt
-    placed-within (Values (EnterVariable v)) Nothing h = zero & entered-within rows line (Values (EnterVariable v)) h & zero & tt
-    placed-within (Values (EnterCounter c)) Nothing h = zero & entered-within rows line (Values (EnterCounter c)) h & zero & tt
-    placed-within (Values Clear) Nothing h = (zero, tt)
-    placed-within (Values (Print p)) Nothing h = zero & zero & zero & zero & tt
-    placed-within (Listing ListForms) Nothing h = zero & zero & tt
-    placed-within (Listing ListPictures) Nothing h = zero & zero & tt
-    placed-within (Listing (ListForm n)) Nothing h = zero & zero & zero & tt
-    placed-within (Clock c) Nothing h = (zero, tt)
+    placed-within End (Some i) h = (zero, tt)
+    placed-within (Page c) (Some i) h = (zero, tt)
+    placed-within (Forms c) (Some i) h = (zero, tt)
+    placed-within (Pictures c) (Some i) h = (zero, tt)
+    placed-within (Values c) (Some i) h = (zero, tt)
+    placed-within (Listing c) (Some i) h = (zero, tt)
+    placed-within (Clock c) (Some i) h = (zero, tt)
+    placed-within (item it) None h = (zero, item-within (outside_forms s.formats) it [] h tt)
+    placed-within End None h = (zero, tt)
+    placed-within (Page c) None h = (zero, tt)
+    placed-within (Forms (Start n)) None h = zero & zero & zero & zero & tt
+    placed-within (Forms (Retrieve n)) None h = zero & zero & tt
+    placed-within (Forms (EraseForm n)) None h = zero & zero & tt
+    placed-within (Pictures (Store p)) None h = zero & zero & zero & zero & zero & tt
+    placed-within (Pictures (ErasePicture n)) None h = zero & zero & tt
+    placed-within (Values (EnterVariable v)) None h = zero & entered-within rows line (Values (EnterVariable v)) h & zero & tt
+    placed-within (Values (EnterCounter c)) None h = zero & entered-within rows line (Values (EnterCounter c)) h & zero & tt
+    placed-within (Values Clear) None h = (zero, tt)
+    placed-within (Values (Print p)) None h = zero & zero & zero & zero & tt
+    placed-within (Listing ListForms) None h = zero & zero & tt
+    placed-within (Listing ListPictures) None h = zero & zero & tt
+    placed-within (Listing (ListForm n)) None h = zero & zero & zero & tt
+    placed-within (Clock c) None h = (zero, tt)
 
 -- ---- a command call
 
@@ -304,12 +302,12 @@ module _ (s : Session) (font : List ℕ) (w : World) (output input : List ℕ) w
   command-points-nowhere h = let r = table-within 0 (no_line (front_of input) h) in omega (arith, r)
 
   line-within :
-      (n k : ℕ) (r : Read) → read_of (rows_of w) (line_of input n) ≡ r →
+      (n k : ℕ) (r : Result Command Fault) → read_of (rows_of w) (line_of input n) ≡ r →
       Within (length (line_of input n)) (line_rows w s (line_of input n) (more_of input n k) (length output) r)
   unfolding place_of
-  line-within n k (Refused (form p)) h = (form-inside (rows_of w) (line_of input n) p h, tt)
-  line-within n k (Refused (Limit p)) h = (let z = limit-inside (rows_of w) (line_of input n) p h in omega (arith, z), tt)
-  line-within n k (Reads c) h =
+  line-within n k (Err (form p)) h = (form-inside (rows_of w) (line_of input n) p h, tt)
+  line-within n k (Err (Limit p)) h = (let z = limit-inside (rows_of w) (line_of input n) p h in omega (arith, z), tt)
+  line-within n k (Ok c) h =
       (none-far (length (line_of input n)), placed-within w (line_of input n) (rows_of w) s (more_of input n k) (length output) c (recorded w.directory) h)
 
   -- a place is never past the LF

@@ -1,5 +1,6 @@
 -- Paper 02, §7, of lines as they are sent: `FS"name"` and `GM"name",n` for every text that can stand in quotes, a name or not, and for every n.
 -- Assumes nothing.
+use Rattle.std.proofs.Common.{Result, Ok, Err}
 use mathlib.Core.Path.{◌≡◌, refl, sym, ap, ◌∙◌}
 use mathlib.Core.Bool.{Bool, true, false, not, cond, ◌||◌, true≢false}
 use mathlib.Core.List.{List, [], ◌∷◌, ◌++◌}
@@ -10,6 +11,7 @@ use lib.ListN.{length, take, length-append}
 use lib.Seq.{take-append_seam, drop-append-add}
 use lib.Dec.{eqb, ltb}
 use borrow.Author.Tests.{eq-eqb, lt-ltb}
+use Rattle.read.specs.declared.Fault.{Fault}
 use Rattle.kinds.specs.Bytes.{between}
 use Rattle.classes.specs.Bytes.{part}
 use Rattle.classes.proofs.Laws.{in-range, below-range, above-range}
@@ -21,8 +23,6 @@ use Rattle.grammar.specs.declared.Command.TheVariants.{Forms, Pictures}
 use Rattle.grammar.specs.declared.FormCommand.TheVariants.{Start}
 use Rattle.grammar.specs.declared.PictureCommand.TheVariants.{Store}
 use Rattle.read.specs.declared.Fault.TheVariants.{Limit}
-use Rattle.read.specs.declared.Read.{Read}
-use Rattle.read.specs.declared.Read.TheVariants.{Taken as Reads, Refused}
 use Rattle.read.specs.Commands.{read_of}
 use Rattle.front.specs.declared.Front.TheVariants.{Line}
 use Rattle.front.specs.Front.{front_of}
@@ -77,13 +77,13 @@ size-outside name size = ⊎_elim
 module _ (s : Session) (w : World) (g : Good s w) (a : Asked) (legal : legal_font a.font ≡ true) where
   -- a line with a field outside its limits
   limit-answer :
-      (line : List ℕ) (k p : ℕ) → front_of (line ++ (10 ∷ a.input)) ≡ Line (length line) k → read_of (rows_of w) line ≡ Refused (Limit p) →
+      (line : List ℕ) (k p : ℕ) → front_of (line ++ (10 ∷ a.input)) ≡ Line (length line) k → read_of (rows_of w) line ≡ Err (Limit p) →
       (answered s w (sending line a)).outcome.answer ≡ Limits p
   unfolding answer_of
   limit-answer line k p front reads =
       let input : List ℕ = line ++ (10 ∷ a.input) in
       line-answer s w a.font a.output input g legal (length line) k front
-      ∙ ap (λ (r : Read). answer_of (line_rows w s (line_of input (length line)) (more_of input (length line) k) (length a.output) r))
+      ∙ ap (λ (r : Result Command Fault). answer_of (line_rows w s (line_of input (length line)) (more_of input (length line) k) (length a.output) r))
       (ap (read_of (rows_of w)) (take-append_seam line (10 ∷ a.input)) ∙ reads)
 
 -- ---- FS
@@ -98,7 +98,7 @@ module _ (s : Session) (w : World) (g : Good s w) (a : Asked) (legal : legal_fon
       by : (b : Bool) → name_wrong t ≡ b → number_of (answered s w (sending (start_line t) a)).outcome.answer ≡ number_of (fits s w 1 t size)
       by true e =
           ap number_of (limit-answer s w g a legal (start_line t) _ 2 (start-front t a.input sendable.quoted sendable.short)
-          (start-judged t sendable.quoted (rows_of w) ∙ ap (λ (b : Bool). cond b (Refused (Limit 2)) (Reads (Forms (Start (name_in 83 t))))) e))
+          (start-judged t sendable.quoted (rows_of w) ∙ ap (λ (b : Bool). cond b (Err (Limit 2)) (Ok (Forms (Start (name_in 83 t))))) e))
           ∙ ap number_of (sym (fits-outside s w g.lengths 1 t size (name-outside 1 t size e)))
       by false e =
           ap number_of (start-same s w g (sending (start_line t) a) legal (name_in 83 t) (start-says t (right-name t e) w a.input) size
@@ -125,10 +125,10 @@ module _ (s : Session) (w : World) (g : Good s w) (a : Asked) (legal : legal_fon
         store-front t sendable.quoted (length bytes) (omega arith) (bytes ++ a.input) sendable.short (omega (arith, asks, all))
         ∙ ap (λ (k : ℕ). Line (length line) (length line + 1 + k)) asks
 
-    sent-judged : (b : Bool) → name_wrong t ≡ b → read_of (rows_of w) line ≡ cond b (Refused (Limit 2)) (Reads command)
+    sent-judged : (b : Bool) → name_wrong t ≡ b → read_of (rows_of w) line ≡ cond b (Err (Limit 2)) (Ok command)
     sent-judged b e =
         store-judged t sendable.quoted (length bytes) (omega arith) (rows_of w) ∙ rw (in-range 1 32768 (length bytes) low high)
-        (ap (λ (b : Bool). cond b (Refused (Limit 2)) (Reads command)) e)
+        (ap (λ (b : Bool). cond b (Err (Limit 2)) (Ok command)) e)
 
     abbrev sent-says : name_wrong t ≡ false → Says w (line ++ (10 ∷ behind.input)) command
     sent-says e = record {
@@ -177,7 +177,7 @@ module _ (s : Session) (w : World) (g : Good s w) (a : Asked) (legal : legal_fon
     store_out =
         ap number_of (limit-answer s w g a legal (store_line t n) _ (cond (name_wrong t) 2 (2 + 1 + length t + 1 + 1)) out-front
         (store-judged t sendable.quoted n small (rows_of w)
-        ∙ rw (size-no n out) (sym (cond_map (λ (p : ℕ). Refused (Limit p)) (name_wrong t) 2 (2 + 1 + length t + 1 + 1)))))
+        ∙ rw (size-no n out) (sym (cond_map (λ (p : ℕ). Err (Limit p)) (name_wrong t) 2 (2 + 1 + length t + 1 + 1)))))
 
     pub store-out-reads : (answered s w (sending (store_line t n) a)).outcome.read ≡ length (store_line t n) + 1
     unfolding read_by

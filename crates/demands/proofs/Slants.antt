@@ -1,5 +1,6 @@
 -- Paper 02, §8: slanted lines, at the level of the commands. The limits of the table and of R leave every line that is read within those of a slanted line.
 -- Assumes nothing.
+use Rattle.std.proofs.Common.{Option, Some, None, Ok}
 use mathlib.Core.Path.{◌≡◌, refl, sym, ap, ◌∙◌}
 use mathlib.Core.Bool.{Bool, true, cond, ◌&&◌}
 use mathlib.Core.List.{List, [], ◌∷◌}
@@ -9,6 +10,7 @@ use native.Mathlib.Omega.{arith}
 use lib.ListN.{length}
 use lib.Dec.{ltb}
 use borrow.Author.Tests.{le-leb, lt-ltb}
+use Rattle.grammar.specs.declared.Item.{Item}
 use Rattle.dots.specs.Dots.{dot_at, inked, drawn, cut}
 use Rattle.dots.proofs.Pages.{dot-drawn, drawn-ext}
 use Rattle.slanted_lines.specs.Slanted.{in_limits, slanted}
@@ -19,18 +21,15 @@ use Rattle.declarations.specs.declared.Declared.{Declared}
 use Rattle.grammar.specs.declared.Slant.{Slant as SlantLine}
 use Rattle.grammar.specs.declared.Item.TheVariants.{Origin, Variable, Counter, Text, Bars, Box, Frame, Slant, Picture, Format}
 use Rattle.grammar.specs.declared.Command.TheVariants.{Item as item}
-use Rattle.read.specs.declared.Read.TheVariants.{Taken as Reads}
 use Rattle.read.specs.Commands.{read_of}
 use Rattle.normal.specs.Written.{normal}
-use Rattle.kept_line.specs.declared.Stored.{Stored}
-use Rattle.kept_line.specs.declared.Stored.TheVariants.{Holds, Nothing as HoldsNone}
 use Rattle.kept_line.specs.Held.{item_in}
-use Rattle.finding.specs.declared.Found.TheVariants.{At, Nothing}
+use Rattle.std.specs.Prelude.{None, Some}
 use Rattle.finding.specs.Find.{recorded}
 use Rattle.store.specs.Entry.{entry}
 use Rattle.room.specs.Room.{can_grow}
 use Rattle.recording.specs.Judged.{declares, declaration, has_picture}
-use Rattle.item_drawing.specs.Draw.{Setting, ink_of, far, draws_item}
+use Rattle.item_drawing.specs.Draw.{Setting, far, draws_item}
 use Rattle.form_drawing.specs.Draw.{Drawing, drawing, draws_stored, draws_line, draws_lines}
 use Rattle.session.specs.declared.Session.{Session}
 use Rattle.answers.specs.declared.Answer.TheVariants.{Taken}
@@ -38,7 +37,7 @@ use Rattle.lent.specs.Lent.{World, rows_of}
 use Rattle.results.specs.World.{state, with_background}
 use Rattle.item_commands.specs.Items.{declared_before, not_declared, reaches_past, unfit_data}
 use Rattle.commands.specs.Does.{recorded_line, recorded_room}
-use Rattle.calls.specs.Outcomes.{After, after, outcome}
+use Rattle.keeps_sound.specs.Outcomes.{After, after, outcome}
 use Rattle.unread.specs.Front.{line_of}
 use Rattle.keeps_sound.specs.Good.{Good}
 use Rattle.keeps_sound.proofs.Facts.{numbers-facts}
@@ -56,7 +55,7 @@ unfolding far
 short-sum m n h = omega arith
 
 module _
-    (rows : ℕ) (line : List ℕ) (l : SlantLine) (reads : read_of rows line ≡ Reads (item (Slant l))) (x y : ℕ) (right : x ≤ 2048) (down : y ≤ 4096) where
+    (rows : ℕ) (line : List ℕ) (l : SlantLine) (reads : read_of rows line ≡ Ok (item (Slant l))) (x y : ℕ) (right : x ≤ 2048) (down : y ≤ 4096) where
   ranges : ItemRanged (Slant l)
   ranges = read-ranges rows line (item (Slant l)) reads
 
@@ -89,8 +88,8 @@ module _
       let b = short-sum y l.b ends.0.1 in
       let d = short-sum x l.d (omega (arith, ends.1.0)) in
       let e = short-sum y l.e ends.1.1 in
-      (λ i. drawn (ink_of l.ink) (cut g.width g.length (slanted (a i) (b i) l.c (d i) (e i))) page)
-      ∙ drawn-ext (ink_of l.ink) _ _ page
+      (λ i. drawn l.ink (cut g.width g.length (slanted (a i) (b i) l.c (d i) (e i))) page)
+      ∙ drawn-ext l.ink _ _ page
       (λ px py s t.
       ap (λ (q : Bool). (ltb px g.width && ltb py g.length) && q)
       (slanted-is-near (x + l.a) (y + l.b) l.c (x + l.d) (y + l.e) px py in-limits))
@@ -104,12 +103,12 @@ line-moved l x y px py =
 -- and from its other end
 line-either-end : (width long x y : ℕ) (l : SlantLine) (page : List ℕ) → with_line width long x y l page ≡ with_line width long x y (from_other_end l) page
 line-either-end width long x y l page =
-    drawn-ext (ink_of l.ink) _ _ page
+    drawn-ext l.ink _ _ page
     (λ px py s t. ap (λ (q : Bool). (ltb px width && ltb py long) && q) (near-sym (x + l.a) (y + l.b) l.c (x + l.d) (y + l.e) px py))
 
 -- ---- outside recording
 
-module _ (s : Session) (w : World) (g : Good s w) (none : s.owed ≡ 0) (quiet : recorded w.directory ≡ Nothing) where
+module _ (s : Session) (w : World) (g : Good s w) (none : s.owed ≡ 0) (quiet : recorded w.directory ≡ None) where
   module _ (a : Asked) (legal : legal_font a.font ≡ true) (l : SlantLine) (r : Says w a.input (item (Slant l))) where
     pub slant-taken :
         answered s w a
@@ -125,11 +124,11 @@ module _ (s : Session) (w : World) (g : Good s w) (none : s.owed ≡ 0) (quiet :
     pub slant-dot :
         (px py : ℕ) → px < 608 → py < rows_of w →
         dot_at (answered s w a).world.background px py
-        ≡ cond ((ltb px s.width && ltb py s.length) && belongs s.x s.y l px py) (inked (ink_of l.ink) (dot_at w.background px py))
+        ≡ cond ((ltb px s.width && ltb py s.length) && belongs s.x s.y l px py) (inked l.ink (dot_at w.background px py))
         (dot_at w.background px py)
     slant-dot px py h k =
         ap (λ (z : After). dot_at z.world.background px py) slant-taken
-        ∙ dot-drawn (ink_of l.ink) (cut s.width s.length (belongs s.x s.y l)) w.background px py h k
+        ∙ dot-drawn l.ink (cut s.width s.length (belongs s.x s.y l)) w.background px py h k
 
   pub either-end-same :
       (a b : Asked) → legal_font a.font ≡ true → legal_font b.font ≡ true → (l : SlantLine) → Says w a.input (item (Slant l)) →
@@ -147,7 +146,7 @@ module _ (s : Session) (w : World) (g : Good s w) (none : s.owed ≡ 0) (quiet :
 -- ---- while the form of entry i is recorded
 
 pub slant-kept :
-    (s : Session) (w : World) → Good s w → (i : ℕ) → recorded w.directory ≡ At i → (a : Asked) → legal_font a.font ≡ true →
+    (s : Session) (w : World) → Good s w → (i : ℕ) → recorded w.directory ≡ Some i → (a : Asked) → legal_font a.font ≡ true →
     (l : SlantLine) (r : Says w a.input (item (Slant l))) →
     can_grow s.free (entry w.directory i) (length (normal (line_of a.input r.line)) + 1) ≡ true →
     answered s w a
@@ -166,18 +165,18 @@ line-keeps : (g : Setting) (t : Drawing) (line : List ℕ) → InLimits t → In
 unfolding draws_line
 line-keeps g t line h = by (item_in line) refl
   where
-    by : (x : Stored) → item_in line ≡ x → InLimits (draws_stored g t line x)
-    by HoldsNone e = h
-    by (Holds (Origin o)) e = let r = read-ranges 1 line (item (Origin o)) (holds_read line (Origin o) e).1 in (r.0.1, r.1.1)
-    by (Holds (Variable v)) e = h
-    by (Holds (Counter c)) e = h
-    by (Holds (Text a)) e = h
-    by (Holds (Bars b)) e = h
-    by (Holds (Box b)) e = h
-    by (Holds (Frame f)) e = h
-    by (Holds (Slant l)) e = h
-    by (Holds (Picture p)) e = h
-    by (Holds (Format f)) e = h
+    by : (x : Option Item) → item_in line ≡ x → InLimits (draws_stored g t line x)
+    by None e = h
+    by (Some (Origin o)) e = let r = read-ranges 1 line (item (Origin o)) (holds_read line (Origin o) e).1 in (r.0.1, r.1.1)
+    by (Some (Variable v)) e = h
+    by (Some (Counter c)) e = h
+    by (Some (Text a)) e = h
+    by (Some (Bars b)) e = h
+    by (Some (Box b)) e = h
+    by (Some (Frame f)) e = h
+    by (Some (Slant l)) e = h
+    by (Some (Picture p)) e = h
+    by (Some (Format f)) e = h
 
 pub lines_keep : (g : Setting) (lines : List (List ℕ)) (t : Drawing) → InLimits t → InLimits (draws_lines g t lines)
 unfolding draws_lines
@@ -185,7 +184,7 @@ lines_keep g [] t h = h
 lines_keep g (l ∷ ls) t h = lines_keep g ls (draws_line g t l) (line-keeps g t l h)
 
 pub form-line-drawn :
-    (g : Setting) (x y : ℕ) → x ≤ 2048 → y ≤ 4096 → (page : List ℕ) (before : List (List ℕ)) (line : List ℕ) (l : SlantLine) → item_in line ≡ Holds (Slant l) →
+    (g : Setting) (x y : ℕ) → x ≤ 2048 → y ≤ 4096 → (page : List ℕ) (before : List (List ℕ)) (line : List ℕ) (l : SlantLine) → item_in line ≡ Some (Slant l) →
     draws_line g (under_way g x y page before) line ≡ with_line_on g l (under_way g x y page before)
 unfolding draws_line declares
 form-line-drawn g x y right down page before line l holds =

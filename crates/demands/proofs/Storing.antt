@@ -1,5 +1,6 @@
 -- GM: the bytes behind its line, which are as many as it says; and the line `GM"name",n` with any text in quotes for its name.
 -- Assumes nothing.
+use Rattle.std.specs.Prelude.{Ok}
 use mathlib.Core.Path.{◌≡◌, refl, sym, ap, ◌∙◌, subst}
 use mathlib.Core.Bool.{Bool, true, false, not, cond, ◌&&◌, ◌||◌}
 use mathlib.Core.List.{List, [], ◌∷◌, ◌++◌, append-nil, append_assoc}
@@ -13,12 +14,9 @@ use Rattle.kinds.specs.Bytes.{between, all_in}
 use Rattle.classes.specs.declared.Class.TheVariants.{Quoted, Inside as NoLF}
 use Rattle.classes.specs.Bytes.{in_class, run}
 use Rattle.classes.proofs.Laws.{in-range}
-use Rattle.fields.specs.declared.Field.TheVariants.{Is}
 use Rattle.fields.specs.Field.{byte_at}
 use Rattle.numbers.specs.Number.{number_at}
 use Rattle.reader.specs.Letters.{field_at}
-use Rattle.heads.specs.declared.Head.{Head}
-use Rattle.heads.specs.declared.Head.TheVariants.{Row as HeadRow}
 use Rattle.heads.specs.Heads.{head_of, head_by, find}
 use Rattle.grammar.specs.Named.{GM}
 use Rattle.grammar.specs.Forms.{Form, forms, row_of, spread, in_order}
@@ -28,10 +26,8 @@ use Rattle.grammar.specs.declared.Command.{Command}
 use Rattle.grammar.specs.declared.Command.TheVariants.{Item as item, End, Page, Forms, Pictures, Values, Listing, Clock}
 use Rattle.grammar.specs.declared.PictureCommand.TheVariants.{Store, Erase as ErasePicture}
 use Rattle.row_fields.specs.Reading.{good, fields_from}
-use Rattle.data_field.specs.declared.Limits.TheVariants.{Within, Outside}
 use Rattle.row_limits.specs.Limits.{first_of, field_limits, limits_from, meets}
 use Rattle.read.specs.declared.Fault.TheVariants.{Limit}
-use Rattle.read.specs.declared.Read.TheVariants.{Taken as Reads, Refused}
 use Rattle.read.specs.Commands.{read_of, headed, judged, decided}
 use Rattle.front.specs.declared.Front.{Front}
 use Rattle.front.specs.declared.Front.TheVariants.{Short, Long as LongLine, Idle, Line}
@@ -49,6 +45,7 @@ use Rattle.demands.specs.Fitting.{bytes_given, store_line}
 use Rattle.demands.proofs.Names.{name-quoted, name-judged, quoted-inside, quoted-all}
 use Rattle.demands.proofs.Lines.{front-asking}
 use Rattle.demands.proofs.Sayings.{digits-inside}
+use Rattle.std.proofs.Common.{Option, Some, Err}
 
 -- ---- a line that is read as GM asks for as many bytes as it says
 
@@ -57,7 +54,7 @@ Asks row s (item i) = Unit {0}
 Asks row s End = Unit {0}
 Asks row s (Page c) = Unit {0}
 Asks row s (Forms c) = Unit {0}
-Asks row s (Pictures (Store p)) = between 1 32768 p.n ≡ true → asked_by (HeadRow row) s ≡ p.n
+Asks row s (Pictures (Store p)) = between 1 32768 p.n ≡ true → asked_by (Some row) s ≡ p.n
 Asks row s (Pictures (ErasePicture n)) = Unit {0}
 Asks row s (Values c) = Unit {0}
 Asks row s (Listing c) = Unit {0}
@@ -69,7 +66,7 @@ Asking k f =
     (s vs ps : List ℕ) → fields_from f.fields s 0 ≡ good vs ps →
     Asks k s (f.makes s (λ i. get_or (in_order f.fields 0 vs) i 0) (λ i. get_or (in_order f.fields 0 ps) i 0))
 
-size-says : (s vs ps : List ℕ) → fields_from (row_of GM).fields s 0 ≡ good vs ps → between 1 32768 (get_or vs 4 0) ≡ true → asked_by (HeadRow GM) s ≡ get_or vs 4 0
+size-says : (s vs ps : List ℕ) → fields_from (row_of GM).fields s 0 ≡ good vs ps → between 1 32768 (get_or vs 4 0) ≡ true → asked_by (Some GM) s ≡ get_or vs 4 0
 unfolding asked_by size_of in_order
 size-says s vs ps e h = ap size_of e ∙ rw h
 
@@ -112,12 +109,12 @@ asking =
     & (λ s vs ps e. tt)
     & (λ k s vs ps e. tt)
 
-store-asked : (rows : ℕ) (s : List ℕ) (p : StorePicture) → read_of rows s ≡ Reads (Pictures (Store p)) → asked s ≡ p.n
+store-asked : (rows : ℕ) (s : List ℕ) (p : StorePicture) → read_of rows s ≡ Ok (Pictures (Store p)) → asked s ≡ p.n
 store-asked rows s p h =
     let x = line-parted rows s (Pictures (Store p)) h in
     let r = read-ranges rows s (Pictures (Store p)) h in
     let a : Asks x.row s (Pictures (Store p)) = subst (Asks x.row s) x.command (each_row Asking asking x.row s x.vs x.ps x.read) in
-    ap (λ (y : Head). asked_by y s) x.head ∙ a (in-range 1 32768 p.n r.0 r.1)
+    ap (λ (y : Option ℕ). asked_by y s) x.head ∙ a (in-range 1 32768 p.n r.0 r.1)
 
 -- ---- and they are there: a line stands whole at the front of an input with the bytes that it asks for
 
@@ -178,18 +175,18 @@ module _ (t : List ℕ) (quoted : all_in (in_class Quoted) t ≡ true) (n : ℕ)
   store_long : length (store_line t n) ≡ comma + 1 + length (decimal n)
   store_long = ap length (sym front-number) ∙ length-append front (decimal n) ∙ ap (λ (k : ℕ). k + length (decimal n)) front_long
 
-  comma-read : byte_at 44 (store_line t n) comma ≡ Is 44 (comma + 1)
+  comma-read : byte_at 44 (store_line t n) comma ≡ Ok (44, comma + 1)
   unfolding byte_at
   comma-read =
       let l : comma < length (store_line t n) = omega (arith, store_long) in
       let k : comma ≡ suc (suc (suc (length t + 1))) = omega arith in
       rw (lt-ltb comma (length (store_line t n)) l, k, get_or-append-add t (34 ∷ 44 ∷ decimal n) 1 0)
 
-  number_read : number_at (store_line t n) (comma + 1) ≡ Is n (comma + 1 + length (decimal n))
+  number_read : number_at (store_line t n) (comma + 1) ≡ Ok (n, comma + 1 + length (decimal n))
   number_read =
-      subst (λ (l : List ℕ). number_at l (comma + 1) ≡ Is n (comma + 1 + length (decimal n)))
+      subst (λ (l : List ℕ). number_at l (comma + 1) ≡ Ok (n, comma + 1 + length (decimal n)))
       (ap (λ (l : List ℕ). front ++ l) (append-nil (decimal n)) ∙ front-number)
-      (subst (λ (k : ℕ). number_at (front ++ (decimal n ++ [])) k ≡ Is n (k + length (decimal n))) front_long (number-back front [] n (omega arith) (unfold between in refl)))
+      (subst (λ (k : ℕ). number_at (front ++ (decimal n ++ [])) k ≡ Ok (n, k + length (decimal n))) front_long (number-back front [] n (omega arith) (unfold between in refl)))
 
   store-fields :
       fields_from (row_of GM).fields (store_line t n) 0 ≡ good (71 ∷ 77 ∷ length t ∷ 44 ∷ n ∷ []) (0 ∷ 1 ∷ 2 ∷ comma ∷ (comma + 1) ∷ [])
@@ -228,7 +225,7 @@ module _ (t : List ℕ) (quoted : all_in (in_class Quoted) t ≡ true) (n : ℕ)
   -- a name and an n within their limits, or 7 that points to the first that is not
   pub store-judged :
       (rows : ℕ) →
-      read_of rows (store_line t n) ≡ cond (name_wrong t) (Refused (Limit 2)) (cond (between 1 32768 n) (Reads (Pictures (Store (stored_by t n)))) (Refused (Limit (comma + 1))))
+      read_of rows (store_line t n) ≡ cond (name_wrong t) (Err (Limit 2)) (cond (between 1 32768 n) (Ok (Pictures (Store (stored_by t n)))) (Err (Limit (comma + 1))))
   unfolding read_of headed head_of head_by find judged limits_from field_limits meets spread in_order
   store-judged rows =
       ap (judged GM rows (store_line t n)) store-fields
@@ -236,8 +233,8 @@ module _ (t : List ℕ) (quoted : all_in (in_class Quoted) t ≡ true) (n : ℕ)
     where
       by :
           (wrong right : Bool) (p q : ℕ) (c : Command) →
-          decided (first_of (cond (not wrong) Within (Outside p)) (first_of (cond (right && true) Within (Outside q)) Within)) c
-          ≡ cond wrong (Refused (Limit p)) (cond right (Reads c) (Refused (Limit q)))
+          decided (first_of (cond (not wrong) (Ok tt) (Err p)) (first_of (cond (right && true) (Ok tt) (Err q)) (Ok tt))) c
+          ≡ cond wrong (Err (Limit p)) (cond right (Ok c) (Err (Limit q)))
       by true right p q c = refl
       by false true p q c = refl
       by false false p q c = refl

@@ -1,5 +1,6 @@
 -- Paper 02, §2: a command call that is answered 6 points to the LF exactly when some well-formed line starts with its line.
 -- Assumes nothing.
+use Rattle.std.proofs.Common.{Result, Ok, Err}
 use mathlib.Core.Path.{◌≡◌, sym, ap, ◌∙◌}
 use mathlib.Core.Bool.{Bool, true, false, cond}
 use mathlib.Core.Logic.{◌↔◌}
@@ -7,13 +8,13 @@ use mathlib.Core.List.{List, ◌∷◌}
 use Prim.Native.Nat.{ℕ}
 use native.Mathlib.Omega.{arith}
 use lib.ListN.{length}
+use Rattle.read.specs.declared.Fault.{Fault}
+use Rattle.grammar.specs.declared.Command.{Command}
 use Rattle.front.specs.declared.Front.{Front}
 use Rattle.front.specs.declared.Front.TheVariants.{Line}
 use Rattle.front.specs.Front.{front_of}
 use Rattle.finding.specs.Find.{recorded}
 use Rattle.read.specs.declared.Fault.TheVariants.{Form as form, Limit}
-use Rattle.read.specs.declared.Read.{Read}
-use Rattle.read.specs.declared.Read.TheVariants.{Taken as Reads, Refused}
 use Rattle.read.specs.Commands.{read_of}
 use Rattle.pointing.specs.Soon.{EndsTooSoon}
 use Rattle.pointing.proofs.Soon.{too-soon}
@@ -23,8 +24,8 @@ use Rattle.answers.specs.Answers.{Row, answer_of, number_of}
 use Rattle.lent.specs.Lent.{World, rows_of}
 use Rattle.commands.specs.Rows.{line_rows}
 use Rattle.unread.specs.Front.{line_of, more_of}
-use Rattle.calls.specs.Table.{command_table, front_rows}
-use Rattle.calls.specs.Station.{commanded}
+use Rattle.keeps_sound.specs.Table.{command_table, front_rows}
+use Rattle.keeps_sound.specs.Station.{commanded}
 use Rattle.demands.proofs.Tables.{given_above}
 use Rattle.demands.proofs.Refusal.{command-answer, placed-rises}
 
@@ -39,13 +40,13 @@ passed r rs p n e = by r.applies e
 
 -- a line is answered 6, at a place, where reading says so
 line-unwritten :
-    (w : World) (s : Session) (line more : List ℕ) (room p : ℕ) (r : Read) → answer_of (line_rows w s line more room r) ≡ Unwritten p → r ≡ Refused (form p)
+    (w : World) (s : Session) (line more : List ℕ) (room p : ℕ) (r : Result Command Fault) → answer_of (line_rows w s line more room r) ≡ Unwritten p → r ≡ Err (form p)
 unfolding answer_of number_of
-line-unwritten w s line more room p (Refused (form q)) e = let z : q ≡ p = cc in ap (λ (i : ℕ). Refused (form i)) z
-line-unwritten w s line more room p (Refused (Limit q)) e = absurd (let z = ap number_of e in omega (arith, z))
-line-unwritten w s line more room p (Reads c) e =
+line-unwritten w s line more room p (Err (form q)) e = let z : q ≡ p = cc in ap (λ (i : ℕ). Err (form i)) z
+line-unwritten w s line more room p (Err (Limit q)) e = absurd (let z = ap number_of e in omega (arith, z))
+line-unwritten w s line more room p (Ok c) e =
     absurd
-    (given_above 7 6 (line_rows w s line more room (Reads c)) (placed-rises w s line more room c (recorded w.directory)) (omega arith) (omega arith) (ap number_of e))
+    (given_above 7 6 (line_rows w s line more room (Ok c)) (placed-rises w s line more room c (recorded w.directory)) (omega arith) (omega arith) (ap number_of e))
 
 -- "for a line that ends too soon, the place of its LF"
 pub command-too-soon :

@@ -20,7 +20,7 @@ use Rattle.stored_values.specs.Stored.{field_at, field_set}
 use Rattle.values.specs.Sound.{all_set}
 use Rattle.values.proofs.Sound.{set-at}
 use Rattle.forms.specs.Form.{declared_of}
-use Rattle.sound.specs.Sound.{active_bytes}
+use Rattle.keeps_sound.specs.Sound.{active_bytes}
 use Rattle.session.specs.declared.Session.{Session}
 use Rattle.answers.specs.declared.Answer.TheVariants.{Taken}
 use Rattle.answers.specs.Answers.{is_taken}
@@ -28,9 +28,9 @@ use Rattle.lent.specs.Lent.{World}
 use Rattle.session.specs.Session.{with_labels, counting}
 use Rattle.session.specs.Active.{active_of, active_declared}
 use Rattle.results.specs.World.{State, state}
-use Rattle.calls.specs.Outcomes.{Drawn}
-use Rattle.calls.specs.Station.{label_session, labelled_by}
-use Rattle.calls.proofs.Promises.{label-refusal-keeps}
+use Rattle.keeps_sound.specs.Outcomes.{Drawn}
+use Rattle.keeps_sound.specs.Station.{label_session, labelled_by}
+use Rattle.keeps_sound.proofs.Promises.{label-refusal-keeps}
 use Rattle.keeps_sound.specs.Good.{Good}
 use Rattle.keeps_sound.specs.Calls.{Call, command, label, pass, called, through}
 use Rattle.keeps_sound.proofs.Passing.{passed-keeps}

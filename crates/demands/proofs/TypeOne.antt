@@ -1,5 +1,6 @@
 -- Paper 02, §9: type 1, at the level of the commands. What a line that is read shows is drawn from its shortest writing.
 -- Assumes nothing.
+use Rattle.std.proofs.Common.{Some, Ok}
 use mathlib.Core.Path.{◌≡◌, ap, ◌∙◌}
 use mathlib.Core.Bool.{true}
 use mathlib.Core.List.{List}
@@ -18,11 +19,9 @@ use Rattle.declarations.specs.Declarations.{outside_forms}
 use Rattle.grammar.specs.declared.Bars.{Bars as BarsLine}
 use Rattle.grammar.specs.declared.Item.TheVariants.{Bars}
 use Rattle.grammar.specs.declared.Command.TheVariants.{Item as item}
-use Rattle.read.specs.declared.Read.TheVariants.{Taken as Reads}
 use Rattle.read.specs.Commands.{read_of}
-use Rattle.kept_line.specs.declared.Stored.TheVariants.{Holds}
 use Rattle.kept_line.specs.Held.{item_in}
-use Rattle.finding.specs.declared.Found.TheVariants.{Nothing}
+use Rattle.std.specs.Prelude.{None}
 use Rattle.finding.specs.Find.{recorded}
 use Rattle.recording.specs.Judged.{declares}
 use Rattle.item_drawing.specs.Draw.{Setting, shown, draws_item}
@@ -31,7 +30,7 @@ use Rattle.session.specs.declared.Session.{Session}
 use Rattle.answers.specs.declared.Answer.TheVariants.{Taken}
 use Rattle.lent.specs.Lent.{World, rows_of}
 use Rattle.results.specs.World.{with_background}
-use Rattle.calls.specs.Outcomes.{after, outcome}
+use Rattle.keeps_sound.specs.Outcomes.{after, outcome}
 use Rattle.unread.specs.Front.{line_of}
 use Rattle.keeps_sound.specs.Good.{Good}
 use Rattle.keeps_sound.proofs.Facts.{numbers-facts}
@@ -46,7 +45,7 @@ use Rattle.demands.proofs.Slants.{short-sum, InLimits, lines_keep}
 -- ---- what a line that is read draws
 
 module _
-    (rows : ℕ) (line : List ℕ) (b : BarsLine) (reads : read_of rows line ≡ Reads (item (Bars b))) (x y : ℕ) (right : x ≤ 2048) (down : y ≤ 4096) where
+    (rows : ℕ) (line : List ℕ) (b : BarsLine) (reads : read_of rows line ≡ Ok (item (Bars b))) (x y : ℕ) (right : x ≤ 2048) (down : y ≤ 4096) where
   ranges : ItemRanged (Bars b)
   ranges = read-ranges rows line (item (Bars b)) reads
 
@@ -79,7 +78,7 @@ module _
 -- ---- on a label
 
 pub form-bars-drawn :
-    (g : Setting) (x y : ℕ) → x ≤ 2048 → y ≤ 4096 → (page : List ℕ) (before : List (List ℕ)) (line : List ℕ) (b : BarsLine) → item_in line ≡ Holds (Bars b) →
+    (g : Setting) (x y : ℕ) → x ≤ 2048 → y ≤ 4096 → (page : List ℕ) (before : List (List ℕ)) (line : List ℕ) (b : BarsLine) → item_in line ≡ Some (Bars b) →
     b.kind ≡ Code128 → (v : List ℕ) → fit Code128 (shown g (under_way g x y page before).carried.declared line b.at) ≡ true →
     Shortest (shown g (under_way g x y page before).carried.declared line b.at) v →
     draws_line g (under_way g x y page before) line
@@ -95,7 +94,7 @@ form-bars-drawn g x y right down page before line b holds k v h p =
 -- ---- outside recording
 
 pub bars-taken :
-    (s : Session) (w : World) → Good s w → recorded w.directory ≡ Nothing → (a : Asked) (b : BarsLine) (r : Says w a.input (item (Bars b))) → b.kind ≡ Code128 →
+    (s : Session) (w : World) → Good s w → recorded w.directory ≡ None → (a : Asked) (b : BarsLine) (r : Says w a.input (item (Bars b))) → b.kind ≡ Code128 →
     (answered s w a).outcome.answer ≡ Taken → (v : List ℕ) → fit Code128 (shown_there s w a.font (line_of a.input r.line) b.at) ≡ true →
     Shortest (shown_there s w a.font (line_of a.input r.line) b.at) v →
     answered s w a

@@ -23,8 +23,8 @@ use Rattle.answers.specs.declared.Answer.TheVariants.{Taken}
 use Rattle.lent.specs.Lent.{World}
 use Rattle.results.specs.World.{State}
 use Rattle.results.proofs.Lengths.{directory-long}
-use Rattle.calls.specs.Outcomes.{After}
-use Rattle.calls.specs.Station.{commanded}
+use Rattle.keeps_sound.specs.Outcomes.{After}
+use Rattle.keeps_sound.specs.Station.{commanded}
 use Rattle.unread.specs.Front.{line_of, more_of}
 use Rattle.keeps_sound.specs.Calls.{command, called}
 use Rattle.keeps_sound.proofs.Counters.{placed-left, set-active}

@@ -10,7 +10,7 @@ use Rattle.answers.specs.Answers.{Row, row}
 use Rattle.lent.specs.Lent.{World, rows_of, wrong_lent}
 use Rattle.commands.specs.Rows.{line_rows}
 use Rattle.unread.specs.Front.{line_of, more_of, front_answer}
-use Rattle.calls.specs.Table.{entry_rows}
+use Rattle.keeps_sound.specs.Table.{entry_rows}
 
 -- 4 and 5 by the front of the input, and from 6 on by the line in it
 abbrev pub rows_before : World → Session → List ℕ → ℕ → Front → List Row

@@ -1,7 +1,6 @@
 -- Paper 02, §10: what sets the clock and the formats, and the seconds that clock calls give.
 -- Assumes nothing.
-use Rattle.std.specs.Prelude.{ℕ, ◌+◌, ◌≡◌, cond, List, [], ◌∷◌, leb}
-use Rattle.finding.specs.declared.Found.TheVariants.{Nothing}
+use Rattle.std.specs.Prelude.{ℕ, ◌+◌, ◌≡◌, cond, List, [], ◌∷◌, leb, None}
 use Rattle.finding.specs.Find.{recorded}
 use Rattle.grammar.specs.declared.SetClock.{SetClock}
 use Rattle.grammar.specs.declared.SetFormat.{SetFormat}
@@ -20,7 +19,7 @@ pub record SetsClock (w : World) (input : List ℕ) : Type 0 where
 pub record SetsFormat (w : World) (input : List ℕ) : Type 0 where
   pub format : SetFormat
   pub says : Says w input (item (Format format))
-  pub outside : recorded w.directory ≡ Nothing
+  pub outside : recorded w.directory ≡ None
 
 -- "a call that gives the seconds passed, 0 to 86,400": those of all clock calls; one that gives more is refused
 abbrev pub seconds_in : List Call → ℕ

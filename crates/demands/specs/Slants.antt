@@ -4,7 +4,7 @@ use Rattle.std.specs.Prelude.{ℕ, ◌+◌, Bool, List}
 use Rattle.dots.specs.Dots.{drawn, cut}
 use Rattle.slanted_lines.specs.Slanted.{near}
 use Rattle.grammar.specs.declared.Slant.{Slant}
-use Rattle.item_drawing.specs.Draw.{Setting, ink_of}
+use Rattle.item_drawing.specs.Draw.{Setting}
 use Rattle.carried.specs.Carried.{starts}
 use Rattle.form_drawing.specs.Draw.{Drawing, drawing, draws_lines}
 
@@ -14,7 +14,7 @@ belongs x y l px py = near (x + l.a) (y + l.b) l.c (x + l.d) (y + l.e) px py
 
 -- the page with its dots "black, inverting, white"; what lies outside width and length is cut
 abbrev pub with_line : ℕ → ℕ → ℕ → ℕ → Slant → List ℕ → List ℕ
-with_line width length x y l page = drawn (ink_of l.ink) (cut width length (belongs x y l)) page
+with_line width length x y l page = drawn l.ink (cut width length (belongs x y l)) page
 
 -- the same line from its other end
 abbrev pub from_other_end : Slant → Slant

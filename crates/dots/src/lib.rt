@@ -8,8 +8,6 @@
 ghost use Rattle.std.specs.Prelude.{◌≡◌, cond};
 ghost use Rattle.dots.specs.Dots.{within, bit_of, byte_of, inked};
 
-use ground::least;
-
 // "76 bytes a row": so a row has 608 dots.
 pub const BYTES_A_ROW: usize = 76;
 
@@ -27,8 +25,8 @@ pub enum Ink {
 pub fn span_mask(lo: usize, hi: usize) -> u8
     ensures { result ≡ byte_of (within lo hi) }
 {
-    let end = least(hi, 8);
-    let start = least(lo, end);
+    let end = hi.min(8);
+    let start = lo.min(end);
     ((255u32 >> start) - (255u32 >> end)) as u8
 }
 

@@ -38,10 +38,8 @@ pub fn ink_eights(page: &mut [u8], ink: Ink, x: usize, y0: usize, y1: usize, m: 
     ensures { page.new ≡ drawn ink (eights x y0 y1 m) page.old }
 {
     let bottom = least(y1, page.len() / BYTES_A_ROW);
-    let mut y = y0;
-    while y < bottom {
+    for y in y0..bottom {
         ink_pair(page, ink, x, y, m);
-        y += 1;
     }
 }
 

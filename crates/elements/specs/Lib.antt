@@ -1,2 +1,3 @@
 pub mod Elements
 pub mod Samples
+pub use Rattle.numbers.specs.Number

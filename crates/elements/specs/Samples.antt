@@ -1,16 +1,15 @@
 -- Elements of the paper's lines, and what reading them gives: antt computes each.
 -- Assumes nothing.
-use Rattle.std.specs.Prelude.{◌≡◌, refl, [], ◌∷◌}
-use Rattle.kinds.specs.Bytes.{between}
-use Rattle.kinds.specs.Text.{bytes}
-use Rattle.classes.specs.Bytes.{run}
+use Rattle.std.specs.Prelude.{◌≡◌, refl, [], ◌∷◌, Err}
+use Rattle.formats.specs.Bytes.{between}
+use Rattle.formats.specs.Text.{bytes}
+use Rattle.numbers.specs.Bytes.{run}
 use Rattle.fields.specs.Field.{byte_at}
 use Rattle.numbers.specs.Number.{value_from, number_at}
 use Rattle.formats.specs.declared.Stamp.TheVariants.{Date, Time}
 use Rattle.elements.specs.Elements.{modifier_at, held_at, stamped_at, element_at, elements_from, elements}
 use Rattle.elements.specs.declared.Part.TheVariants.{First, Last, Middle}
 use Rattle.elements.specs.declared.What.TheVariants.{Variable, Stamped}
-use Rattle.elements.specs.declared.Step.TheVariants.{Stop}
 
 -- "`V0L1V0M3.2V0R1`"
 three : elements (bytes "V0L1V0M3.2V0R1") 0
@@ -28,6 +27,6 @@ stamps = refl
 
 no-stamps :
     element_at (bytes "TDL2") 2 ∷ element_at (bytes "Tx") 0 ∷ element_at (bytes "td") 0 ∷ element_at (bytes "T") 0 ∷ []
-    ≡ Stop 2 ∷ Stop 0 ∷ Stop 0 ∷ Stop 1 ∷ []
+    ≡ Err 2 ∷ Err 0 ∷ Err 0 ∷ Err 1 ∷ []
 unfolding element_at stamped_at
 no-stamps = refl

@@ -10,7 +10,7 @@ ghost use Rattle.fields.specs.Field.{text_at};
 ghost use Rattle.numbers.specs.Number.{number_at};
 ghost use Rattle.elements.specs.Elements.{modifier_at, middle, quoted_from, held_from, held_at, stamped_from, stamped_at, element_at};
 
-use fields::{Field, literal, point, text};
+use fields::{literal, point, text};
 use formats::Stamp;
 use ground::byte;
 use numbers::{digit, number};
@@ -22,13 +22,6 @@ pub enum Part {
     First(usize),
     Last(usize),
     Middle(usize, usize),
-}
-
-// A modifier and the place after it; or the place where a number or the point is missing.
-#[derive(Clone, Copy)]
-pub enum Modifier {
-    Takes(Part, usize),
-    Wrong(usize),
 }
 
 // A quoted text; a part of a variable, by its number; a part of a counter; the date or the time of day.
@@ -48,50 +41,35 @@ pub struct Element {
     pub length: usize,
 }
 
-// An element; or none, and the place at fault.
-#[derive(Clone, Copy)]
-pub enum Step {
-    Next(Element),
-    Stop(usize),
-}
-
-// A modifier at a place, or none.
-fn modifier_at(line: &[u8], at: usize) -> Modifier
+// A modifier at a place, or none, and the place after it; or the place where a number or the point is missing.
+#[tactic(auto, using(numbers::proofs::Laws::number_fault), unfolding(crate::specs::Elements::modifier_at))]
+fn modifier_at(line: &[u8], at: usize) -> Result<(Part, usize), usize>
     ensures { result ≡ modifier_at line.now at }
 {
     let b = byte(line, at);
     match b {
         b'L' => {
-            let Field::Is(n, end) = number(line, at + 1) else {
-                return Modifier::Wrong(at + 1);
-            };
-            Modifier::Takes(Part::First(n), end)
+            let (n, end) = number(line, at + 1)?;
+            Ok((Part::First(n), end))
         }
         b'R' => {
-            let Field::Is(n, end) = number(line, at + 1) else {
-                return Modifier::Wrong(at + 1);
-            };
-            Modifier::Takes(Part::Last(n), end)
+            let (n, end) = number(line, at + 1)?;
+            Ok((Part::Last(n), end))
         }
         b'M' => middle_at(line, at + 1),
-        _ => Modifier::Takes(Part::Whole, at),
+        _ => Ok((Part::Whole, at)),
     }
 }
 
 // What follows the letter of `Mp.n`.
-fn middle_at(line: &[u8], at: usize) -> Modifier
+#[tactic(auto, using(numbers::proofs::Laws::number_fault, fields::proofs::Laws::byte_fault))]
+fn middle_at(line: &[u8], at: usize) -> Result<(Part, usize), usize>
     ensures { result ≡ middle line.now at (number_at line.now at) }
 {
-    let Field::Is(p, dot) = number(line, at) else {
-        return Modifier::Wrong(at);
-    };
-    let Field::Is(_, next) = literal(line, b'.', dot) else {
-        return Modifier::Wrong(dot);
-    };
-    let Field::Is(n, end) = number(line, next) else {
-        return Modifier::Wrong(next);
-    };
-    Modifier::Takes(Part::Middle(p, n), end)
+    let (p, dot) = number(line, at)?;
+    let (_, next) = literal(line, b'.', dot)?;
+    let (n, end) = number(line, next)?;
+    Ok((Part::Middle(p, n), end))
 }
 
 fn held(counter: bool, b: u8, part: Part) -> What
@@ -105,41 +83,39 @@ fn held(counter: bool, b: u8, part: Part) -> What
 }
 
 // The rest of an element that starts with `V` or `C`.
-fn held_at(line: &[u8], at: usize, counter: bool) -> Step
+fn held_at(line: &[u8], at: usize, counter: bool) -> Result<Element, usize>
     requires { at < length line.now }
     ensures { result ≡ held_at counter line.now at }
 {
     let b = byte(line, at + 1);
     match b {
         b'0'..=b'9' => match modifier_at(line, at + 2) {
-            Modifier::Takes(part, end) => Step::Next(Element {
+            Ok((part, end)) => Ok(Element {
                 what: held(counter, b, part),
                 at,
                 length: end - at,
             }),
-            Modifier::Wrong(fault) => Step::Stop(point(line, at, fault)),
+            Err(fault) => Err(point(line, at, fault)),
         },
-        _ => Step::Stop(point(line, at, at + 1)),
+        _ => Err(point(line, at, at + 1)),
     }
 }
 
-fn quoted_at(line: &[u8], at: usize) -> Step
+fn quoted_at(line: &[u8], at: usize) -> Result<Element, usize>
     ensures { result ≡ quoted_from at (text_at line.now at) }
 {
-    match text(line, at) {
-        Field::Is(n, _) => Step::Next(Element {
-            what: What::Text,
-            at,
-            length: n + 2,
-        }),
-        Field::Not(fault) => Step::Stop(fault),
-    }
+    let (n, _) = text(line, at)?;
+    Ok(Element {
+        what: What::Text,
+        at,
+        length: n + 2,
+    })
 }
 
-fn stamped(at: usize, stamp: Stamp) -> Step
+fn stamped(at: usize, stamp: Stamp) -> Result<Element, usize>
     ensures { result ≡ stamped_from at stamp }
 {
-    Step::Next(Element {
+    Ok(Element {
         what: What::Stamped(stamp),
         at,
         length: 2,
@@ -147,19 +123,21 @@ fn stamped(at: usize, stamp: Stamp) -> Step
 }
 
 // `TD` or `TT`, behind the first letter: they take no modifier.
-fn stamped_at(line: &[u8], at: usize) -> Step
+#[tactic(auto, unfolding(crate::specs::Elements::stamped_at))]
+fn stamped_at(line: &[u8], at: usize) -> Result<Element, usize>
     requires { at < length line.now }
     ensures { result ≡ stamped_at line.now at }
 {
     match byte(line, at + 1) {
         b'D' => stamped(at, Stamp::Date),
         b'T' => stamped(at, Stamp::Time),
-        _ => Step::Stop(point(line, at, at + 1)),
+        _ => Err(point(line, at, at + 1)),
     }
 }
 
-// The element at a place. Variables and counters share one call, so that an element is built once and not copied from call to call.
-pub fn element_at(line: &[u8], at: usize) -> Step
+// The element at a place; or the place at fault. Variables and counters share one call, so that an element is built once and not copied from call to call.
+#[tactic(auto, unfolding(crate::specs::Elements::element_at))]
+pub fn element_at(line: &[u8], at: usize) -> Result<Element, usize>
     ensures { result ≡ element_at line.now at }
 {
     let b = byte(line, at);
@@ -167,6 +145,6 @@ pub fn element_at(line: &[u8], at: usize) -> Step
         b'"' => quoted_at(line, at),
         b'V' | b'C' => held_at(line, at, b == b'C'),
         b'T' => stamped_at(line, at),
-        _ => Step::Stop(at),
+        _ => Err(at),
     }
 }

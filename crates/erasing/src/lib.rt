@@ -29,13 +29,11 @@ fn free_chain(store: &mut [u8], links: &mut [u16], directory: &mut [u8], first: 
     ensures { memory store.new links.new directory.new ≡ freed (memory store.old links.old directory.old) first n }
 {
     let mut p = first;
-    let mut k = n;
-    while 0 < k {
+    for _ in 0..n {
         wipe(store, p);
         let next = store::link_at(links, p);
         put_link(links, p, FREE_LINK);
         p = next;
-        k -= 1;
     }
 }
 
@@ -74,9 +72,7 @@ pub fn erase_all(store: &mut [u8], links: &mut [u16], directory: &mut [u8], pict
     ensures { memory store.new links.new directory.new ≡ erased_all picture (memory store.old links.old directory.old) }
 {
     let n = directory.len() / BYTES_AN_ENTRY;
-    let mut i = 0;
-    while i < n {
+    for i in 0..n {
         erase_if(store, links, directory, picture, i);
-        i += 1;
     }
 }

@@ -17,10 +17,10 @@ use Rattle.clock_call.specs.Passing.{passed}
 use Rattle.memory.specs.Memory.{Memory}
 use Rattle.repair.specs.declared.Outcome.{Outcome as Mended}
 use Rattle.repair.specs.Repair.{repaired_by, repaired}
-use Rattle.calls.specs.declared.Outcome.{Outcome}
+use Rattle.station.specs.Outcome.{Outcome}
 use Rattle.session.specs.declared.Labelled.{Labelled}
-use Rattle.calls.specs.Outcomes.{after, drawn_by, opened_by}
-use Rattle.calls.specs.Station.{opened, commanded, labelled_by}
+use Rattle.station.specs.Outcomes.{after, drawn_by, opened_by}
+use Rattle.station.specs.Station.{opened, commanded, labelled_by}
 use Rattle.image.specs.Image.{image_size, session_of, image_of}
 use Rattle.image.proofs.Inverse.{whole}
 use Rattle.exported.proofs.Kept.{neither}

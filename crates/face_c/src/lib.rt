@@ -8,7 +8,7 @@
 ghost use Rattle.std.specs.Prelude.{◌≡◌};
 ghost use Rattle.lent.specs.Lent.{world};
 ghost use Rattle.memory.specs.Memory.{memory};
-ghost use Rattle.exported.specs.Face.{opening, commanding, labelling, opened_face, commanded_face, labelled_face, clocking, clocked_face, fitted_face, repairing, repaired_face};
+ghost use Rattle.face.specs.Face.{opening, commanding, labelling, opened_face, commanded_face, labelled_face, clocking, clocked_face, fitted_face, repairing, repaired_face};
 
 #[unsafe(no_mangle)]
 pub extern "C" fn station_open(

@@ -16,19 +16,15 @@ use ground::{byte, wide};
 use kinds::{Kind, Place, Under};
 
 // What reading one field finds: its value and the place after it; or that the written form is not there, and the place at fault.
-#[derive(Clone, Copy)]
-pub enum Field {
-    Is(usize, usize),
-    Not(usize),
-}
+pub type Field = Result<(usize, usize), usize>;
 
 // Where the reading of a field stopped: behind the field, or at the fault.
 pub fn stop(found: Field) -> usize
     ensures { result ≡ stop_of found }
 {
     match found {
-        Field::Is(_, end) => end,
-        Field::Not(fault) => fault,
+        Ok((_, end)) => end,
+        Err(fault) => fault,
     }
 }
 
@@ -54,80 +50,85 @@ fn word_to(line: &[u8], start: usize, v: usize, end: usize) -> Field
     ensures { result ≡ word_to line.now start v end }
 {
     if word_ends(line, end) {
-        return Field::Is(v, end);
+        return Ok((v, end));
     }
-    Field::Not(start)
+    Err(start)
 }
 
 // Quoted text; its value is its length.
+#[tactic(auto, unfolding(crate::specs::Field::text_at))]
 pub fn text(line: &[u8], at: usize) -> Field
     ensures { result ≡ text_at line.now at }
 {
     if line.len() <= at {
-        return Field::Not(at);
+        return Err(at);
     }
     if line[at] != b'"' {
-        return Field::Not(at);
+        return Err(at);
     }
     let start = at + 1;
     let end = run_end(line, Class::Quoted, start);
     if line.len() <= end {
-        return Field::Not(line.len());
+        return Err(line.len());
     }
     if line[end] != b'"' {
-        return Field::Not(at);
+        return Err(at);
     }
-    Field::Is(end - start, end + 1)
+    Ok((end - start, end + 1))
 }
 
 // A byte that stands for itself.
+#[tactic(auto, unfolding(crate::specs::Field::byte_at))]
 pub fn literal(line: &[u8], b: u8, at: usize) -> Field
     ensures { result ≡ byte_at b line.now at }
 {
     if line.len() <= at {
-        return Field::Not(at);
+        return Err(at);
     }
     if line[at] != b {
-        return Field::Not(at);
+        return Err(at);
     }
-    Field::Is(wide(b), at + 1)
+    Ok((wide(b), at + 1))
 }
 
 // A word of one letter of a class; its value is the letter.
+#[tactic(auto, unfolding(crate::specs::Field::letter_at))]
 pub fn letter(line: &[u8], k: Class, at: usize) -> Field
     ensures { result ≡ letter_at k line.now at }
 {
     if line.len() <= at {
-        return Field::Not(at);
+        return Err(at);
     }
     let b = line[at];
     if in_class(k, b) {
         return word_to(line, at, wide(b), at + 1);
     }
-    Field::Not(at)
+    Err(at)
 }
 
 // The bar type that starts with the `E` at a place; the line may end within it. Asked for by `bar_type` alone, where an `E` stands.
+#[tactic(auto, unfolding(crate::specs::Field::type_at))]
 fn type_from(line: &[u8], at: usize) -> Field
     requires { get_or line.now at 0 ≡ 69 }
     ensures { result ≡ type_at line.now at }
 {
     if line.len() == at + 1 {
-        return Field::Not(line.len());
+        return Err(line.len());
     }
     if byte(line, at + 1) != b'3' {
-        return Field::Not(at);
+        return Err(at);
     }
     if line.len() == at + 2 {
-        return Field::Not(line.len());
+        return Err(line.len());
     }
     if byte(line, at + 2) != b'0' {
-        return Field::Not(at);
+        return Err(at);
     }
     word_to(line, at, 30, at + 3)
 }
 
 // A bar type: 1, 2, 3 or 30 for `1`, `2`, `3` or `E30`.
+#[tactic(auto, unfolding(crate::specs::Field::type_at))]
 pub fn bar_type(line: &[u8], at: usize) -> Field
     ensures { result ≡ type_at line.now at }
 {
@@ -137,11 +138,12 @@ pub fn bar_type(line: &[u8], at: usize) -> Field
         b'2' => word_to(line, at, 2, at + 1),
         b'3' => word_to(line, at, 3, at + 1),
         b'E' => type_from(line, at),
-        _ => Field::Not(at),
+        _ => Err(at),
     }
 }
 
 // What the data of a bar type is for.
+#[tactic(auto, unfolding(crate::specs::Field::kind_from))]
 pub fn kind_from(bar: usize) -> Kind
     ensures { result ≡ kind_from bar }
 {
@@ -197,26 +199,28 @@ fn word_from(line: &[u8], at: usize) -> Field
     ensures { result ≡ word_from line.now at }
 {
     if place_behind(line, at) {
-        return Field::Is(wide(byte(line, at + 2)), at + 3);
+        return Ok((wide(byte(line, at + 2)), at + 3));
     }
     if place_cut(line, at) {
-        return Field::Not(line.len());
+        return Err(line.len());
     }
     word_to(line, at, word::LINE, at + 1)
 }
 
 // What stands under bars; its value is the last letter of the word.
+#[tactic(auto, unfolding(crate::specs::Field::under_at))]
 pub fn under(line: &[u8], at: usize) -> Field
     ensures { result ≡ under_at line.now at }
 {
     match byte(line, at) {
         b'N' => word_to(line, at, word::NOTHING, at + 1),
         b'B' => word_from(line, at),
-        _ => Field::Not(at),
+        _ => Err(at),
     }
 }
 
 // What the word says of which v is the last letter.
+#[tactic(auto, unfolding(crate::specs::Field::under_from))]
 pub fn under_from(v: usize) -> Under
     ensures { result ≡ under_from v }
 {

@@ -2,7 +2,8 @@
 -- Dot (u, v) of a figure is u to the right of the upper left corner of its box and v below it.
 -- Assumes nothing.
 use Rattle.std.specs.Prelude.{ℕ, zero, suc, ◌+◌, ◌-◌, ◌*◌, ◌/◌, ◌%◌, Bool, ◌&&◌, List, get_or, leb, ltb}
-use Rattle.dots.specs.Dots.{box, bit_of}
+use Rattle.dots.specs.Dots.{box, bit_of, cut}
+use Rattle.figures.specs.declared.Spot.{Spot}
 
 -- ---- turns
 -- a figure in a box h dots high, turned once clockwise: dot (u, v) of the box goes to (h-1-v, u)
@@ -21,6 +22,10 @@ turned_by (suc r) w h x y figure = turned_by r h w x y (quarter h figure)
 -- "Quarter turns r are clockwise; the upper left corner of the turned box stands at x,y." Four of them are none
 abbrev pub placed : ℕ → ℕ → ℕ → ℕ → ℕ → (ℕ → ℕ → Bool) → ℕ → ℕ → Bool
 placed r w h x y figure = turned_by (r % 4) w h x y figure
+
+-- where a figure in the box of a spot is seen: "Drawing is cut at width and length."
+abbrev pub on_label : Spot → (ℕ → ℕ → Bool) → ℕ → ℕ → Bool
+on_label s figure = cut s.corner.size.width s.corner.size.length (placed s.corner.r s.wide s.high s.corner.x s.corner.y figure)
 
 -- ---- bitmaps
 -- dot u of the row of a bitmap that starts at byte `at`, highest bit first; past the end there is no dot

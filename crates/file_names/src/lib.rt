@@ -12,6 +12,7 @@ use sentences::put;
 use writing::put_decimal;
 
 // Zeros that make four digits of a number.
+#[tactic(auto, unfolding(crate::specs::Names::zeros_of))]
 fn put_zeros(n: usize, out: &mut [u8], at: usize) -> usize
     ensures { Wrote out.old at (zeros_of n) result out.new }
 {
@@ -50,10 +51,8 @@ pub fn folder_length(path: &[u8]) -> usize
     ensures { result ≡ last_slash 0 0 path.now }
 {
     let mut best: usize = 0;
-    let mut i: usize = 0;
-    while i < path.len() {
-        best = slash(path[i], i + 1, best);
-        i += 1;
+    for (i, b) in path.iter().enumerate() {
+        best = slash(*b, i + 1, best);
     }
     best
 }

@@ -83,10 +83,8 @@ pub fn sum(start: u32, bytes: &[u8]) -> u32
     ensures { result ≡ sum_on start bytes.now }
 {
     let mut s = start as u64 % PRIME;
-    let mut i: usize = 0;
-    while i < bytes.len() {
-        s = step(s, bytes[i]);
-        i += 1;
+    for b in bytes {
+        s = step(s, *b);
     }
     s as u32
 }

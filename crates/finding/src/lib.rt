@@ -2,71 +2,41 @@
 // kind"; and the form being recorded. Each search answers the lowest number that passes its test, or nothing, on any memory.
 #![tactic(auto)]
 
-ghost use Rattle.std.specs.Prelude.{◌≡◌, ℕ, ◌+◌, ◌≤◌, ◌<◌, length, get_or};
-ghost use Rattle.store.specs.Entry.{entries};
-ghost use Rattle.finding.specs.Find.{is_at, lowest_free, lowest_empty, recorded, titled_at};
+ghost use Rattle.std.specs.Prelude.{◌≡◌, ℕ, ◌+◌, ◌≤◌, ◌<◌, length, get_or, eqb};
+ghost use Rattle.store.specs.Entry.{entries, entry, kind as store_kind};
+ghost use Rattle.finding.specs.Find.{found, lowest_free, lowest_empty, recorded, titled_at};
 ghost use Rattle.finding.specs.Bytes.{two, four, eight, titled_by};
 
 use store::{BYTES_AN_ENTRY, FREE_LINK};
 
-#[derive(Clone, Copy)]
-pub enum Found {
-    At(usize),
-    Nothing,
-}
-
-pub fn is_at(found: Found) -> bool
-    ensures { result ≡ is_at found }
-{
-    match found {
-        Found::At(_) => true,
-        Found::Nothing => false,
-    }
-}
-
-pub fn lowest_free(links: &[u16]) -> Found
+pub fn lowest_free(links: &[u16]) -> Option<usize>
     ensures { result ≡ lowest_free links.now }
 {
-    let mut i = 0;
-    while i < links.len() {
-        if links[i] == FREE_LINK {
-            return Found::At(i);
-        }
-        i += 1;
-    }
-    Found::Nothing
+    links.iter().position(|link| *link == FREE_LINK)
 }
 
-pub fn lowest_empty(directory: &[u8]) -> Found
+// The lowest entry whose kind byte is this one.
+fn lowest_of(directory: &[u8], kind: usize) -> Option<usize>
+    ensures { result ≡ found (λ i. eqb (store_kind (entry directory.now i)) kind) (entries directory.now) }
+{
+    (0..directory.len() / BYTES_AN_ENTRY).find(|i| store::kind_at(directory, *i) == kind)
+}
+
+pub fn lowest_empty(directory: &[u8]) -> Option<usize>
     ensures { result ≡ lowest_empty directory.now }
 {
-    let n = directory.len() / BYTES_AN_ENTRY;
-    let mut i = 0;
-    while i < n {
-        if store::kind_at(directory, i) == 0 {
-            return Found::At(i);
-        }
-        i += 1;
-    }
-    Found::Nothing
+    lowest_of(directory, 0)
 }
 
 // The form being recorded.
-pub fn recording(directory: &[u8]) -> Found
+pub fn recording(directory: &[u8]) -> Option<usize>
     ensures { result ≡ recorded directory.now }
 {
-    let n = directory.len() / BYTES_AN_ENTRY;
-    let mut i = 0;
-    while i < n {
-        if store::kind_at(directory, i) == 3 {
-            return Found::At(i);
-        }
-        i += 1;
-    }
-    Found::Nothing
+    lowest_of(directory, 3)
 }
 
-// The number that bytes make, low byte first, so that a name is compared at once.
+// The number that bytes make, low byte first, so that a name is compared at once. Read from the slice where it lies: `u64::from_le_bytes` takes an array, which
+// would first be copied out, byte by byte again.
 fn two(s: &[u8], at: usize) -> u64
     requires { at + 2 ≤ length s.now }
     ensures { (result ≡ two s.now at) × (result < 65536) }
@@ -107,17 +77,9 @@ fn is_titled(directory: &[u8], picture: bool, w: u64, i: usize) -> bool
 }
 
 // The entry of a kind, picture or form, that bears a name of 8 zero-filled bytes.
-pub fn find(directory: &[u8], picture: bool, title: [u8; 8]) -> Found
+pub fn find(directory: &[u8], picture: bool, title: [u8; 8]) -> Option<usize>
     ensures { result ≡ titled_at directory.now picture title }
 {
     let w = number_of(title);
-    let n = directory.len() / BYTES_AN_ENTRY;
-    let mut i = 0;
-    while i < n {
-        if is_titled(directory, picture, w, i) {
-            return Found::At(i);
-        }
-        i += 1;
-    }
-    Found::Nothing
+    (0..directory.len() / BYTES_AN_ENTRY).find(|i| is_titled(directory, picture, w, *i))
 }

@@ -24,7 +24,7 @@ use Rattle.declarations.specs.declared.Declared.{Declared}
 use Rattle.declarations.specs.Declarations.{length_at, side_at, width_at}
 use Rattle.counters.specs.Counters.{digits}
 use Rattle.padding.specs.Padding.{legal, fits}
-use Rattle.pieces.specs.Data.{part_of, piece_from, piece_of, piece_at, Values, value_of, assembled}
+use Rattle.summary.specs.Data.{part_of, piece_from, piece_of, piece_at, Values, value_of, assembled}
 use Rattle.padding.proofs.Ranges.{in-range, range-low, range-high, all_join, all_first, all-second, all_none, all-wider, all_replicate, replicate-some}
 use Rattle.calendar.proofs.Clocks.{fresh-legal}
 use Rattle.stamps.proofs.Shown.{length-stamp, digit-in, stamp-in}

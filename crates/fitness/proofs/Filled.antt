@@ -24,7 +24,7 @@ use Rattle.stored_values.specs.Stored.{field_at, value_in, variable_in, field_se
 use Rattle.padding.specs.Padding.{fits}
 use Rattle.counters.specs.Counters.{counter_sound}
 use Rattle.values.specs.Sound.{values_sound, all_set}
-use Rattle.pieces.specs.Data.{assembled, values_in}
+use Rattle.summary.specs.Data.{assembled, values_in}
 use Rattle.counters.proofs.Tens.{ten-is}
 use Rattle.values.proofs.Sound.{sound-at, set-at}
 use Rattle.stored_values.proofs.Fields.{zero-at, field-sound-facts}

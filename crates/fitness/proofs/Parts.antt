@@ -9,7 +9,7 @@ use lib.ListN.{length, take, drop, replicate, length-take, length-drop, length-r
 use Rattle.kinds.specs.Bytes.{all_in}
 use Rattle.elements.specs.declared.Part.{Part}
 use Rattle.elements.specs.declared.Part.TheVariants.{Whole, First, Last, Middle}
-use Rattle.pieces.specs.Data.{part_of}
+use Rattle.summary.specs.Data.{part_of}
 use Rattle.summary.specs.Summary.{part_length}
 use Rattle.padding.proofs.Ranges.{all_take, all_drop}
 

@@ -1,7 +1,7 @@
 -- The paper's own data, judged.
 -- Assumes nothing.
 use Prim.Native.Char.{code}
-use Rattle.std.specs.Prelude.{ℕ, ◌≡◌, refl, Bool, true, false, [], ◌∷◌}
+use Rattle.std.specs.Prelude.{ℕ, ◌≡◌, refl, Bool, true, false, [], ◌∷◌, Result, Ok, Err}
 use Prim.Native.String.{String}
 use Rattle.kinds.specs.declared.Kind.{Kind}
 use Rattle.kinds.specs.declared.Kind.TheVariants.{Shown, Code39, Interleaved, Ean13, Code128}
@@ -20,8 +20,8 @@ use Rattle.declarations.specs.declared.Declared.{Declared}
 use Rattle.declarations.specs.Declarations.{nothing, outside_forms, with_variable, with_counter}
 use Rattle.reach.specs.Answers.{reaches_past, undeclared_by, past_by, data_answer}
 use Rattle.summary.specs.Summary.{part_length, judged}
-use Rattle.fitness.specs.declared.Judgement.{Judgement}
-use Rattle.fitness.specs.declared.Judgement.TheVariants.{Fit, Undeclared as NotDeclared, Past as Reaches, Unfit}
+use Rattle.fitness.specs.declared.NotFit.{NotFit}
+use Rattle.fitness.specs.declared.NotFit.TheVariants.{Undeclared as NotDeclared, Past as Reaches, Unfit}
 use Rattle.fitness.specs.Judged.{data_judged}
 
 -- V0 of length 5 and a justification; C0 of two digits
@@ -47,13 +47,13 @@ case-15 :
 unfolding judged_of judged in_class fit_length part_length declared with_counter with_variable nothing between run value_from number_at text_at byte_at modifier_at held_at element_at elements_from elements
 case-15 = refl
 
-judgement_of : String → Judgement
+judgement_of : String → Result Unit NotFit
 judgement_of text = data_judged (declared (code "L")) (bytes text) (elements (bytes text) 0) Code39
 
 -- in Code 39 a text variable is unfit, which counts only where 13 and 14 do not apply
 case-lowest :
     judgement_of "C0" ∷ judgement_of "V0" ∷ judgement_of "V0L6" ∷ judgement_of "V0L6V1" ∷ []
-    ≡ Fit ∷ Unfit ∷ Reaches 0 ∷ NotDeclared 4 ∷ []
+    ≡ Ok tt ∷ Err Unfit ∷ Err (Reaches 0) ∷ Err (NotDeclared 4) ∷ []
 unfolding judgement_of judged in_class fit_length part_length data_answer undeclared_by past_by reaches_past declared with_counter with_variable nothing between run value_from number_at text_at byte_at modifier_at held_at element_at elements_from elements
 case-lowest = refl
 

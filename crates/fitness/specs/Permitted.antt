@@ -8,7 +8,7 @@ use Rattle.declarations.specs.declared.Declared.{Declared}
 use Rattle.declarations.specs.Declarations.{length_at, side_at, width_at}
 use Rattle.calendar.specs.Clock.{legal_clock}
 use Rattle.padding.specs.Padding.{fits}
-use Rattle.pieces.specs.Data.{Values, assembled}
+use Rattle.summary.specs.Data.{Values, assembled}
 
 -- every variable holds a value that fits its declaration, every counter a number of its width, independently; one that is not declared
 -- has length or width 0. A variable has one value however often it is named. The clock is any date and time

@@ -9,57 +9,61 @@
 
 ghost use Rattle.std.specs.Prelude.{◌≡◌};
 ghost use Rattle.elements.specs.Elements.{elements};
-ghost use Rattle.fitness.specs.Judged.{with_fit, data_judged};
+ghost use Rattle.fitness.specs.Judged.{of_fault, with_fit, data_judged};
 
 use declarations::Declared;
-use elements::Step;
 use kinds::Kind;
-use reach::{DataAnswer, first_past, past_by, undeclared_by};
+use reach::{DataFault, first_past, past_by, undeclared_by};
 use summary::{Summary, summary_of};
 
-// Fit, whatever permitted values it is shown with; 13 and 14 as in `DataAnswer`; 15 some permitted values make it unfit.
+// Why data may not stand: 13 and 14 as in `DataFault`; 15 some permitted values make it unfit.
 #[derive(Clone, Copy)]
-pub enum Judgement {
-    Fit,
+pub enum NotFit {
     Undeclared(usize),
     Past(usize),
     Unfit,
 }
 
-fn with_fit(answer: DataAnswer, fit: bool) -> Judgement
-    ensures { result ≡ with_fit answer fit }
-{
-    match answer {
-        DataAnswer::Good => {
-            if fit {
-                Judgement::Fit
-            } else {
-                Judgement::Unfit
-            }
+impl From<DataFault> for NotFit {
+    ghost from_gives = { λ fault r. r ≡ of_fault fault };
+
+    fn from(fault: DataFault) -> NotFit {
+        match fault {
+            DataFault::Undeclared(p) => NotFit::Undeclared(p),
+            DataFault::Past(p) => NotFit::Past(p),
         }
-        DataAnswer::Undeclared(p) => Judgement::Undeclared(p),
-        DataAnswer::Past(p) => Judgement::Past(p),
     }
 }
 
+fn with_fit(answer: Result<(), DataFault>, fit: bool) -> Result<(), NotFit>
+    ensures { result ≡ with_fit answer fit }
+{
+    answer?;
+    if !fit {
+        return Err(NotFit::Unfit);
+    }
+    Ok(())
+}
+
 // The lowest of 13, 14 and 15 that applies to the data from a place of a line on, where it stands for a kind.
-pub fn judge(line: &[u8], at: usize, d: Declared, kind: Kind) -> Judgement
+pub fn judge(line: &[u8], at: usize, d: Declared, kind: Kind) -> Result<(), NotFit>
     ensures { result ≡ data_judged d line.now (elements line.now at) kind }
 {
-    let mut past = DataAnswer::Good;
+    let mut past = Ok(());
     let mut s = Summary {
         least: 0,
         most: 0,
         good: true,
     };
     let mut i = at;
+    // A while: where the next element begins is known once this one is read.
     while i < line.len() {
-        let Step::Next(e) = elements::element_at(line, i) else {
+        let Ok(e) = elements::element_at(line, i) else {
             return with_fit(past, s.decide(kind));
         };
         let what = e.what;
         if undeclared_by(d, what) {
-            return Judgement::Undeclared(e.at);
+            return Err(NotFit::Undeclared(e.at));
         }
         past = first_past(past, past_by(d, what), e.at);
         s = s.join(summary_of(line, d, kind, e));

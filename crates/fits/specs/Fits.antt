@@ -1,9 +1,9 @@
 -- Paper 02, §7, "Will it fit?": "the answer that GM, with a legal picture of that size, or FS would give if sent then". "It does not look for soundness: on any store
 -- it goes by entries of kind 0 and 3, names in use and links marked free. It changes nothing and ignores a form's size."
 -- Assumes nothing.
-use Rattle.std.specs.Prelude.{ℕ, Bool, not, ◌&&◌, ◌||◌, cond, List, ◌∷◌, length, eqb, ltb}
+use Rattle.std.specs.Prelude.{ℕ, Bool, not, ◌&&◌, ◌||◌, cond, List, ◌∷◌, length, eqb, ltb, is_some}
 use Rattle.store.specs.Chain.{free_count}
-use Rattle.finding.specs.Find.{is_at, recorded}
+use Rattle.finding.specs.Find.{recorded}
 use Rattle.answers.specs.declared.Answer.TheVariants.{Lengths, Limits, Owing, Misplaced, InUse}
 use Rattle.answers.specs.Answers.{Row, row}
 use Rattle.lent.specs.Lent.{links_wrong, directory_wrong}
@@ -40,8 +40,8 @@ new_size kind size = cond (is_picture kind) size 0
 -- from 9 on: [9] a form is being recorded, which is where FS and GM have no place; [10] "name in use (FS, GM)"; [19] and [23] for the links marked free
 abbrev pub place_rows : List ℕ → List ℕ → ℕ → List ℕ → ℕ → List Row
 place_rows links directory kind name size =
-    row Misplaced (is_at (recorded directory))
-    ∷ row InUse (is_at (user_of directory (is_picture kind) name))
+    row Misplaced (is_some (recorded directory))
+    ∷ row InUse (is_some (user_of directory (is_picture kind) name))
     ∷ full_rows (free_count links) directory (new_size kind size)
 
 -- "Refusals: 1, 7 (a wrong kind too), 8 to 10, 19 and 23 of §5, in that order", with so many labels owed. There is no line, so that [7] has no place to point to

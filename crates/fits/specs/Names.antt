@@ -1,13 +1,12 @@
 -- Names that may be asked for, and the entries that bear them.
 -- Assumes nothing.
-use Rattle.std.specs.Prelude.{ℕ, Bool, not, ◌&&◌, ◌||◌, List, length, get_or, eqb, ltb}
+use Rattle.std.specs.Prelude.{ℕ, Bool, not, ◌&&◌, ◌||◌, List, length, get_or, eqb, ltb, Option}
 use Rattle.kinds.specs.Bytes.{all_in}
 use Rattle.classes.specs.declared.Class.TheVariants.{Named}
 use Rattle.classes.specs.Bytes.{in_class}
 use Rattle.parts.specs.Names.{capital}
 use Rattle.cells.specs.Count.{all_to}
 use Rattle.store.specs.Entry.{entries, entry, kind, name_length, name as title_of, of_kind}
-use Rattle.finding.specs.declared.Found.{Found}
 use Rattle.finding.specs.Find.{found}
 
 -- "Names: 1 to 8 bytes, codes 32 to 126 without `*` and quote": what is asked for may be any bytes, and is none of these
@@ -24,5 +23,5 @@ unfoldable pub in_use : List ℕ → Bool → List ℕ → ℕ → Bool
 in_use directory picture name i = of_kind picture (kind (entry directory i)) && bears (entry directory i) name
 
 -- the entry of the kind that bears it
-abbrev pub user_of : List ℕ → Bool → List ℕ → Found
+abbrev pub user_of : List ℕ → Bool → List ℕ → Option ℕ
 user_of directory picture name = found (in_use directory picture name) (entries directory)

@@ -13,7 +13,6 @@ ghost use Rattle.fits.specs.Fits.{lent_wrong, size_wrong, limits_wrong, new_size
 mod names; // names that may be asked for, and the entries that bear them
 
 use answers::Answer;
-use finding::is_at;
 use full::full_answer;
 use ground::either;
 use lent::{directory_wrong, links_wrong};
@@ -64,10 +63,10 @@ fn new_size(kind: u8, size: u64) -> usize
 fn place_answer(links: &[u16], directory: &[u8], kind: u8, name: &[u8], size: u64) -> Answer
     ensures { result ≡ answer_of (place_rows links.now directory.now kind name.now size) }
 {
-    if is_at(finding::recording(directory)) {
+    if finding::recording(directory).is_some() {
         return Answer::Misplaced;
     }
-    if is_at(names::user(directory, kind == PICTURE, name)) {
+    if names::user(directory, kind == PICTURE, name).is_some() {
         return Answer::InUse;
     }
     full_answer(store::free_count(links), directory, new_size(kind, size))

@@ -5,7 +5,6 @@ ghost use Rattle.store.specs.Entry.{entry};
 ghost use Rattle.fits.specs.Names.{name_wrong, bears, in_use, user_of};
 
 use classes::{Class, run_end};
-use finding::Found;
 use ground::either;
 use parts::folded;
 use store::BYTES_AN_ENTRY;
@@ -39,12 +38,10 @@ fn is_bearing(directory: &[u8], i: usize, name: &[u8]) -> bool
         return false;
     }
     let title = store::name_at(directory, i);
-    let mut k = 0;
-    while k < name.len() {
-        if differs(ground::byte(&title, k), name[k]) {
+    for (k, asked) in name.iter().enumerate() {
+        if differs(ground::byte(&title, k), *asked) {
             return false;
         }
-        k += 1;
     }
     true
 }
@@ -61,16 +58,9 @@ fn is_user(directory: &[u8], picture: bool, name: &[u8], i: usize) -> bool
 }
 
 // The entry of a kind, picture or form, that bears the name.
-pub fn user(directory: &[u8], picture: bool, name: &[u8]) -> Found
+pub fn user(directory: &[u8], picture: bool, name: &[u8]) -> Option<usize>
     ensures { result ≡ user_of directory.now picture name.now }
 {
     let n = directory.len() / BYTES_AN_ENTRY;
-    let mut i = 0;
-    while i < n {
-        if is_user(directory, picture, name, i) {
-            return Found::At(i);
-        }
-        i += 1;
-    }
-    Found::Nothing
+    (0..n).find(|i| is_user(directory, picture, name, *i))
 }

@@ -20,19 +20,11 @@ one_less f n h e = let z : suc (n - 1) ≡ n = omega arith in e ∙ ap f z
 pub both_so : (a b r : Bool) → a ≡ true → r ≡ b → r ≡ (a && b)
 both_so a b r e f = f ∙ rw e
 
-pub both-not : (a b : Bool) → a ≡ false → false ≡ (a && b)
-both-not a b e = rw e
-
 -- a byte's low bits
 pub unit-is : (k : ℕ) → k < 8 → 1 * 2 ^ k % 18446744073709551616 ≡ 2 ^ k
 unit-is k h =
     let e : 2 ^ k ≤ 2 ^ 7 = pow-le-pow_right (omega arith) {i = k} {j = 7} (omega arith) in
     rw one-mul (mod-eq_of_lt (omega arith))
-
-pub unit-some : (k : ℕ) → k < 8 → 0 < 1 * 2 ^ k % 18446744073709551616
-unit-some k h =
-    let e : 2 ^ 0 ≤ 2 ^ k = pow-le-pow_right (omega arith) {i = 0} {j = k} (omega arith) in
-    rw (unit-is k h) (omega arith)
 
 -- two numbers of a byte, multiplied
 pub bytes_product : (a b : ℕ) → a < 256 → b < 256 → a * b ≤ 65025

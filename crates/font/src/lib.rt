@@ -8,7 +8,7 @@ ghost use Rattle.std.specs.Prelude.{◌≡◌, cond, ◌+◌, ◌-◌, ◌*◌, 
 ghost use Rattle.font.specs.Rules.{size_at, code_at, next_field, cell_width, cell_height, headed, row_bytes, spare_bits};
 ghost use Rattle.font.specs.Rules.{row_clean, rows_clean, is_glyph, sized, coded, glyph, ended, fields_from, legal, Places};
 
-use ground::{both, byte_at};
+use ground::{back, byte_at, front};
 
 fn size_at(font: &[u8], at: usize) -> usize
     requires { at < 2 ^ 32 }
@@ -49,15 +49,18 @@ pub fn row_bytes(font: &[u8]) -> usize
     (cell_width(font) + 7) / 8
 }
 
+#[tactic(auto, unfolding(crate::specs::Rules::headed))]
 fn headed_ok(font: &[u8]) -> bool
     ensures { result ≡ headed font.now }
 {
     let width = cell_width(font);
     let height = cell_height(font);
-    let first = both(byte_at(font, 0) == 1, size_at(font, 0) == 2);
-    let wide = both(1 <= width, width <= 32);
-    let high = both(1 <= height, height <= 64);
-    both(first, both(wide, high))
+    byte_at(font, 0) == 1
+        && size_at(font, 0) == 2
+        && 1 <= width
+        && width <= 32
+        && 1 <= height
+        && height <= 64
 }
 
 // The spare bits of a row's last byte, all set: worked out once for all rows, so that no row costs a division.
@@ -82,13 +85,11 @@ fn rows_clean(font: &[u8], at: usize) -> bool
     let bytes = row_bytes(font);
     let mask = spare_mask(font);
     let mut row = at;
-    let mut left = cell_height(font);
-    while 0 < left {
+    for _i in 0..cell_height(font) {
         if !row_clean(font, bytes, mask, row) {
             return false;
         }
         row += bytes;
-        left -= 1;
     }
     true
 }
@@ -111,38 +112,31 @@ fn coded_ok(font: &[u8], last: usize, at: usize) -> bool
     ensures { result ≡ coded font.now last at }
 {
     let code = code_at(font, at);
-    both(both(32 <= code, code <= 126), last < code)
+    32 <= code && code <= 126 && last < code
 }
 
+#[tactic(auto, unfolding(crate::specs::Rules::glyph))]
 fn glyph_ok(font: &[u8], last: usize, at: usize) -> bool
     requires { at < 2 ^ 30 }
     ensures { result ≡ glyph font.now last at }
 {
-    if both(
-        is_glyph(font, at),
-        both(sized_ok(font, at), coded_ok(font, last, at)),
-    ) {
-        rows_clean(font, at + 4)
-    } else {
-        false
-    }
+    is_glyph(font, at) && sized_ok(font, at) && coded_ok(font, last, at) && rows_clean(font, at + 4)
 }
 
 fn ended_ok(font: &[u8], at: usize) -> bool
     requires { at < 2 ^ 31 }
     ensures { result ≡ ended font.now at }
 {
-    both(size_at(font, at) == 0, at + 3 == font.len())
+    size_at(font, at) == 0 && at + 3 == font.len()
 }
 
 // Whether the fields after the first are glyphs and the last field.
 fn fields_ok(font: &[u8]) -> bool
     ensures { result ≡ fields_from font.now 96 31 5 }
 {
-    let mut left: usize = 96;
     let mut last: usize = 31;
     let mut at: usize = 5;
-    while 0 < left {
+    for _i in 0..96usize {
         if byte_at(font, at) == 255 {
             return ended_ok(font, at);
         }
@@ -151,19 +145,15 @@ fn fields_ok(font: &[u8]) -> bool
         }
         last = code_at(font, at);
         at = next_field(font, at);
-        left -= 1;
     }
     false
 }
 
+#[tactic(auto, unfolding(crate::specs::Rules::legal))]
 pub fn is_legal(font: &[u8]) -> bool
     ensures { result ≡ legal font.now }
 {
-    if headed_ok(font) {
-        fields_ok(font)
-    } else {
-        false
-    }
+    headed_ok(font) && fields_ok(font)
 }
 
 // Notes where the rows of a code stand. The first field that has the code counts.
@@ -181,15 +171,13 @@ fn find_places(font: &[u8], places: &mut [usize])
     requires { Places font.now places.old 95 5 }
     ensures { Places font.now places.new 0 0 }
 {
-    let mut left: usize = 95;
     let mut at: usize = 5;
-    while 0 < left {
+    for _i in 0..95usize {
         if !is_glyph(font, at) {
             return;
         }
         note(places, code_at(font, at), at + 4);
         at = next_field(font, at);
-        left -= 1;
     }
 }
 
@@ -200,20 +188,6 @@ pub fn places(font: &[u8]) -> [usize; 256]
     let mut found = [0usize; 256];
     find_places(font, &mut found);
     found
-}
-
-// At most n elements from a place on.
-fn part(s: &[u8], at: usize, n: usize) -> &[u8]
-    ensures { result.now ≡ take n (drop at s.now) }
-{
-    if s.len() <= at {
-        return &s[..0];
-    }
-    if s.len() - at <= n {
-        return &s[at..];
-    }
-    let end = at + n;
-    &s[at..end]
 }
 
 // A place that was found, and the end where none was.
@@ -227,9 +201,6 @@ fn found(at: usize, end: usize) -> usize
 pub fn rows_at(font: &[u8], at: usize) -> &[u8]
     ensures { result.now ≡ take (cell_height font.now * row_bytes font.now) (drop (cond (eqb at 0) (length font.now) at) font.now) }
 {
-    part(
-        font,
-        found(at, font.len()),
-        cell_height(font) * row_bytes(font),
-    )
+    let rows = cell_height(font) * row_bytes(font);
+    front(back(font, found(at, font.len())), rows)
 }

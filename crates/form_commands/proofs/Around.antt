@@ -5,8 +5,7 @@ use mathlib.Core.Bool.{Bool, true, false, cond}
 use mathlib.Core.List.{List, [], ◌∷◌}
 use Prim.Native.Nat.{ℕ}
 use lib.Dec.{eqb}
-use Rattle.finding.specs.declared.Found.{Found}
-use Rattle.finding.specs.declared.Found.TheVariants.{At, Nothing}
+use Rattle.std.specs.Prelude.{None, Option, Some}
 use Rattle.grammar.specs.declared.FormCommand.{FormCommand}
 use Rattle.grammar.specs.declared.FormCommand.TheVariants.{Start, Retrieve, Erase}
 use Rattle.session.specs.declared.Session.{Session}
@@ -22,7 +21,7 @@ use Rattle.form_commands.specs.Forms.{form_rows, form_runs, form_by}
 
 -- an erasure in a memory is that in the lists around it
 erase-in :
-    (a : Answer) (p q : Bool) (f : Found) (s : Session) (b st l d v o : List ℕ) →
+    (a : Answer) (p q : Bool) (f : Option ℕ) (s : Session) (b st l d v o : List ℕ) →
     on_forms b o
     (ran_by a s (world [] st l d v) []
     (cond p (inactive (erased_every s (world [] st l d v) false))
@@ -31,10 +30,10 @@ erase-in :
     (cond p (inactive (erased_every s (world b st l d v) false))
     (cond q (inactive (erased_named s (world b st l d v) f)) (erased_named s (world b st l d v) f))) []
 erase-in a true q f s b st l d v o = ran-in (on_forms b o) a s (world [] st l d v) (inactive (erased_every s (world [] st l d v) false))
-erase-in a false true (At i) s b st l d v o = ran-in (on_forms b o) a s (world [] st l d v) (inactive (erased_named s (world [] st l d v) (At i)))
-erase-in a false true Nothing s b st l d v o = ran-in (on_forms b o) a s (world [] st l d v) (inactive (state s (world [] st l d v)))
-erase-in a false false (At i) s b st l d v o = ran-in (on_forms b o) a s (world [] st l d v) (erased_named s (world [] st l d v) (At i))
-erase-in a false false Nothing s b st l d v o = ran-in (on_forms b o) a s (world [] st l d v) (state s (world [] st l d v))
+erase-in a false true (Some i) s b st l d v o = ran-in (on_forms b o) a s (world [] st l d v) (inactive (erased_named s (world [] st l d v) (Some i)))
+erase-in a false true None s b st l d v o = ran-in (on_forms b o) a s (world [] st l d v) (inactive (state s (world [] st l d v)))
+erase-in a false false (Some i) s b st l d v o = ran-in (on_forms b o) a s (world [] st l d v) (erased_named s (world [] st l d v) (Some i))
+erase-in a false false None s b st l d v o = ran-in (on_forms b o) a s (world [] st l d v) (state s (world [] st l d v))
 
 pub form-around :
     (c : FormCommand) (s : Session) (line b st l d v o : List ℕ) →

@@ -7,10 +7,9 @@ use Prim.Native.Nat.{ℕ}
 use lib.Dec.{eqb}
 use borrow.Author.Tests.{eq-eqb, ne_eqb}
 use Rattle.stored_values.specs.Stored.{unset}
-use Rattle.finding.specs.declared.Found.{Found}
+use Rattle.std.specs.Prelude.{Option, is_some}
 use Rattle.grammar.specs.declared.Named.{Named}
 use Rattle.grammar.specs.declared.FormCommand.TheVariants.{Erase}
-use Rattle.finding.specs.Find.{is_at}
 use Rattle.session.specs.declared.Session.{Session}
 use Rattle.session.specs.Session.{activated}
 use Rattle.answers.specs.declared.Answer.TheVariants.{Taken, Missing}
@@ -24,12 +23,12 @@ use Rattle.results.proofs.Erasing.{erased-by, every-erased-by, erase-taken, eras
 use Rattle.form_commands.specs.Forms.{erased_form, form_runs, form_by}
 
 pub none-erased :
-    (s : Session) (line : List ℕ) (n : Named) (w : World) (found : Found) (missing : Bool) (r : Done) → found ≡ named w false line n →
-    missing ≡ (not n.all && not (is_at found)) → missing ≡ true → r ≡ done Missing s 0 → ran r w [] ≡ form_by w s line (Erase n)
+    (s : Session) (line : List ℕ) (n : Named) (w : World) (found : Option ℕ) (missing : Bool) (r : Done) → found ≡ named w false line n →
+    missing ≡ (not n.all && not (is_some found)) → missing ≡ true → r ≡ done Missing s 0 → ran r w [] ≡ form_by w s line (Erase n)
 none-erased s line n w found missing r = erase-refused s w false line n found missing (form_runs w s line (Erase n)) r
 
-module _ (s after : Session) (line : List ℕ) (n : Named) (st l d v st' l' d' : List ℕ) (found : Found) (missing : Bool)
-    (looked : found ≡ named (world [] st l d v) false line n) (asked : missing ≡ (not n.all && not (is_at found))) (there : missing ≡ false) where
+module _ (s after : Session) (line : List ℕ) (n : Named) (st l d v st' l' d' : List ℕ) (found : Option ℕ) (missing : Bool)
+    (looked : found ≡ named (world [] st l d v) false line n) (asked : missing ≡ (not n.all && not (is_some found))) (there : missing ≡ false) where
   abbrev w : World
   w = world [] st l d v
 

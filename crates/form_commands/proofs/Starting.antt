@@ -5,8 +5,8 @@ use mathlib.Core.Bool.{Bool, true, false, not}
 use mathlib.Core.List.{List, []}
 use Prim.Native.Nat.{ℕ}
 use Rattle.free_number.specs.After.{after_stored}
-use Rattle.finding.specs.declared.Found.{Found}
-use Rattle.finding.specs.Find.{is_at, titled_at}
+use Rattle.std.specs.Prelude.{Option, is_some}
+use Rattle.finding.specs.Find.{titled_at}
 use Rattle.grammar.specs.declared.Named.{Named}
 use Rattle.grammar.specs.declared.FormCommand.TheVariants.{Start}
 use Rattle.starting.specs.Start.{begun}
@@ -25,14 +25,14 @@ use Rattle.results.specs.Named.{named}
 use Rattle.results.proofs.Parts.{in_memory, in_state, refused-by, taken-by}
 use Rattle.form_commands.specs.Forms.{form_rows, form_runs, form_by}
 
-module _ (s : Session) (line : List ℕ) (n : Named) (w : World) (title : List ℕ) (found : Found) (used : Bool)
-    (titled : title ≡ packed_of line n.at n.length) (looked : found ≡ titled_at w.directory false title) (asked : used ≡ is_at found) where
+module _ (s : Session) (line : List ℕ) (n : Named) (w : World) (title : List ℕ) (found : Option ℕ) (used : Bool)
+    (titled : title ≡ packed_of line n.at n.length) (looked : found ≡ titled_at w.directory false title) (asked : used ≡ is_some found) where
   by_rows :
       (a : Answer) (x : Ran) → x ≡ ran_by a s w [] (form_runs w s line (Start n)) [] → answer_of (form_rows w s line (Start n)) ≡ a → x ≡ form_by w s line (Start n)
   by_rows a x e f = e ∙ ap (λ (k : Answer). ran_by k s w [] (form_runs w s line (Start n)) []) (sym f)
 
-  as-asked : is_at (named w false line n) ≡ used
-  as-asked = ap (λ (t : List ℕ). is_at (titled_at w.directory false t)) (sym titled) ∙ ap is_at (sym looked) ∙ sym asked
+  as-asked : is_some (named w false line n) ≡ used
+  as-asked = ap (λ (t : List ℕ). is_some (titled_at w.directory false t)) (sym titled) ∙ ap is_some (sym looked) ∙ sym asked
 
   pub start-in-use : (r : Done) → used ≡ true → r ≡ done InUse s 0 → ran r w [] ≡ form_by w s line (Start n)
   unfolding is_taken number_of

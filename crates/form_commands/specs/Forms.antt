@@ -1,13 +1,11 @@
 -- FS, FR, FK: their rows of the table, and what they do.
 -- Assumes nothing.
-use Rattle.std.specs.Prelude.{ℕ, false, cond, List, [], ◌∷◌, eqb}
-use Rattle.finding.specs.declared.Found.{Found}
+use Rattle.std.specs.Prelude.{ℕ, false, cond, List, [], ◌∷◌, eqb, Option, is_some}
 use Rattle.starting.specs.Start.{begun}
 use Rattle.free_number.specs.After.{after_stored}
 use Rattle.grammar.specs.declared.FormCommand.{FormCommand}
 use Rattle.grammar.specs.declared.FormCommand.TheVariants.{Start, Retrieve, Erase}
 use Rattle.parts.specs.Names.{packed_of}
-use Rattle.finding.specs.Find.{is_at}
 use Rattle.session.specs.declared.Session.{Session}
 use Rattle.answers.specs.declared.Answer.TheVariants.{InUse, Missing}
 use Rattle.answers.specs.Answers.{Row, row, answer_of}
@@ -20,12 +18,12 @@ use Rattle.results.specs.Named.{place_of, named, not_found, erased_named, erased
 
 -- [10] "name in use (FS, GM)", then [19] and [23], whether there is room for a form of no bytes; [11] "name not found (FR, FK ..)"
 abbrev pub form_rows : World → Session → List ℕ → FormCommand → List Row
-form_rows w s line (Start n) = row InUse (is_at (named w false line n)) ∷ full_rows s.free w.directory 0
+form_rows w s line (Start n) = row InUse (is_some (named w false line n)) ∷ full_rows s.free w.directory 0
 form_rows w s line (Retrieve n) = row Missing (not_found w false line n) ∷ []
 form_rows w s line (Erase n) = row Missing (not_found w false line n) ∷ []
 
 -- a form that is erased is no longer active
-abbrev pub erased_form : Session → World → Found → State
+abbrev pub erased_form : Session → World → Option ℕ → State
 erased_form s w found = cond (eqb s.active (place_of found)) (inactive (erased_named s w found)) (erased_named s w found)
 
 -- "FR unsets all values"; `FK"*"` "erases all, none included"

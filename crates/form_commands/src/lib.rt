@@ -11,7 +11,6 @@ ghost use Rattle.results.specs.Result.{ran};
 ghost use Rattle.form_commands.specs.Forms.{form_by};
 
 use answers::{Answer, is_taken};
-use finding::is_at;
 use free_number::after_stored;
 use full::full_answer;
 use grammar::{FormCommand, Named};
@@ -32,7 +31,7 @@ fn start_form(
     let at = n.at;
     let length = n.length;
     let title = packed(line, at, length);
-    if is_at(finding::find(directory, false, title)) {
+    if finding::find(directory, false, title).is_some() {
         return answered(Answer::InUse, session);
     }
     let free = session.free as usize;

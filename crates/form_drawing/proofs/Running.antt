@@ -1,5 +1,6 @@
 -- A form drawn line after line.
 -- Assumes nothing.
+use Rattle.std.proofs.Common.{Option, Some, None}
 use mathlib.Core.Path.{◌≡◌, refl, ap, ◌∙◌}
 use mathlib.Core.List.{List, [], ◌∷◌, ◌++◌}
 use Prim.Native.Nat.{ℕ, zero, suc, ◌≤◌}
@@ -7,12 +8,10 @@ use native.Mathlib.Omega.{arith}
 use Rattle.grammar.specs.declared.Item.{Item}
 use Rattle.contents.specs.Content.{bytes_from}
 use Rattle.content_lines.specs.Lines.{lines_of}
-use Rattle.kept_line.specs.declared.Stored.{Stored}
-use Rattle.kept_line.specs.declared.Stored.TheVariants.{Holds, Nothing}
 use Rattle.kept_line.specs.Held.{item_in}
 use Rattle.form_lines.specs.Walk.{line_in, behind}
 use Rattle.form_lines.proofs.Folding.{fold_step}
-use Rattle.recording.specs.Judged.{declares}
+use Rattle.carried.specs.Judged.{declares}
 use Rattle.carried.specs.declared.Carried.{Carried}
 use Rattle.carried.specs.Carried.{carries}
 use Rattle.item_drawing.specs.Draw.{Setting, draws_item}
@@ -30,7 +29,7 @@ pub form_drawn-empty : (g : Setting) (x y : ℕ) (page : List ℕ) → form_draw
 unfolding form_drawn lines_of draws_lines
 form_drawn-empty g x y page = refl
 
-draws-none : (l : List ℕ) → item_in l ≡ Nothing → (g : Setting) (w : Drawing) → draws_line g w l ≡ w
+draws-none : (l : List ℕ) → item_in l ≡ None → (g : Setting) (w : Drawing) → draws_line g w l ≡ w
 unfolding draws_line
 draws-none l e g w = rw e
 
@@ -40,10 +39,10 @@ draws-step g w a = fold_step (draws_lines g) (draws_line g) (λ s l ls. refl) (�
 
 -- ---- a line more, and from start to end
 
-as-stored : (g : Setting) (w : Drawing) (l : List ℕ) (s : Stored) → draws_stored g w l (Holds (item_or w.carried.origin s)) ≡ draws_stored g w l s
+as-stored : (g : Setting) (w : Drawing) (l : List ℕ) (s : Option Item) → draws_stored g w l (Some (item_or w.carried.origin s)) ≡ draws_stored g w l s
 unfolding draws_item declares
-as-stored g w l (Holds it) = refl
-as-stored g w l Nothing = refl
+as-stored g w l (Some it) = refl
+as-stored g w l None = refl
 
 module _ (g : Setting) (p at left p' at' left' : ℕ) (line page page' : List ℕ) (c c' : Carried) (it : Item) where
   abbrev b : List ℕ
@@ -53,7 +52,7 @@ module _ (g : Setting) (p at left p' at' left' : ℕ) (line page page' : List �
       → drawing c' page' ≡ draws_line g (drawing c page) line
   unfolding draws_line
   line-drawn ei ep ec =
-      (λ i. drawing (ec i) (ep i)) ∙ ap (λ (k : Item). draws_stored g (drawing c page) line (Holds k)) ei ∙ as-stored g (drawing c page) line (item_in line)
+      (λ i. drawing (ec i) (ep i)) ∙ ap (λ (k : Item). draws_stored g (drawing c page) line (Some k)) ei ∙ as-stored g (drawing c page) line (item_in line)
 
   pub run-next : line ≡ line_in b → bytes_from g.store g.links p' at' left' ≡ behind b
       → it ≡ item_or c.origin (item_in line) → page' ≡ draws_item g c.declared c.origin.x c.origin.y line it page → c' ≡ carries c it

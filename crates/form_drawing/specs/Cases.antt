@@ -11,14 +11,14 @@ use Rattle.formats.specs.Formats.{format, formats_of, examples, unit, new_unit, 
 use Rattle.format_field.specs.Reading.{letter, unit_of, date_field, time_field, cut_at, field_at as spot_at, further_at, format_at, format_field}
 use Rattle.heads.specs.Heads.{find, head_by, head_of}
 use Rattle.reader.specs.Letters.{field_at}
-use Rattle.row_fields.specs.Reading.{fields_from}
+use Rattle.kept_line.specs.Reading.{fields_from}
 use Rattle.grammar.specs.Forms.{spread, in_order}
-use Rattle.row_limits.specs.Limits.{meets, field_limits, limits_from}
+use Rattle.kept_line.specs.Limits.{meets, field_limits, limits_from}
 use Rattle.read.specs.Commands.{judged, headed, read_of}
 use Rattle.writing.specs.Writing.{digits, cased, equal}
-use Rattle.normal.specs.Written.{written_field, written_from, written_of, head_written, is_normal}
+use Rattle.kept_line.specs.Written.{written_field, written_from, written_of, head_written, is_normal}
 use Rattle.declarations.specs.Declarations.{nothing, outside_forms, with_variable, formatted}
-use Rattle.recording.specs.Judged.{declares}
+use Rattle.carried.specs.Judged.{declares}
 use Rattle.kept_line.specs.Held.{item_in}
 use Rattle.carried.specs.Carried.{place, carried, starts}
 use Rattle.item_drawing.specs.Draw.{Setting, draws_item}

@@ -1,9 +1,8 @@
 -- What a form draws on a label.
 -- Assumes nothing.
-use Rattle.std.specs.Prelude.{ℕ, List, [], ◌∷◌}
+use Rattle.std.specs.Prelude.{ℕ, List, [], ◌∷◌, Option, Some, None}
+use Rattle.grammar.specs.declared.Item.{Item}
 use Rattle.content_lines.specs.Lines.{lines_of}
-use Rattle.kept_line.specs.declared.Stored.{Stored}
-use Rattle.kept_line.specs.declared.Stored.TheVariants.{Holds, Nothing}
 use Rattle.kept_line.specs.Held.{item_in}
 use Rattle.carried.specs.declared.Carried.{Carried}
 use Rattle.carried.specs.Carried.{starts, carries}
@@ -19,10 +18,10 @@ abbrev pub drawing : Carried → List ℕ → Drawing
 drawing c p = record { carried = c; page = p }
 
 -- a line draws its item, and leaves what is declared and the origin to the next; one that holds nothing leaves all as it was
-abbrev pub draws_stored : Setting → Drawing → List ℕ → Stored → Drawing
-draws_stored g w line (Holds it) =
+abbrev pub draws_stored : Setting → Drawing → List ℕ → Option Item → Drawing
+draws_stored g w line (Some it) =
     drawing (carries w.carried it) (draws_item g w.carried.declared w.carried.origin.x w.carried.origin.y line it w.page)
-draws_stored g w line Nothing = w
+draws_stored g w line None = w
 
 unfoldable pub draws_line : Setting → Drawing → List ℕ → Drawing
 draws_line g w line = draws_stored g w line (item_in line)

@@ -13,15 +13,15 @@ ghost use Rattle.item_drawing.specs.Draw.{setting};
 ghost use Rattle.form_drawing.specs.Draw.{form_drawn};
 ghost use Rattle.form_drawing.specs.Label.{item_or, run_drawn};
 
-use calendar::Clock;
 use carried::{Carried, carry};
 use contents::Cursor;
-use counters::Counters;
 use form_lines::next_line;
-use grammar::{Item, Origin};
+use grammar::Item;
+pub use grammar::Origin;
 use ground::front;
 use item_drawing::draw_item;
-use kept_line::{Stored, stored_item};
+pub use item_drawing::{Setting, Size};
+use kept_line::stored_item;
 
 // Where a label under way stands: a reader, and what the lines so far leave.
 #[derive(Clone, Copy)]
@@ -34,74 +34,35 @@ pub struct Run {
 fn line_item(line: &[u8], origin: Origin) -> Item
     ensures { result ≡ item_or origin (item_in line.now) }
 {
-    let stored = stored_item(line);
-    match stored {
-        Stored::Holds(item) => item,
-        Stored::Nothing => Item::Origin(origin),
-    }
+    stored_item(line).unwrap_or(Item::Origin(origin))
 }
 
-fn draw_next(
-    page: &mut [u8],
-    font: &[u8],
-    store: &[u8],
-    links: &[u16],
-    directory: &[u8],
-    values: &[u8],
-    counters: Counters,
-    clock: Clock,
-    width: usize,
-    length: usize,
-    w: Run,
-) -> Run
+fn draw_next(page: &mut [u8], s: Setting, w: Run) -> Run
     requires { 0 < w.place.left }
-    ensures { (run_drawn (setting font.now store.now links.now directory.now values.now counters clock width length) result page.new ≡ run_drawn (setting font.now store.now links.now directory.now values.now counters clock width length) w page.old) × (result.place.left < w.place.left) }
+    ensures { (run_drawn (setting s.entry.font.now s.entry.store.now s.entry.links.now s.entry.directory.now s.entry.values.now s.entry.counters s.entry.clock s.entry.size.width s.entry.size.length) result page.new ≡ run_drawn (setting s.entry.font.now s.entry.store.now s.entry.links.now s.entry.directory.now s.entry.values.now s.entry.counters s.entry.clock s.entry.size.width s.entry.size.length) w page.old) × (result.place.left < w.place.left) }
 {
     let mut buffer = [0u8; 256];
     let c = w.carried;
-    let place = w.place;
-    let d = c.declared;
-    let origin = c.origin;
-    let next = next_line(store, links, place, &mut buffer);
+    let next = next_line(s.store, s.links, w.place, &mut buffer);
     let line = front(&buffer, next.n);
-    let item = line_item(line, origin);
-    draw_item(
-        page, font, store, links, directory, values, counters, clock, width, length, d, origin.x,
-        origin.y, line, item,
-    );
-    let after = next.place;
-    let left = carry(c, item);
+    let item = line_item(line, c.origin);
+    draw_item(page, s, c.declared, c.origin, line, item);
     Run {
-        place: after,
-        carried: left,
+        place: next.place,
+        carried: carry(c, item),
     }
 }
 
-// Draws the form ahead of a reader from the origin x, y, cut at width and length.
-pub fn draw_form(
-    page: &mut [u8],
-    font: &[u8],
-    store: &[u8],
-    links: &[u16],
-    directory: &[u8],
-    values: &[u8],
-    counters: Counters,
-    clock: Clock,
-    width: usize,
-    length: usize,
-    x: usize,
-    y: usize,
-    place: Cursor,
-)
-    ensures { page.new ≡ form_drawn (setting font.now store.now links.now directory.now values.now counters clock width length) x y (ahead store.now links.now place) page.old }
+// Draws the form ahead of a reader from an origin, cut at width and length.
+pub fn draw_form(page: &mut [u8], s: Setting, origin: Origin, place: Cursor)
+    ensures { page.new ≡ form_drawn (setting s.entry.font.now s.entry.store.now s.entry.links.now s.entry.directory.now s.entry.values.now s.entry.counters s.entry.clock s.entry.size.width s.entry.size.length) origin.x origin.y (ahead s.entry.store.now s.entry.links.now place) page.old }
 {
     let mut w = Run {
         place,
-        carried: carried::start(x, y),
+        carried: carried::start(origin.x, origin.y),
     };
+    // A while: the reader goes along a chain of links, and there is no list to go over.
     while 0 < w.place.left {
-        w = draw_next(
-            page, font, store, links, directory, values, counters, clock, width, length, w,
-        );
+        w = draw_next(page, s, w);
     }
 }

@@ -1,5 +1,6 @@
 -- The lines of a form, one after another: a fold over all lines of some bytes is a step with the first, and the fold over what stands behind it.
 -- Assumes nothing.
+use Rattle.std.proofs.Common.{None}
 use mathlib.Core.Path.{◌≡◌, refl, sym, ap, ◌∙◌}
 use mathlib.Core.Bool.{Bool, true, false, cond, and-false}
 use mathlib.Core.List.{List, [], ◌∷◌}
@@ -13,7 +14,6 @@ use borrow.Author.Tests.{eq-eqb, ne_eqb, lt-ltb, le-ltb, le-leb, lt-leb}
 use Rattle.cells.proofs.Counts.{drop-none}
 use Rattle.content_lines.specs.Lines.{lines, onto, lines_of, line_of}
 use Rattle.ground.proofs.Tests.{same?}
-use Rattle.kept_line.specs.declared.Stored.TheVariants.{Nothing}
 use Rattle.kept_line.specs.Held.{item_in}
 use Rattle.kept_line.proofs.Standing.{item-empty, item-long}
 use Rattle.form_lines.specs.Walk.{line_in, behind}
@@ -74,7 +74,7 @@ module _ (a : List ℕ) where
 
 module _ {S R : Type 0} (f : S → List (List ℕ) → R) (step : S → List ℕ → S)
     (more : (s : S) (l : List ℕ) (ls : List (List ℕ)) → f s (l ∷ ls) ≡ f (step s l) ls)
-    (idle : (s : S) (l : List ℕ) → item_in l ≡ Nothing → step s l ≡ s) (s : S) (a : List ℕ) where
+    (idle : (s : S) (l : List ℕ) → item_in l ≡ None → step s l ≡ s) (s : S) (a : List ℕ) where
   pub fold_step : f (step s (line_in a)) (lines_of (behind a)).whole ≡ f s (lines_of a).whole
   unfolding lines_of
   fold_step = go (dec_le (length a) (length (line_of a))) (dec_le (length (line_of a)) 255)

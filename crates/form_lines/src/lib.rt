@@ -5,7 +5,7 @@
 // `kept_line`, which items recording takes in crate `recording`, what a whole form says in crate `forms`.
 #![tactic(auto)]
 
-ghost use Rattle.std.specs.Prelude.{◌≡◌, cond, suc, ◌≤◌, length};
+ghost use Rattle.std.specs.Prelude.{◌≡◌, length};
 ghost use Rattle.contents.specs.Content.{ahead, onward as onward_of};
 ghost use Rattle.content_lines.specs.Lines.{lined};
 ghost use Rattle.form_lines.specs.Walk.{line_in, behind};
@@ -36,44 +36,20 @@ fn onward(links: &[u16], place: Cursor) -> Cursor
     }
 }
 
-// A reader that looks for the end of a line, and whether it still looks.
-#[derive(Clone, Copy)]
-struct Search {
-    place: Cursor,
-    going: bool,
-}
-
-fn search_on(store: &[u8], links: &[u16], place: Cursor) -> Search
-    ensures { (cond result.going (behind (ahead store.now links.now result.place)) (ahead store.now links.now result.place) ≡ behind (ahead store.now links.now place)) × (cond result.going (suc result.place.left) 0 ≤ place.left) }
-{
-    let mut buffer = [0u8; 256];
-    let next = content_lines::line_into(store, links, place, &mut buffer);
-    match next {
-        Next::Line(_, after) => Search {
-            place: after,
-            going: false,
-        },
-        Next::End => Search {
-            place,
-            going: false,
-        },
-        Next::Bad => Search {
-            place: onward(links, place),
-            going: true,
-        },
-    }
-}
-
 // A reader behind the first LF ahead, or at the end.
 fn skip(store: &[u8], links: &[u16], place: Cursor) -> Cursor
     ensures { ahead store.now links.now result ≡ behind (ahead store.now links.now place) }
 {
-    let mut s = Search { place, going: true };
-    while s.going {
-        let c = s.place;
-        s = search_on(store, links, c);
+    let mut buffer = [0u8; 256];
+    let mut ahead = place;
+    // A loop: the reader goes along a chain of links, and there is no list to go over.
+    'search: loop {
+        match content_lines::line_into(store, links, ahead, &mut buffer) {
+            Next::Line(_, after) => return after,
+            Next::End => return ahead,
+            Next::Bad => ahead = onward(links, ahead),
+        }
     }
-    s.place
 }
 
 // How long the next line is, and a reader behind it.

@@ -1,4 +1,5 @@
 -- A field can be written after any others, and a field of which the first byte stands there can be finished.
+use Rattle.std.specs.Prelude.{Result, Ok}
 use mathlib.Core.Path.{◌≡◌, refl, sym, ◌∙◌}
 use mathlib.Core.Bool.{Bool, true, false, cond, true≢false}
 use mathlib.Core.List.{List, [], ◌∷◌, ◌++◌}
@@ -11,13 +12,11 @@ use lib.ListN.{length, get_or, length-append, get_or-append}
 use lib.Seq.{get_or-append_seam}
 use lib.Dec.{eqb}
 use borrow.Author.Tests.{ne_eqb}
-use Rattle.kinds.specs.Bytes.{between}
+use Rattle.formats.specs.Bytes.{between}
 use Rattle.formats.specs.declared.Stamp.{Stamp}
 use Rattle.formats.specs.declared.Stamp.TheVariants.{Date, Time}
 use Rattle.formats.specs.Formats.{unit, new_unit}
 use Rattle.formats.proofs.Legality.{no-new}
-use Rattle.format_field.specs.declared.Spot.{Spot}
-use Rattle.format_field.specs.declared.Spot.TheVariants.{Letters}
 use Rattle.format_field.specs.Reading.{letter, unit_of, date_field, time_field, field_at}
 use Rattle.format_field.proofs.Steps.{field-whole}
 use Rattle.format_field.proofs.Moved.{field-on}
@@ -48,19 +47,19 @@ spare u v = go (ℕ_discrete 1 u) (ℕ_discrete 1 v) (ℕ_discrete 2 u) (ℕ_dis
 
 -- ---- what makes a field whole
 
-pub record SpotRest (R : List ℕ → Spot) (s : List ℕ) : Type 0 where
+pub record SpotRest (R : List ℕ → Result (ℕ × ℕ) ℕ) (s : List ℕ) : Type 0 where
   pub tail : List ℕ
   pub field : ℕ
-  pub whole : R (s ++ tail) ≡ Letters field (length (s ++ tail))
+  pub whole : R (s ++ tail) ≡ Ok (field, length (s ++ tail))
 
 module _ (s : List ℕ) (u v : ℕ) where
-  behind : (st : Stamp) (l : List ℕ) (x : ℕ) → field_at st l u v 0 ≡ Letters x (length l) → SpotRest (λ t. field_at st t u v (length s)) s
+  behind : (st : Stamp) (l : List ℕ) (x : ℕ) → field_at st l u v 0 ≡ Ok (x, length l) → SpotRest (λ t. field_at st t u v (length s)) s
   behind st l x h = record {
     tail = l;
     field = x;
     whole =
         let e : length s + 0 ≡ length s = add-zero (length s) in
-        let r : field_at st (s ++ l) u v (length s + 0) ≡ Letters x (length s + length l) = field-on st s l u v 0 ∙ rw h in
+        let r : field_at st (s ++ l) u v (length s + 0) ≡ Ok (x, length s + length l) = field-on st s l u v 0 ∙ rw h in
         rw (length-append s l) (rw e at r);
   }
 

@@ -1,4 +1,5 @@
 -- One field of a format, at a place of a line and in the line with more: where it ends or goes wrong, and what stays.
+use Rattle.std.specs.Prelude.{Result, Ok, Err}
 use mathlib.Core.Path.{◌≡◌, refl, sym, ap, ◌∙◌}
 use mathlib.Core.Bool.{Bool, true, false, cond}
 use mathlib.Core.List.{List, [], ◌++◌, append-nil}
@@ -9,29 +10,28 @@ use lib.ListN.{length, get_or, length-append, get_or-append}
 use Rattle.formats.specs.declared.Stamp.{Stamp}
 use Rattle.formats.specs.declared.Stamp.TheVariants.{Date, Time}
 use Rattle.formats.specs.Formats.{unit, new_unit, separator}
-use Rattle.format_field.specs.declared.Spot.{Spot}
-use Rattle.format_field.specs.declared.Spot.TheVariants.{Letters, Fault}
 use Rattle.format_field.specs.Reading.{unit_of, width, field_of, cut_at, spot_of, field_at, further_at}
+use Rattle.fields.proofs.Pairs.{ok_second}
 use Rattle.format_field.proofs.Steps.{width-range, field_cut, field-whole}
 use Rattle.format_field.proofs.Spare.{SpotRest, field-fills, date-unlike, date-finished}
 
 -- what is asked of the reading of a field: letters end within the line and stay; a fault lies within it, and before its end it stays; at its end it can be mended
-pub record Spots (R : List ℕ → Spot) (s : List ℕ) (at : ℕ) : Type 0 where
-  pub letters : (x e : ℕ) → R s ≡ Letters x e → (at < e) × (e ≤ length s)
-  pub stays : (m : List ℕ) (x e : ℕ) → R s ≡ Letters x e → R (s ++ m) ≡ Letters x e
-  pub fault : (p : ℕ) → R s ≡ Fault p → (at ≤ p) × (p ≤ length s)
-  pub firm : (m : List ℕ) (p : ℕ) → R s ≡ Fault p → p < length s → R (s ++ m) ≡ Fault p
-  pub rest : R s ≡ Fault (length s) → SpotRest R s
+pub record Spots (R : List ℕ → Result (ℕ × ℕ) ℕ) (s : List ℕ) (at : ℕ) : Type 0 where
+  pub letters : (x e : ℕ) → R s ≡ Ok (x, e) → (at < e) × (e ≤ length s)
+  pub stays : (m : List ℕ) (x e : ℕ) → R s ≡ Ok (x, e) → R (s ++ m) ≡ Ok (x, e)
+  pub fault : (p : ℕ) → R s ≡ Err p → (at ≤ p) × (p ≤ length s)
+  pub firm : (m : List ℕ) (p : ℕ) → R s ≡ Err p → p < length s → R (s ++ m) ≡ Err p
+  pub rest : R s ≡ Err (length s) → SpotRest R s
 
 -- ---- the three ways it can be
 
-module _ (R : List ℕ → Spot) (s : List ℕ) (at : ℕ) where
+module _ (R : List ℕ → Result (ℕ × ℕ) ℕ) (s : List ℕ) (at : ℕ) where
   -- the letters are there, whatever follows
-  spots-letters : (x e : ℕ) → at < e → e ≤ length s → ((m : List ℕ) → R (s ++ m) ≡ Letters x e) → Spots R s at
+  spots-letters : (x e : ℕ) → at < e → e ≤ length s → ((m : List ℕ) → R (s ++ m) ≡ Ok (x, e)) → Spots R s at
   spots-letters x e l h f =
-      let q : R s ≡ Letters x e = rw append-nil at (f []) in
+      let q : R s ≡ Ok (x, e) = rw append-nil at (f []) in
       record {
-        letters = λ y i k. let z : e ≡ i = cc in (omega arith, omega arith);
+        letters = λ y i k. let z : e ≡ i = ok_second (sym q ∙ k) in (omega arith, omega arith);
         stays = λ m y i k. f m ∙ (sym q ∙ k);
         fault = λ p k. absurd (let z : ◌≡◌ {A = ℕ} 0 1 = cc in omega arith);
         firm = λ m p k j. absurd (let z : ◌≡◌ {A = ℕ} 0 1 = cc in omega arith);
@@ -39,9 +39,9 @@ module _ (R : List ℕ → Spot) (s : List ℕ) (at : ℕ) where
       }
 
   -- it goes wrong before the end, whatever follows
-  spots-fault : (p : ℕ) → at ≤ p → p < length s → ((m : List ℕ) → R (s ++ m) ≡ Fault p) → Spots R s at
+  spots-fault : (p : ℕ) → at ≤ p → p < length s → ((m : List ℕ) → R (s ++ m) ≡ Err p) → Spots R s at
   spots-fault p l h f =
-      let q : R s ≡ Fault p = rw append-nil at (f []) in
+      let q : R s ≡ Err p = rw append-nil at (f []) in
       record {
         letters = λ y i k. absurd (let z : ◌≡◌ {A = ℕ} 0 1 = cc in omega arith);
         stays = λ m y i k. absurd (let z : ◌≡◌ {A = ℕ} 0 1 = cc in omega arith);
@@ -51,7 +51,7 @@ module _ (R : List ℕ → Spot) (s : List ℕ) (at : ℕ) where
       }
 
   -- the line ends too soon
-  spots-cut : at ≤ length s → R s ≡ Fault (length s) → SpotRest R s → Spots R s at
+  spots-cut : at ≤ length s → R s ≡ Err (length s) → SpotRest R s → Spots R s at
   spots-cut l q r =
       record {
         letters = λ y i k. absurd (let z : ◌≡◌ {A = ℕ} 0 1 = cc in omega arith);
@@ -93,7 +93,7 @@ module _ (st : Stamp) (s : List ℕ) (u v at : ℕ) where
   none-spots : at ≡ length s → Spots (λ t. field_at st t u v at) s at
   none-spots h =
       let w = (width-range st).0 in
-      spots-cut (λ t. field_at st t u v at) s at (omega arith) (field_cut st s u v at (omega arith) ∙ ap Fault cut) (rw h (field-fills s u v st))
+      spots-cut (λ t. field_at st t u v at) s at (omega arith) (field_cut st s u v at (omega arith) ∙ ap Err cut) (rw h (field-fills s u v st))
     where
       pick : (b : Bool) (n i : ℕ) → i ≡ n → cond b n i ≡ n
       pick true n i e = refl
@@ -106,19 +106,19 @@ module _ (st : Stamp) (s : List ℕ) (u v at : ℕ) where
 half-spots : (s : List ℕ) (u v at : ℕ) → length s ≡ at + 1 → Spots (λ t. field_at Date t u v at) s at
 half-spots s u v at h = go (new_unit u v (unit_of (get_or s at 0))) refl
   where
-    unlike : new_unit u v (unit_of (get_or s at 0)) ≡ false → (m : List ℕ) → field_at Date (s ++ m) u v at ≡ Fault at
+    unlike : new_unit u v (unit_of (get_or s at 0)) ≡ false → (m : List ℕ) → field_at Date (s ++ m) u v at ≡ Err at
     unlike e m = pick (dec_le (at + 2) (length (s ++ m)))
       where
         a : get_or (s ++ m) at 0 ≡ get_or s at 0
         a = get_or-append s m 0 at (omega arith)
 
-        pick : Dec (at + 2 ≤ length (s ++ m)) → field_at Date (s ++ m) u v at ≡ Fault at
+        pick : Dec (at + 2 ≤ length (s ++ m)) → field_at Date (s ++ m) u v at ≡ Err at
         pick (yes k) = field-whole Date (s ++ m) u v at k ∙ rw (a, date-unlike u v (get_or s at 0) (get_or (s ++ m) (at + 1) 0) e)
-        pick (no k) = field_cut Date (s ++ m) u v at (omega arith) ∙ ap Fault (unfold cut_at in rw (a, e))
+        pick (no k) = field_cut Date (s ++ m) u v at (omega arith) ∙ ap Err (unfold cut_at in rw (a, e))
 
     go : (b : Bool) → new_unit u v (unit_of (get_or s at 0)) ≡ b → Spots (λ t. field_at Date t u v at) s at
     go true e =
-        spots-cut (λ t. field_at Date t u v at) s at (omega arith) (field_cut Date s u v at (omega arith) ∙ ap Fault (unfold cut_at in rw e)) (date-finished s u v at h e)
+        spots-cut (λ t. field_at Date t u v at) s at (omega arith) (field_cut Date s u v at (omega arith) ∙ ap Err (unfold cut_at in rw e)) (date-finished s u v at h e)
     go false e = spots-fault (λ t. field_at Date t u v at) s at at (omega arith) (omega arith) (unlike e)
 
 -- a field at a place of the line
@@ -133,12 +133,12 @@ field-spots st s u v at h = pick st (dec_le (at + width st) (length s)) (dec_lt 
 
 -- ---- a separator and a field
 
-further-as : (st : Stamp) (t : List ℕ) (u v at : ℕ) (b : Bool) → separator (get_or t at 0) ≡ b → further_at st t u v at ≡ cond b (field_at st t u v (at + 1)) (Fault at)
+further-as : (st : Stamp) (t : List ℕ) (u v at : ℕ) (b : Bool) → separator (get_or t at 0) ≡ b → further_at st t u v at ≡ cond b (field_at st t u v (at + 1)) (Err at)
 unfolding further_at
 further-as st t u v at b e = rw e
 
 -- what reads as another, in this line and with more, from a place further on
-spots-as : (R Q : List ℕ → Spot) (s : List ℕ) (at i : ℕ) → at ≤ i → ((m : List ℕ) → R (s ++ m) ≡ Q (s ++ m)) → Spots Q s i → Spots R s at
+spots-as : (R Q : List ℕ → Result (ℕ × ℕ) ℕ) (s : List ℕ) (at i : ℕ) → at ≤ i → ((m : List ℕ) → R (s ++ m) ≡ Q (s ++ m)) → Spots Q s i → Spots R s at
 spots-as R Q s at i l f g =
     let q : R s ≡ Q s = rw append-nil at (f []) in
     record {

@@ -14,20 +14,8 @@ use fields::Field;
 use formats::{Format, Stamp, is_separator, new_unit, pack, unit};
 use ground::{byte, either};
 
-// A format's field and the place after its letters; or the place at fault.
-#[derive(Clone, Copy)]
-pub enum Spot {
-    Letters(u8, usize),
-    Fault(usize),
-}
-
-// A format; or the place at fault.
-#[derive(Clone, Copy)]
-pub enum Found {
-    Whole(Format),
-    Wrong(usize),
-}
 // Whether b is a letter, given as a capital, in either case. Asked for here alone, of letters that stand in the code.
+#[tactic(auto, unfolding(crate::specs::Reading::letter))]
 fn is_letter(k: u8, b: u8) -> bool
     requires { k < 128 }
     ensures { result ≡ letter k b }
@@ -35,6 +23,7 @@ fn is_letter(k: u8, b: u8) -> bool
     either(b == k, b == k + 32)
 }
 
+#[tactic(auto, unfolding(crate::specs::Reading::unit_of))]
 fn unit_of(a: u8) -> u8
     ensures { result ≡ unit_of a }
 {
@@ -75,6 +64,7 @@ fn day_field(b: u8) -> u8
     if is_letter(b'D', b) { 5 } else { 0 }
 }
 
+#[tactic(auto, unfolding(crate::specs::Reading::date_field))]
 fn date_field(a: u8, b: u8) -> u8
     ensures { result ≡ date_field a b }
 {
@@ -87,6 +77,7 @@ fn date_field(a: u8, b: u8) -> u8
     if is_letter(b'D', a) { day_field(b) } else { 0 }
 }
 
+#[tactic(auto, unfolding(crate::specs::Reading::time_field))]
 fn time_field(a: u8) -> u8
     ensures { result ≡ time_field a }
 {
@@ -117,6 +108,7 @@ fn field_of(stamp: Stamp, a: u8, b: u8) -> u8
     }
 }
 
+#[tactic(auto, unfolding(crate::specs::Reading::cut_at))]
 fn cut_at(line: &[u8], u: u8, v: u8, at: usize) -> usize
     ensures { result ≡ cut_at line.now u v at }
 {
@@ -126,106 +118,96 @@ fn cut_at(line: &[u8], u: u8, v: u8, at: usize) -> usize
     at
 }
 
-// A field of another unit than u and v.
-fn field_at(line: &[u8], stamp: Stamp, u: u8, v: u8, at: usize) -> Spot
+// A field of another unit than u and v, and the place after its letters; or the place at fault.
+#[tactic(auto, unfolding(crate::specs::Reading::field_at))]
+fn field_at(line: &[u8], stamp: Stamp, u: u8, v: u8, at: usize) -> Result<(u8, usize), usize>
     ensures { result ≡ field_at stamp line.now u v at }
 {
     if line.len() <= at {
-        return Spot::Fault(cut_at(line, u, v, at));
+        return Err(cut_at(line, u, v, at));
     }
     let w = width(stamp);
     if line.len() - at < w {
-        return Spot::Fault(cut_at(line, u, v, at));
+        return Err(cut_at(line, u, v, at));
     }
     let x = field_of(stamp, byte(line, at), byte(line, at + 1));
     if new_unit(u, v, unit(stamp, x)) {
-        return Spot::Letters(x, at + w);
+        return Ok((x, at + w));
     }
-    Spot::Fault(at)
+    Err(at)
 }
 
 // The same after a separator. Asked for by `with_third` and `with_second` alone, before the line's end.
-fn further_at(line: &[u8], stamp: Stamp, u: u8, v: u8, at: usize) -> Spot
+#[tactic(auto, unfolding(crate::specs::Reading::further_at))]
+fn further_at(line: &[u8], stamp: Stamp, u: u8, v: u8, at: usize) -> Result<(u8, usize), usize>
     requires { at < length line.now }
     ensures { result ≡ further_at stamp line.now u v at }
 {
     if is_separator(byte(line, at)) {
         return field_at(line, stamp, u, v, at + 1);
     }
-    Spot::Fault(at)
+    Err(at)
 }
 
 // The rest of a format, after the fields a and b and their separator at d. Asked for by `with_second` alone, where more bytes stand.
-fn with_third(line: &[u8], stamp: Stamp, a: u8, d: usize, b: u8, e: usize) -> Found
+fn with_third(line: &[u8], stamp: Stamp, a: u8, d: usize, b: u8, e: usize) -> Result<Format, usize>
     requires { e < length line.now }
     ensures { result ≡ with_third line.now a d b e (further_at stamp line.now (unit stamp a) (unit stamp b) e) }
 {
-    match further_at(line, stamp, unit(stamp, a), unit(stamp, b), e) {
-        Spot::Letters(c, next) => {
-            if next < line.len() {
-                return Found::Wrong(next);
-            }
-            Found::Whole(Format {
-                first: a,
-                mark1: byte(line, d),
-                second: b,
-                mark2: byte(line, e),
-                third: c,
-            })
-        }
-        Spot::Fault(fault) => Found::Wrong(fault),
+    let (c, next) = further_at(line, stamp, unit(stamp, a), unit(stamp, b), e)?;
+    if next < line.len() {
+        return Err(next);
     }
+    Ok(Format {
+        first: a,
+        mark1: byte(line, d),
+        second: b,
+        mark2: byte(line, e),
+        third: c,
+    })
 }
 
 // The rest after the field a. Asked for by `format_at` alone, where more bytes stand.
-fn with_second(line: &[u8], stamp: Stamp, a: u8, d: usize) -> Found
+fn with_second(line: &[u8], stamp: Stamp, a: u8, d: usize) -> Result<Format, usize>
     requires { d < length line.now }
     ensures { result ≡ with_second stamp line.now a d (further_at stamp line.now (unit stamp a) 0 d) }
 {
-    match further_at(line, stamp, unit(stamp, a), 0, d) {
-        Spot::Letters(b, e) => {
-            if e < line.len() {
-                return with_third(line, stamp, a, d, b, e);
-            }
-            Found::Whole(Format {
-                first: a,
-                mark1: byte(line, d),
-                second: b,
-                mark2: 0,
-                third: 0,
-            })
-        }
-        Spot::Fault(fault) => Found::Wrong(fault),
+    let (b, e) = further_at(line, stamp, unit(stamp, a), 0, d)?;
+    if e < line.len() {
+        return with_third(line, stamp, a, d, b, e);
     }
+    Ok(Format {
+        first: a,
+        mark1: byte(line, d),
+        second: b,
+        mark2: 0,
+        third: 0,
+    })
 }
 
 // The format from a place to the end of the line, or the place at fault.
-fn format_at(line: &[u8], stamp: Stamp, at: usize) -> Found
+#[tactic(auto, unfolding(crate::specs::Reading::format_at))]
+fn format_at(line: &[u8], stamp: Stamp, at: usize) -> Result<Format, usize>
     ensures { result ≡ format_at stamp line.now at }
 {
-    match field_at(line, stamp, 0, 0, at) {
-        Spot::Letters(a, d) => {
-            if d < line.len() {
-                return with_second(line, stamp, a, d);
-            }
-            Found::Whole(Format {
-                first: a,
-                mark1: 0,
-                second: 0,
-                mark2: 0,
-                third: 0,
-            })
-        }
-        Spot::Fault(fault) => Found::Wrong(fault),
+    let (a, d) = field_at(line, stamp, 0, 0, at)?;
+    if d < line.len() {
+        return with_second(line, stamp, a, d);
     }
+    Ok(Format {
+        first: a,
+        mark1: 0,
+        second: 0,
+        mark2: 0,
+        third: 0,
+    })
 }
 
 // The same as a field: a format's value is the format as one number.
+#[tactic(auto, unfolding(crate::specs::Reading::format_field))]
 pub fn format_form(line: &[u8], stamp: Stamp, at: usize) -> Field
     ensures { result ≡ format_field stamp line.now at }
 {
-    match format_at(line, stamp, at) {
-        Found::Whole(f) => Field::Is(pack(f), line.len()),
-        Found::Wrong(fault) => Field::Not(fault),
-    }
+    let f = format_at(line, stamp, at)?;
+    Ok((pack(f), line.len()))
 }

@@ -5,7 +5,7 @@
 // (`Formats`): at first the manual's examples. How a format is written in a line stands in crate `format_field`, what it shows of a clock in crate `stamps`.
 #![tactic(auto)]
 
-ghost use Rattle.std.specs.Prelude.{◌≡◌, not, eqb};
+ghost use Rattle.std.specs.Prelude.{◌≡◌};
 ghost use Rattle.formats.specs.Formats.{unit, new_unit, separator, absent, further, legal_format, example, format_of, with_format, examples, legal_formats, packed, unpacked};
 
 use ground::{both, either, wide};
@@ -18,7 +18,8 @@ pub enum Stamp {
     Time,
 }
 
-// A field, and up to twice a separator and a field; 0 where none stands. The fields of a date are 1 Y2, 2 Y4, 3 ME, 4 MN, 5 DD, those of a time
+// A field, and up to twice a separator and a field; 0 where none stands. No enums and Options: they stand in the session's image, and any bytes there are some
+// format. The fields of a date are 1 Y2, 2 Y4, 3 ME, 4 MN, 5 DD, those of a time
 // 1 H, 2 M, 3 S.
 #[derive(Clone, Copy)]
 pub struct Format {
@@ -64,24 +65,18 @@ pub fn unit(stamp: Stamp, x: u8) -> u8
     }
 }
 
-fn differs(a: u8, b: u8) -> bool
-    ensures { result ≡ not (eqb a b) }
-{
-    a != b
-}
-
 // Whether a unit is one that has not come yet.
 pub fn new_unit(u: u8, v: u8, n: u8) -> bool
     ensures { result ≡ new_unit u v n }
 {
-    both(differs(n, 0), both(differs(n, u), differs(n, v)))
+    both(n != 0, both(n != u, n != v))
 }
 
 // Whether a byte may stand between two fields.
 pub fn is_separator(b: u8) -> bool
     ensures { result ≡ separator b }
 {
-    both(is_between(33, 126, b), differs(b, b'"'))
+    both(is_between(33, 126, b), b != b'"')
 }
 
 fn is_absent(m: u8, x: u8) -> bool

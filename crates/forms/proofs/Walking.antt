@@ -1,5 +1,6 @@
 -- Walks over a form: a line more, and from start to end.
 -- Assumes nothing.
+use Rattle.std.proofs.Common.{Some, None}
 use mathlib.Core.Path.{◌≡◌, refl, sym, ap, ◌∙◌}
 use mathlib.Core.Bool.{Bool, true, false, ◌&&◌, and-false, and-true, and_assoc}
 use mathlib.Core.List.{List, [], ◌∷◌}
@@ -9,12 +10,12 @@ use native.Mathlib.Decide.{dec_le}
 use lib.ListN.{length}
 use lib.Dec.{eqb}
 use borrow.Author.Tests.{ne_eqb}
-use Rattle.contents.specs.Content.{bytes_from, content_of, content}
+use Rattle.contents.specs.declared.Cursor.{Cursor}
+use Rattle.contents.specs.Content.{bytes_from, content_of, content, cursor_at}
 use Rattle.content_lines.specs.Lines.{lines_of, line_of}
 use Rattle.contents.proofs.Reading.{length-bytes}
 use Rattle.declarations.specs.declared.Declared.{Declared}
 use Rattle.grammar.specs.declared.Item.{Item}
-use Rattle.kept_line.specs.declared.Stored.TheVariants.{Holds, Nothing}
 use Rattle.kept_line.specs.Held.{item_in}
 use Rattle.form_lines.specs.Walk.{line_in, behind}
 use Rattle.form_lines.proofs.Folding.{lines_next, lines-last, line-good, line-long, line-cut, fold_step}
@@ -26,7 +27,7 @@ use Rattle.forms.specs.Walk.{started, rest_ok, walk_ok, walk_declared, walk_has}
 
 -- ---- what a line holds
 
-module _ (l : List ℕ) (e : item_in l ≡ Nothing) where
+module _ (l : List ℕ) (e : item_in l ≡ None) where
   pub takes_none : (d : Declared) → takes d l ≡ false
   unfolding takes
   takes_none d = rw e
@@ -38,7 +39,7 @@ module _ (l : List ℕ) (e : item_in l ≡ Nothing) where
   pub has-none : (directory : List ℕ) (b : Bool) → (b && has_stored directory l (item_in l)) ≡ b
   has-none directory b = rw e (and-true b)
 
-pub declaring-holds : (d : Declared) (l : List ℕ) (it : Item) → item_in l ≡ Holds it → declaring d l ≡ declares d it
+pub declaring-holds : (d : Declared) (l : List ℕ) (it : Item) → item_in l ≡ Some it → declaring d l ≡ declares d it
 unfolding declaring
 declaring-holds d l it e = rw e
 
@@ -92,18 +93,30 @@ module _ (store links : List ℕ) (p at left p' at' left' : ℕ) (line : List �
   some : 0 < length b
   some = omega (arith, length-bytes store links p at left)
 
-  pub walk-ok : (d d' : Declared) (g g' s : Bool) → d' ≡ declaring d line → s ≡ takes d line → g' ≡ (g && s)
-      → (g' && rest_ok d' (bytes_from store links p' at' left')) ≡ (g && rest_ok d b)
-  walk-ok d d' g g' s ed es eg =
-      rw (eg, es, ed, there, here)
-      (and_assoc g (takes d (line_in b)) (rest_ok (declaring d (line_in b)) (behind b)) ∙ ap (λ (x : Bool). g && x) (rest-step d b some))
+  abbrev more : Declared → Bool
+  more d = rest_ok (declaring d (line_in b)) (behind b)
+
+  pub walk-refused : (d : Declared) → takes d line ≡ false → rest_ok d b ≡ false
+  walk-refused d e = sym (rest-step d b some) ∙ ap (λ (x : Bool). x && more d) (sym (ap (takes d) here) ∙ e)
+
+  pub walk-ok : (d d' : Declared) → d' ≡ declaring d line → takes d line ≡ true → rest_ok d' (bytes_from store links p' at' left') ≡ rest_ok d b
+  walk-ok d d' ed e = rw (ed, there, here) (ap (λ (x : Bool). x && more d) (sym e ∙ ap (takes d) here) ∙ rest-step d b some)
 
   pub walk-declared : (d d' : Declared) → d' ≡ declaring d line → declared_by d' (lines_of (bytes_from store links p' at' left')).whole ≡ declared_by d (lines_of b).whole
   walk-declared d d' ed = rw (ed, there, here) (declared-step d b)
 
-  pub walk-has : (directory : List ℕ) (g g' s : Bool) → s ≡ has_stored directory line (item_in line) → g' ≡ (g && s)
-      → (g' && has_all directory (lines_of (bytes_from store links p' at' left')).whole) ≡ (g && has_all directory (lines_of b).whole)
-  walk-has directory g g' s es eg = rw (eg, es, there, here) (has-step directory g b)
+  abbrev has_rest : List ℕ → Bool
+  has_rest directory = has_all directory (lines_of (behind b)).whole
+
+  pub walk-lacks : (directory : List ℕ) → has_stored directory line (item_in line) ≡ false → has_all directory (lines_of b).whole ≡ false
+  walk-lacks directory e =
+      sym (has-step directory true b) ∙ ap (λ (x : Bool). x && has_rest directory) (sym (ap (λ (l : List ℕ). has_stored directory l (item_in l)) here) ∙ e)
+
+  pub walk-has : (directory : List ℕ) → has_stored directory line (item_in line) ≡ true
+      → has_all directory (lines_of (bytes_from store links p' at' left')).whole ≡ has_all directory (lines_of b).whole
+  walk-has directory e =
+      rw there
+      (ap (λ (x : Bool). x && has_rest directory) (sym e ∙ ap (λ (l : List ℕ). has_stored directory l (item_in l)) here) ∙ has-step directory true b)
 
 -- ---- a walk from start to end
 
@@ -116,22 +129,22 @@ module _ (store links directory : List ℕ) (i : ℕ) (w : Walk) (e : w ≡ star
   unfolding declared_of content_of
   declared-start = rw e
 
-  pub has-start : walk_has store links directory w ≡ pictures_stored directory (content store links directory i)
-  unfolding pictures_stored content_of
-  has-start = rw e
+pub has-start : (store links directory : List ℕ) (i : ℕ) (c : Cursor) → c ≡ cursor_at links directory i → walk_has store links directory c ≡ pictures_stored directory (content store links directory i)
+unfolding pictures_stored content_of
+has-start store links directory i c e = rw e
 
 module _ (store links : List ℕ) (p at : ℕ) where
-  pub ok_end : (left : ℕ) (d : Declared) (g : Bool) → left ≤ 0 → g ≡ (g && rest_ok d (bytes_from store links p at left))
+  pub ok_end : (left : ℕ) (d : Declared) → left ≤ 0 → true ≡ rest_ok d (bytes_from store links p at left)
   unfolding bytes_from rest_ok lines_of takes_all
-  ok_end zero d g h = sym (and-true g)
-  ok_end (suc left) d g h = absurd (omega arith)
+  ok_end zero d h = refl
+  ok_end (suc left) d h = absurd (omega arith)
 
   pub declared-end : (left : ℕ) (d : Declared) → left ≤ 0 → d ≡ declared_by d (lines_of (bytes_from store links p at left)).whole
   unfolding bytes_from lines_of declared_by
   declared-end zero d h = refl
   declared-end (suc left) d h = absurd (omega arith)
 
-  pub has_end : (left : ℕ) (directory : List ℕ) (g : Bool) → left ≤ 0 → g ≡ (g && has_all directory (lines_of (bytes_from store links p at left)).whole)
+  pub has_end : (left : ℕ) (directory : List ℕ) → left ≤ 0 → true ≡ has_all directory (lines_of (bytes_from store links p at left)).whole
   unfolding bytes_from lines_of has_all
-  has_end zero directory g h = sym (and-true g)
-  has_end (suc left) directory g h = absurd (omega arith)
+  has_end zero directory h = refl
+  has_end (suc left) directory h = absurd (omega arith)

@@ -1,28 +1,27 @@
 -- "each form a row of normalised lines that recording would take one after another (presence of pictures aside)"
 -- Assumes nothing.
-use Rattle.std.specs.Prelude.{ℕ, Bool, true, false, ◌&&◌, List, [], ◌∷◌, length, eqb}
+use Rattle.std.specs.Prelude.{ℕ, Bool, true, false, ◌&&◌, List, [], ◌∷◌, length, eqb, Option, Some, None}
+use Rattle.grammar.specs.declared.Item.{Item}
 use Rattle.declarations.specs.declared.Declared.{Declared}
 use Rattle.declarations.specs.Declarations.{nothing}
 use Rattle.content_lines.specs.Lines.{lines_of}
-use Rattle.kept_line.specs.declared.Stored.{Stored}
-use Rattle.kept_line.specs.declared.Stored.TheVariants.{Holds, Nothing}
 use Rattle.kept_line.specs.Held.{item_in}
 use Rattle.recording.specs.Judged.{judged, declares, is_taken, has_picture}
 
 -- ---- a line of a form
 
 -- "recording would take" it, after the declarations d
-abbrev pub takes_stored : Declared → List ℕ → Stored → Bool
-takes_stored d line (Holds it) = is_taken (judged d line it)
-takes_stored d line Nothing = false
+abbrev pub takes_stored : Declared → List ℕ → Option Item → Bool
+takes_stored d line (Some it) = is_taken (judged d line it)
+takes_stored d line None = false
 
 unfoldable pub takes : Declared → List ℕ → Bool
 takes d line = takes_stored d line (item_in line)
 
 -- what is declared after a line, and the formats in force
-abbrev pub declares_stored : Declared → Stored → Declared
-declares_stored d (Holds it) = declares d it
-declares_stored d Nothing = d
+abbrev pub declares_stored : Declared → Option Item → Declared
+declares_stored d (Some it) = declares d it
+declares_stored d None = d
 
 unfoldable pub declaring : Declared → List ℕ → Declared
 declaring d line = declares_stored d (item_in line)
@@ -50,9 +49,9 @@ declared_of bytes = declared_by nothing (lines_of bytes).whole
 -- ---- its pictures
 
 -- a line that holds no item asks for no picture
-abbrev pub has_stored : List ℕ → List ℕ → Stored → Bool
-has_stored directory line (Holds it) = has_picture directory line it
-has_stored directory line Nothing = true
+abbrev pub has_stored : List ℕ → List ℕ → Option Item → Bool
+has_stored directory line (Some it) = has_picture directory line it
+has_stored directory line None = true
 
 unfoldable pub has_all : List ℕ → List (List ℕ) → Bool
 has_all directory [] = true

@@ -6,7 +6,7 @@
 // line more stays good is proved in proofs/Growing.antt. What a line holds is read in crate `form_lines`, and an item is judged in crate `recording`.
 #![tactic(auto)]
 
-ghost use Rattle.std.specs.Prelude.{◌≡◌, ◌<◌, length};
+ghost use Rattle.std.specs.Prelude.{◌≡◌, ◌<◌, length, MatchOption, true, false};
 ghost use Rattle.contents.specs.Content.{content};
 ghost use Rattle.kept_line.specs.Held.{item_in};
 ghost use Rattle.forms.specs.Form.{takes, declaring, has_stored, form_ok, declared_of, pictures_stored};
@@ -15,23 +15,15 @@ ghost use Rattle.forms.specs.Walk.{started, walk_ok, walk_declared, walk_has};
 use contents::Cursor;
 use declarations::Declared;
 use form_lines::next_line;
-use ground::{both, front};
-use kept_line::{Stored, stored_item};
-use recording::{declare, has_picture, is_taken, judge};
+use ground::front;
+use kept_line::stored_item;
+use recording::{declare, has_picture, judge};
 
-// Where a walk stands, what is declared so far, and whether all was good so far.
+// Where a walk stands, and what is declared so far.
 #[derive(Clone, Copy)]
 pub struct Walk {
     pub place: Cursor,
     pub declared: Declared,
-    pub good: bool,
-}
-
-// What a line adds to a walk.
-#[derive(Clone, Copy)]
-struct Seen {
-    declared: Declared,
-    good: bool,
 }
 
 fn start(links: &[u16], directory: &[u8], i: usize) -> Walk
@@ -40,42 +32,32 @@ fn start(links: &[u16], directory: &[u8], i: usize) -> Walk
     Walk {
         place: contents::reader(links, directory, i),
         declared: Declared::none(),
-        good: true,
     }
 }
 
-// A line that recording would take, and what is declared after it.
-fn see_line(line: &[u8], d: Declared) -> Seen
-    ensures { (result.declared ≡ declaring d line.now) × (result.good ≡ takes d line.now) }
+// What is declared after a line that recording would take.
+fn see_line(line: &[u8], d: Declared) -> Option<Declared>
+    ensures { MatchOption result (takes d line.now ≡ false) (λ after. (after ≡ declaring d line.now) × (takes d line.now ≡ true)) }
 {
-    let stored = stored_item(line);
-    match stored {
-        Stored::Holds(item) => Seen {
-            declared: declare(d, item),
-            good: is_taken(judge(line, item, d)),
+    match stored_item(line) {
+        Some(item) => match judge(line, item, d) {
+            Ok(()) => Some(declare(d, item)),
+            Err(_) => None,
         },
-        Stored::Nothing => Seen {
-            declared: d,
-            good: false,
-        },
+        None => None,
     }
 }
 
-fn judge_next(store: &[u8], links: &[u16], w: Walk, buffer: &mut [u8]) -> Walk
+// A walk behind the next line, if recording would take that line.
+fn judge_next(store: &[u8], links: &[u16], w: Walk, buffer: &mut [u8]) -> Option<Walk>
     requires { (0 < w.place.left) × (length buffer.old ≡ 256) }
-    ensures { (walk_ok store.now links.now result ≡ walk_ok store.now links.now w) × (result.place.left < w.place.left) }
+    ensures { MatchOption result (walk_ok store.now links.now w ≡ false) (λ v. (walk_ok store.now links.now v ≡ walk_ok store.now links.now w) × (v.place.left < w.place.left)) }
 {
     let d = w.declared;
-    let place = w.place;
-    let next = next_line(store, links, place, buffer);
-    let seen = see_line(front(buffer, next.n), d);
-    let after = next.place;
-    let declared = seen.declared;
-    Walk {
-        place: after,
-        declared,
-        good: both(w.good, seen.good),
-    }
+    let next = next_line(store, links, w.place, buffer);
+    let place = next.place;
+    let declared = see_line(front(buffer, next.n), d)?;
+    Some(Walk { place, declared })
 }
 
 fn judge_all(store: &[u8], links: &[u16], directory: &[u8], i: usize, buffer: &mut [u8]) -> bool
@@ -83,10 +65,14 @@ fn judge_all(store: &[u8], links: &[u16], directory: &[u8], i: usize, buffer: &m
     ensures { result ≡ form_ok (content store.now links.now directory.now i) }
 {
     let mut w = start(links, directory, i);
+    // A while, here and below: the reader goes along a chain of links, and there is no list to go over.
     while 0 < w.place.left {
-        w = judge_next(store, links, w, buffer);
+        let Some(next) = judge_next(store, links, w, buffer) else {
+            return false;
+        };
+        w = next;
     }
-    w.good
+    true
 }
 
 // Whether the form of entry i is a row of normalised lines that recording would take one after another, presence of pictures aside. One buffer serves
@@ -106,10 +92,9 @@ fn declare_line(line: &[u8], d: Declared) -> Declared
     if first != b'V' && first != b'C' && first != b'T' {
         return d;
     }
-    let stored = stored_item(line);
-    match stored {
-        Stored::Holds(item) => declare(d, item),
-        Stored::Nothing => d,
+    match stored_item(line) {
+        Some(item) => declare(d, item),
+        None => d,
     }
 }
 
@@ -126,7 +111,6 @@ fn declare_next(store: &[u8], links: &[u16], w: Walk) -> Walk
     Walk {
         place: after,
         declared,
-        good: w.good,
     }
 }
 
@@ -148,37 +132,35 @@ fn has_line(directory: &[u8], line: &[u8]) -> bool
     if ground::byte(line, 0) != b'G' {
         return true;
     }
-    let stored = stored_item(line);
-    match stored {
-        Stored::Holds(item) => has_picture(directory, line, item),
-        Stored::Nothing => true,
+    match stored_item(line) {
+        Some(item) => has_picture(directory, line, item),
+        None => true,
     }
 }
 
-fn look_next(store: &[u8], links: &[u16], directory: &[u8], w: Walk) -> Walk
-    requires { 0 < w.place.left }
-    ensures { (walk_has store.now links.now directory.now result ≡ walk_has store.now links.now directory.now w) × (result.place.left < w.place.left) }
+// A reader behind the next line, if the picture that it draws is stored.
+fn look_next(store: &[u8], links: &[u16], directory: &[u8], place: Cursor) -> Option<Cursor>
+    requires { 0 < place.left }
+    ensures { MatchOption result (walk_has store.now links.now directory.now place ≡ false) (λ v. (walk_has store.now links.now directory.now v ≡ walk_has store.now links.now directory.now place) × (v.left < place.left)) }
 {
     let mut buffer = [0u8; 256];
-    let declared = w.declared;
-    let place = w.place;
     let next = next_line(store, links, place, &mut buffer);
-    let has = has_line(directory, front(&buffer, next.n));
-    let after = next.place;
-    Walk {
-        place: after,
-        declared,
-        good: both(w.good, has),
+    if !has_line(directory, front(&buffer, next.n)) {
+        return None;
     }
+    Some(next.place)
 }
 
 // Whether all pictures are stored that the form of entry i draws.
 pub fn pictures_stored(store: &[u8], links: &[u16], directory: &[u8], i: usize) -> bool
     ensures { result ≡ pictures_stored directory.now (content store.now links.now directory.now i) }
 {
-    let mut w = start(links, directory, i);
-    while 0 < w.place.left {
-        w = look_next(store, links, directory, w);
+    let mut place = contents::reader(links, directory, i);
+    while 0 < place.left {
+        let Some(next) = look_next(store, links, directory, place) else {
+            return false;
+        };
+        place = next;
     }
-    w.good
+    true
 }

@@ -8,16 +8,15 @@ ghost use Rattle.dots.specs.declared.Ink.TheVariants.{Black};
 ghost use Rattle.dots.specs.Dots.{drawn, cut};
 ghost use Rattle.frames.specs.Frame.{hollow, frame};
 
-use boxes::ink_box;
+use boxes::{Area, Size, ink_box};
 use dots::Ink;
-use ground::{greatest, least};
 
 // Where a band of thickness c ends that starts at `from`, and no further than `to`.
 fn band_end(from: usize, to: usize, c: usize) -> usize
     requires { from ≤ to }
     ensures { result ≡ min (from + c) to }
 {
-    if to - from < c { to } else { from + c }
+    from + c.min(to - from)
 }
 
 // Where a band of thickness c starts that ends at `to`, and no nearer than `from`.
@@ -25,7 +24,7 @@ fn band_start(from: usize, to: usize, c: usize) -> usize
     requires { from ≤ to }
     ensures { result ≡ max (to - c) from }
 {
-    if to - from < c { from } else { to - c }
+    to - c.min(to - from)
 }
 
 // Draws a box less the box that is shrunk by c on each side black, cut at width and length: the bands at its four sides.
@@ -46,10 +45,12 @@ fn ink_sides(
     let bottom = band_start(y0, y1, c);
     let left = band_end(x0, x1, c);
     let right = band_start(x0, x1, c);
-    ink_box(page, Ink::Black, width, length, x0, y0, x1, top);
-    ink_box(page, Ink::Black, width, length, x0, bottom, x1, y1);
-    ink_box(page, Ink::Black, width, length, x0, y0, left, y1);
-    ink_box(page, Ink::Black, width, length, right, y0, x1, y1);
+    let size = Size { width, length };
+    let all = Area { x0, y0, x1, y1 };
+    ink_box(page, Ink::Black, size, Area { y1: top, ..all });
+    ink_box(page, Ink::Black, size, Area { y0: bottom, ..all });
+    ink_box(page, Ink::Black, size, Area { x1: left, ..all });
+    ink_box(page, Ink::Black, size, Area { x0: right, ..all });
 }
 
 // X: draws the frame of thickness c between the corners (a, b) and (d, e) black, cut at width and length.
@@ -65,9 +66,9 @@ pub fn ink_frame(
 )
     ensures { page.new ≡ drawn Black (cut width length (frame a b c d e)) page.old }
 {
-    let x0 = least(a, d);
-    let y0 = least(b, e);
-    let x1 = greatest(a, d);
-    let y1 = greatest(b, e);
+    let x0 = a.min(d);
+    let y0 = b.min(e);
+    let x1 = a.max(d);
+    let y1 = b.max(e);
     ink_sides(page, width, length, c, x0, y0, x1, y1);
 }

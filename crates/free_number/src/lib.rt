@@ -57,10 +57,8 @@ fn called_by(directory: &[u8], picture: bool) -> usize
 {
     let entries = directory.len() / BYTES_AN_ENTRY;
     let mut n: usize = 0;
-    let mut i = 0;
-    while i < entries {
+    for i in 0..entries {
         n = capped_sum(n, called_at(directory, picture, i));
-        i += 1;
     }
     n
 }

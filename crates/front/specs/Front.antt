@@ -1,6 +1,6 @@
 -- Paper 01, "Reading a command": the line at the front of the input, and how much of the input a call reads.
 -- Assumes nothing.
-use Rattle.std.specs.Prelude.{ℕ, ◌+◌, cond, ◌||◌, List, length, get_or, take, leb, ltb, eqb}
+use Rattle.std.specs.Prelude.{ℕ, ◌+◌, cond, ◌||◌, List, length, get_or, take, leb, ltb, eqb, Option, Some, None}
 use Prim.Native.Char.{code}
 use Rattle.kinds.specs.Bytes.{between}
 use Rattle.classes.specs.Bytes.{run}
@@ -8,8 +8,6 @@ use Rattle.classes.specs.declared.Class.TheVariants.{Inside}
 use Rattle.grammar.specs.Named.{GM}
 use Rattle.grammar.specs.Forms.{row_of, in_order}
 use Rattle.heads.specs.Heads.{head_of}
-use Rattle.heads.specs.declared.Head.{Head}
-use Rattle.heads.specs.declared.Head.TheVariants.{Row, Unknown}
 use Rattle.row_fields.specs.Reading.{Got, good, bad, fields_from}
 use Rattle.front.specs.declared.Front.{Front}
 use Rattle.front.specs.declared.Front.TheVariants.{Short, Long, Idle, Line}
@@ -23,9 +21,9 @@ unfoldable pub size_of : Got → ℕ
 size_of (good vs ps) = cond (between 1 32768 (size_in vs)) (size_in vs) 0
 size_of (bad vs ps p) = 0
 
-unfoldable pub asked_by : Head → List ℕ → ℕ
-asked_by (Row row) l = cond (eqb row GM) (size_of (fields_from (row_of GM).fields l 0)) 0
-asked_by Unknown l = 0
+unfoldable pub asked_by : Option ℕ → List ℕ → ℕ
+asked_by (Some row) l = cond (eqb row GM) (size_of (fields_from (row_of GM).fields l 0)) 0
+asked_by None l = 0
 
 abbrev pub asked : List ℕ → ℕ
 asked l = asked_by (head_of l) l

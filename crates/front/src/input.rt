@@ -8,8 +8,8 @@ ghost use Rattle.front.specs.Front.{size_of, asked, line_front, front_of};
 use crate::Front;
 use classes::Class;
 use grammar::row;
-use heads::{Head, head_of};
-use row_fields::{Fields, read_fields};
+use heads::head_of;
+use row_fields::read_fields;
 
 // The slot of n in `GMa,n`.
 const SIZE: usize = 4;
@@ -20,7 +20,7 @@ fn size(line: &[u8]) -> usize
 {
     let mut vs = [0usize; 18];
     let mut ps = [0usize; 18];
-    if let Fields::Bad(_) = read_fields(line, row::GM, &mut vs, &mut ps) {
+    if read_fields(line, row::GM, &mut vs, &mut ps).is_err() {
         return 0;
     }
     let n = vs[SIZE];
@@ -37,7 +37,7 @@ fn size(line: &[u8]) -> usize
 fn wanted(line: &[u8]) -> usize
     ensures { (result ≡ asked line.now) × (result ≤ 32768) }
 {
-    let Head::Row(row) = head_of(line) else {
+    let Some(row) = head_of(line) else {
         return 0;
     };
     if row != row::GM {

@@ -7,7 +7,7 @@ use native.Mathlib.Omega.{arith}
 use native.Mathlib.Decide.{dec_lt}
 use lib.Dec.{T, leb, ltb, leb→le, ltb→lt}
 use lib.ListN.{length, get_or, take, replicate, length-append, length-take, get_or-append, get_or-eq_default}
-use Rattle.classes.proofs.Laws.{and_T}
+use Rattle.numbers.proofs.ClassesLaws.{and_T}
 use Rattle.grammar.specs.Forms.{Form, forms, none, row_of, bounds_of, spread, free}
 use Rattle.grammar.specs.Codes.{codes, code_at, filled_up, line_up}
 use Rattle.bounds.specs.Letters.{bound, bound_by}

@@ -8,7 +8,7 @@ use Rattle.fields.specs.Field.{kind_from, under_from}
 use Rattle.numbers.specs.Number.{nought}
 use Rattle.grammar.specs.Makers.{Maker, box_of, slant_of, format_from, is_minus, step_of, side_of, named_from}
 use Rattle.formats.specs.declared.Stamp.TheVariants.{Date, Time}
-use Rattle.grammar.specs.declared.Ink.TheVariants.{Black, White, Inverted}
+use Rattle.dots.specs.declared.Ink.TheVariants.{Black, White, Inverted}
 use Rattle.grammar.specs.declared.Item.TheVariants.{Origin, Variable, Counter, Text, Bars, Frame, Picture}
 use Rattle.grammar.specs.declared.PageCommand.TheVariants.{Length, Width, Turn, White as Whiten}
 use Rattle.grammar.specs.declared.FormCommand.TheVariants.{Start, Retrieve, Erase as EraseForm}

@@ -5,7 +5,7 @@ use Prim.Native.Char.{code}
 use Rattle.numbers.specs.Number.{nought}
 use Rattle.formats.specs.declared.Stamp.{Stamp}
 use Rattle.formats.specs.Formats.{unpacked}
-use Rattle.grammar.specs.declared.Ink.{Ink}
+use Rattle.dots.specs.declared.Ink.{Ink}
 use Rattle.grammar.specs.declared.Named.{Named}
 use Rattle.grammar.specs.declared.Item.TheVariants.{Box, Slant, Format}
 use Rattle.grammar.specs.declared.Command.{Command}

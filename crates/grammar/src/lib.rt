@@ -9,15 +9,9 @@ pub mod makers;
 pub mod row;
 pub mod table;
 
+pub use dots::Ink;
 use formats::{Format, Stamp};
 use kinds::{Kind, Under};
-
-#[derive(Clone, Copy)]
-pub enum Ink {
-    Black,
-    White,
-    Inverted,
-}
 
 // R: the origin.
 #[derive(Clone, Copy)]

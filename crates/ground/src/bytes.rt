@@ -2,8 +2,6 @@
 ghost use Rattle.std.specs.Prelude.{◌≡◌, ◌<◌, get_or, set, take, drop, replicate};
 ghost use Rattle.std.proofs.lemmas.List.Edits.{sets};
 
-use crate::reckoning::{least, less};
-
 pub fn wide(x: u8) -> usize
     ensures { result ≡ x }
 {
@@ -28,18 +26,14 @@ pub fn byte_at(s: &[u8], at: usize) -> usize
 pub fn back(s: &[u8], at: usize) -> &[u8]
     ensures { result.now ≡ drop at s.now }
 {
-    if at < s.len() {
-        &s[at..]
-    } else {
-        &s[s.len()..]
-    }
+    &s[at.min(s.len())..]
 }
 
 // The first n bytes, or what there is.
 pub fn front(s: &[u8], n: usize) -> &[u8]
     ensures { result.now ≡ take n s.now }
 {
-    if n < s.len() { &s[..n] } else { s }
+    &s[..n.min(s.len())]
 }
 
 // Stores a byte, where there is a place for it.
@@ -55,22 +49,16 @@ pub fn put_byte(out: &mut [u8], at: usize, b: u8)
 pub fn fill(out: &mut [u8], at: usize, n: usize, b: u8)
     ensures { out.new ≡ sets out.old at (replicate n b) }
 {
-    let room = least(n, less(out.len(), at));
-    let mut i: usize = 0;
-    while i < room {
-        out[at + i] = b;
-        i += 1;
-    }
+    let from = at.min(out.len());
+    let room = n.min(out.len() - from);
+    out[from..from + room].fill(b);
 }
 
 // A text from a place on: what lies past the end is lost.
 pub fn put(out: &mut [u8], at: usize, text: &[u8])
     ensures { out.new ≡ sets out.old at text.now }
 {
-    let room = least(text.len(), less(out.len(), at));
-    let mut i: usize = 0;
-    while i < room {
-        out[at + i] = text[i];
-        i += 1;
-    }
+    let from = at.min(out.len());
+    let room = text.len().min(out.len() - from);
+    out[from..from + room].copy_from_slice(&text[..room]);
 }

@@ -51,12 +51,10 @@ fn fill(store: &mut [u8], links: &mut [u16], last: usize, size: usize, bytes: &[
 {
     let mut at = last;
     let mut n = size;
-    let mut i = 0;
-    while i < bytes.len() {
+    for b in bytes {
         at = place(links, at, n);
-        put_in(store, at, n % BYTES_A_PORTION, bytes[i]);
+        put_in(store, at, n % BYTES_A_PORTION, *b);
         n += 1;
-        i += 1;
     }
 }
 

@@ -1,6 +1,6 @@
 -- The half turn: a byte with its dots in the other order, rows whose bytes are so in the other order, rows shifted, and both together.
 -- Assumes nothing.
-use mathlib.Core.Path.{◌≡◌, refl, sym, ap, ◌∙◌}
+use mathlib.Core.Path.{◌≡◌, refl, sym, ap, subst, ◌∙◌}
 use mathlib.Core.Bool.{Bool, true, false, not, cond, ◌&&◌, ◌||◌, and-false}
 use mathlib.Core.List.{List}
 use Prim.Native.Nat.{ℕ, ◌+◌, ◌-◌, ◌*◌, ◌/◌, ◌%◌, ◌^◌, ◌≤◌, ◌<◌, min}
@@ -123,6 +123,16 @@ module _ (m : ℕ) (p q : List ℕ) (i j a b : ℕ) (T : Turned m p q i j) (h : 
         after = λ k s.
             get_or-set_other (set q i b) (j - 1) k a 0 (λ e. omega (arith, T.sum)) ∙ get_or-set_other q i k b 0 (λ e. omega (arith, T.sum)) ∙ T.after k s;
       }
+
+-- the two bytes that stand i from the ends
+pub turned-next : (m : ℕ) (p q : List ℕ) (i a b : ℕ) → Turned m p q i (m - i) → i < m / 2 → a ≡ mirrored (get_or q i 0) → b ≡ mirrored (get_or q (m - 1 - i) 0)
+    → Turned m p (set (set q i b) (m - 1 - i) a) (i + 1) (m - (i + 1))
+turned-next m p q i a b T h ea eb =
+    let e : m - i - 1 ≡ m - 1 - i = omega arith in
+    let f : m - i - 1 ≡ m - (i + 1) = omega arith in
+    subst (λ (n : ℕ). Turned m p (set (set q i b) (m - 1 - i) a) (i + 1) n) f
+    (subst (λ (n : ℕ). Turned m p (set (set q i b) n a) (i + 1) (m - i - 1)) e
+    (turned-step m p q i (m - i) a b T (omega arith) ea (eb ∙ ap (λ (n : ℕ). mirrored (get_or q n 0)) (sym e))))
 
 pub turned-done : (n : ℕ) (p q : List ℕ) (i j : ℕ) → Bytes p → Turned (n * 76) p q i j → j ≤ i
     → q ≡ redrawn (λ x y o. cond (ltb y n) (dot_at p (607 - x) (n - 1 - y)) o) p

@@ -8,11 +8,10 @@ ghost use Rattle.std.specs.Prelude.{◌≡◌, cond, ◌&&◌, ◌+◌, ◌-◌,
 ghost use Rattle.dots.specs.Dots.{bytes_a_row, dots_a_row, bit_of, byte_of, dot_at, redrawn};
 ghost use Rattle.half_turn.specs.Turn.{turned};
 
-use boxes::ink_box;
+use boxes::{Area, Size, ink_box};
 use dots::{BYTES_A_ROW, DOTS_A_ROW, Ink};
-use ground::least;
 
-// A byte with its dots in the other order.
+// A byte with its dots in the other order. Not `reverse_bits`: the library's goes over the dots one at a time, and every byte of the label is mirrored.
 fn mirror(b: u8) -> u8
     ensures { result ≡ byte_of (λ k. bit_of b (7 - k)) }
 {
@@ -26,15 +25,13 @@ fn turn_rows(page: &mut [u8], n: usize)
     requires { n * bytes_a_row ≤ length page.old }
     ensures { page.new ≡ redrawn (λ x y o. cond (ltb y n) (dot_at page.old (dots_a_row - 1 - x) (n - 1 - y)) o) page.old }
 {
-    let mut i = 0;
-    let mut j = n * BYTES_A_ROW;
-    while i < j {
+    let end = n * BYTES_A_ROW;
+    for i in 0..end / 2 {
+        let j = end - 1 - i;
         let a = mirror(page[i]);
-        let b = mirror(page[j - 1]);
+        let b = mirror(page[j]);
         page[i] = b;
-        page[j - 1] = a;
-        i += 1;
-        j -= 1;
+        page[j] = a;
     }
 }
 
@@ -77,10 +74,8 @@ fn shift_rows(page: &mut [u8], s: usize)
         return;
     }
     let end = page.len() / BYTES_A_ROW * BYTES_A_ROW;
-    let mut i = 0;
-    while i < end {
+    for i in 0..end {
         shift_byte(page, i, s);
-        i += 1;
     }
 }
 
@@ -89,9 +84,19 @@ pub fn turn(page: &mut [u8], width: usize, length: usize)
     ensures { page.new ≡ turned width length page.old }
 {
     let rows = page.len() / BYTES_A_ROW;
-    let w = least(width, DOTS_A_ROW);
-    let l = least(length, rows);
+    let w = width.min(DOTS_A_ROW);
+    let l = length.min(rows);
     turn_rows(page, l);
     shift_rows(page, DOTS_A_ROW - w);
-    ink_box(page, Ink::White, DOTS_A_ROW, rows, 0, l, DOTS_A_ROW, rows);
+    let size = Size {
+        width: DOTS_A_ROW,
+        length: rows,
+    };
+    let below = Area {
+        x0: 0,
+        y0: l,
+        x1: DOTS_A_ROW,
+        y1: rows,
+    };
+    ink_box(page, Ink::White, size, below);
 }

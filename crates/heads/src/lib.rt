@@ -10,15 +10,8 @@ ghost use Rattle.heads.specs.Heads.{head_by, head_of, Behind, line_head, slant_h
 use grammar::row;
 use ground::byte;
 
-// The row of the grammar that a line's letters name.
-#[derive(Clone, Copy)]
-pub enum Head {
-    Row(usize),
-    Unknown,
-}
-
-// The row that a line's letters name.
-pub fn head_of(line: &[u8]) -> Head
+// The row of the grammar that a line's letters name, if they are a command's.
+pub fn head_of(line: &[u8]) -> Option<usize>
     ensures { result ≡ head_of line.now }
 {
     by_first(byte(line, 0), byte(line, 1), byte(line, 2))
@@ -57,114 +50,114 @@ fn pair_fault(a: u8, b: u8) -> usize
     if b == b'S' { 2 } else { 0 }
 }
 
-fn by_first(a: u8, b: u8, c: u8) -> Head
+fn by_first(a: u8, b: u8, c: u8) -> Option<usize>
     ensures { result ≡ head_by a b c }
 {
     match a {
-        b'Q' => Head::Row(row::LENGTH),
-        b'q' => Head::Row(row::WIDTH),
-        b'R' => Head::Row(row::ORIGIN),
+        b'Q' => Some(row::LENGTH),
+        b'q' => Some(row::WIDTH),
+        b'R' => Some(row::ORIGIN),
         b'Z' => turns(b),
         b'L' => lines(b, c),
-        b'X' => Head::Row(row::FRAME),
-        b'A' => Head::Row(row::TEXT),
-        b'B' => Head::Row(row::BARS),
+        b'X' => Some(row::FRAME),
+        b'A' => Some(row::TEXT),
+        b'B' => Some(row::BARS),
         b'G' => pictures(b),
         b'F' => forms(b),
         b'V' => variables(b),
-        b'C' => Head::Row(row::COUNTER),
+        b'C' => Some(row::COUNTER),
         b'?' => values(b),
-        b'P' => Head::Row(row::PRINT),
-        b'N' => Head::Row(row::WHITE),
+        b'P' => Some(row::PRINT),
+        b'N' => Some(row::WHITE),
         b'T' => clocks(b),
-        _ => Head::Unknown,
+        _ => None,
     }
 }
 
-fn turns(b: u8) -> Head
+fn turns(b: u8) -> Option<usize>
     ensures { Behind "Z" b result }
 {
     match b {
-        b'T' => Head::Row(row::ZT),
-        b'B' => Head::Row(row::ZB),
-        _ => Head::Unknown,
+        b'T' => Some(row::ZT),
+        b'B' => Some(row::ZB),
+        _ => None,
     }
 }
 
-fn lines(b: u8, c: u8) -> Head
+fn lines(b: u8, c: u8) -> Option<usize>
     ensures { result ≡ line_head b c }
 {
     match b {
-        b'O' => Head::Row(row::LO),
-        b'E' => Head::Row(row::LE),
-        b'W' => Head::Row(row::LW),
+        b'O' => Some(row::LO),
+        b'E' => Some(row::LE),
+        b'W' => Some(row::LW),
         b'S' => slants(c),
-        _ => Head::Unknown,
+        _ => None,
     }
 }
 
-fn slants(c: u8) -> Head
+fn slants(c: u8) -> Option<usize>
     ensures { result ≡ slant_head c }
 {
     match c {
-        b'E' => Head::Row(row::LSE),
-        b'W' => Head::Row(row::LSW),
-        _ => Head::Row(row::LS),
+        b'E' => Some(row::LSE),
+        b'W' => Some(row::LSW),
+        _ => Some(row::LS),
     }
 }
 
-fn pictures(b: u8) -> Head
+fn pictures(b: u8) -> Option<usize>
     ensures { Behind "G" b result }
 {
     match b {
-        b'G' => Head::Row(row::GG),
-        b'K' => Head::Row(row::GK),
-        b'I' => Head::Row(row::GI),
-        b'M' => Head::Row(row::GM),
-        _ => Head::Unknown,
+        b'G' => Some(row::GG),
+        b'K' => Some(row::GK),
+        b'I' => Some(row::GI),
+        b'M' => Some(row::GM),
+        _ => None,
     }
 }
 
-fn forms(b: u8) -> Head
+fn forms(b: u8) -> Option<usize>
     ensures { Behind "F" b result }
 {
     match b {
-        b'S' => Head::Row(row::FS),
-        b'E' => Head::Row(row::FE),
-        b'R' => Head::Row(row::FR),
-        b'K' => Head::Row(row::FK),
-        b'I' => Head::Row(row::FI),
-        b'P' => Head::Row(row::FP),
-        _ => Head::Unknown,
+        b'S' => Some(row::FS),
+        b'E' => Some(row::FE),
+        b'R' => Some(row::FR),
+        b'K' => Some(row::FK),
+        b'I' => Some(row::FI),
+        b'P' => Some(row::FP),
+        _ => None,
     }
 }
 
-fn variables(b: u8) -> Head
+fn variables(b: u8) -> Option<usize>
     ensures { Behind "V" b result }
 {
     match b {
-        b'C' => Head::Row(row::VC),
-        _ => Head::Row(row::VARIABLE),
+        b'C' => Some(row::VC),
+        _ => Some(row::VARIABLE),
     }
 }
 
-fn clocks(b: u8) -> Head
+fn clocks(b: u8) -> Option<usize>
     ensures { Behind "T" b result }
 {
     match b {
-        b'S' => Head::Row(row::TS),
-        b'D' => Head::Row(row::TD),
-        b'T' => Head::Row(row::TT),
-        _ => Head::Unknown,
+        b'S' => Some(row::TS),
+        b'D' => Some(row::TD),
+        b'T' => Some(row::TT),
+        _ => None,
     }
 }
 
-fn values(b: u8) -> Head
+fn values(b: u8) -> Option<usize>
     ensures { Behind "?" b result }
 {
     match b {
-        b'V' => Head::Row(row::SET_VARIABLE),
-        b'C' => Head::Row(row::SET_COUNTER),
-        _ => Head::Unknown,
+        b'V' => Some(row::SET_VARIABLE),
+        b'C' => Some(row::SET_COUNTER),
+        _ => None,
     }
 }

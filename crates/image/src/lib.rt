@@ -24,13 +24,13 @@ pub const IMAGE: usize = 83;
 fn pair(a: u8, b: u8) -> u16
     ensures { result ≡ a + 256 * b }
 {
-    a as u16 + 256 * (b as u16)
+    u16::from_le_bytes([a, b])
 }
 
 fn joined(low: u16, high: u16) -> u32
     ensures { result ≡ low + 65536 * high }
 {
-    low as u32 + 65536 * (high as u32)
+    u32::from(low) + 65536 * u32::from(high)
 }
 
 fn word_at(image: &[u8], at: usize) -> u16
@@ -54,11 +54,9 @@ fn counters_of(image: &[u8]) -> Counters
 {
     let mut set = [0u8; 10];
     let mut value = [0u32; 10];
-    let mut k: usize = 0;
-    while k < 10 {
+    for k in 0..10 {
         set[k] = byte(image, 15 + 5 * k);
         value[k] = value_at(image, 16 + 5 * k);
-        k += 1;
     }
     Counters { set, value }
 }
@@ -176,10 +174,8 @@ fn put_counters(image: &mut [u8], c: Counters)
 {
     let set = c.set;
     let value = c.value;
-    let mut k: usize = 0;
-    while k < 10 {
+    for k in 0..10 {
         put_counter(image, 15 + 5 * k, set[k], value[k]);
-        k += 1;
     }
 }
 

@@ -23,10 +23,8 @@ pub fn shift(window: &mut [u8], start: usize, end: usize) -> usize
     ensures { (result ≡ length (drop start (take end window.old))) × (window.new ≡ sets window.old 0 (drop start (take end window.old))) }
 {
     let n = less(least(end, window.len()), start);
-    let mut i: usize = 0;
-    while i < n {
+    for i in 0..n {
         window[i] = window[start + i];
-        i += 1;
     }
     n
 }

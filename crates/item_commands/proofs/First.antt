@@ -1,5 +1,6 @@
 -- The verdict of an item is the first of the table's rows 12 to 15 that applies to it.
 -- Assumes nothing.
+use Rattle.std.proofs.Common.{Result, Ok, Err}
 use mathlib.Core.Path.{◌≡◌, refl, sym, ap, ◌∙◌}
 use mathlib.Core.Bool.{Bool, true, false, not, cond}
 use mathlib.Core.List.{List, [], ◌∷◌}
@@ -10,15 +11,15 @@ use Rattle.elements.specs.Elements.{elements}
 use Rattle.elements.specs.declared.Element.{Element}
 use Rattle.declarations.specs.declared.Declared.{Declared}
 use Rattle.declarations.specs.Declarations.{variable_declared, counter_declared}
-use Rattle.reach.specs.declared.DataAnswer.TheVariants.{Good as InReach, Undeclared as Unnamed, Past as TooFar}
+use Rattle.reach.specs.declared.DataFault.TheVariants.{Undeclared as Unnamed, Past as TooFar}
 use Rattle.reach.specs.Answers.{undeclared_by, past_by, some_of, leftmost, data_answer}
 use Rattle.summary.specs.Summary.{judged as fit_always}
 use Rattle.fitness.specs.Judged.{with_fit, data_judged}
 use Rattle.grammar.specs.Named.{DECLARED-AT}
 use Rattle.grammar.specs.declared.Item.{Item}
 use Rattle.grammar.specs.declared.Item.TheVariants.{Origin, Variable, Counter, Text, Bars, Box, Frame, Slant, Picture, Format}
-use Rattle.recording.specs.declared.Verdict.{Verdict}
-use Rattle.recording.specs.declared.Verdict.TheVariants.{Taken as Fine, Again as Before, Undeclared as Unknown, Past as Reaches, Unfit as Wrong}
+use Rattle.recording.specs.declared.Refusal.{Refusal}
+use Rattle.recording.specs.declared.Refusal.TheVariants.{Again as Before, Undeclared as Unknown, Past as Reaches, Unfit as Wrong}
 use Rattle.recording.specs.Judged.{of_data, judged}
 use Rattle.answers.specs.declared.Answer.{Answer}
 use Rattle.answers.specs.declared.Answer.TheVariants.{Again, Undeclared, Past, Unfit}
@@ -38,15 +39,15 @@ use Rattle.item_commands.specs.Items.{
 }
 
 -- the first of four tests that applies, where 13, 14 and 15 point to u, p and at
-abbrev pub first_verdict : (u p at : ℕ) → Bool → Bool → Bool → Bool → Verdict
-first_verdict u p at a b c e = cond a (Before DECLARED-AT) (cond b (Unknown u) (cond c (Reaches p) (cond e (Wrong at) Fine)))
+abbrev pub first_verdict : (u p at : ℕ) → Bool → Bool → Bool → Bool → Result Unit Refusal
+first_verdict u p at a b c e = cond a (Err (Before DECLARED-AT)) (cond b (Err (Unknown u)) (cond c (Err (Reaches p)) (cond e (Err (Wrong at)) (Ok tt))))
 
-again-first : (b : Bool) → cond b (Before DECLARED-AT) Fine ≡ first_verdict 0 0 0 b false false false
+again-first : (b : Bool) → cond b (Err (Before DECLARED-AT)) (Ok tt) ≡ first_verdict 0 0 0 b false false false
 again-first true = refl
 again-first false = refl
 
 data-first :
-    (m n at : ℕ) (u p f : Bool) → of_data at (cond u (Unnamed m) (cond p (TooFar n) InReach)) f ≡ first_verdict m n at false u p (not f)
+    (m n at : ℕ) (u p f : Bool) → of_data at (cond u (Err (Unnamed m)) (cond p (Err (TooFar n)) (Ok tt))) f ≡ first_verdict m n at false u p (not f)
 data-first m n at true p f = refl
 data-first m n at false true f = refl
 data-first m n at false false true = refl
@@ -82,12 +83,12 @@ first-verdict d line (Format f) = refl
 -- ---- as the table's answers
 
 -- the answer of a verdict, or what comes after
-abbrev pub pick_answer_of : Verdict → List Row → Answer
-pick_answer_of Fine rows = answer_of rows
-pick_answer_of (Before p) rows = Again p
-pick_answer_of (Unknown p) rows = Undeclared p
-pick_answer_of (Reaches p) rows = Past p
-pick_answer_of (Wrong p) rows = Unfit p
+abbrev pub pick_answer_of : Result Unit Refusal → List Row → Answer
+pick_answer_of (Ok u) rows = answer_of rows
+pick_answer_of (Err (Before p)) rows = Again p
+pick_answer_of (Err (Unknown p)) rows = Undeclared p
+pick_answer_of (Err (Reaches p)) rows = Past p
+pick_answer_of (Err (Wrong p)) rows = Unfit p
 
 rows-first :
     (u p at : ℕ) (a b c e : Bool) (rows : List Row) →
@@ -107,18 +108,18 @@ fit-first d line it rows =
     (reaches_past d line (shown_by it))
     (unfit_data d line (shown_by it))
     rows
-    ∙ ap (λ (v : Verdict). pick_answer_of v rows) (sym (first-verdict d line it))
+    ∙ ap (λ (v : Result Unit Refusal). pick_answer_of v rows) (sym (first-verdict d line it))
 
 pub fit-answer : (d : Declared) (line : List ℕ) (it : Item) → verdict_answer (judged d line it) ≡ answer_of (fit_rows d line it [])
 unfolding answer_of
 fit-answer d line it = sym (fit-first d line it [] ∙ alone (judged d line it))
   where
-    alone : (v : Verdict) → pick_answer_of v [] ≡ verdict_answer v
-    alone Fine = refl
-    alone (Before p) = refl
-    alone (Unknown p) = refl
-    alone (Reaches p) = refl
-    alone (Wrong p) = refl
+    alone : (v : Result Unit Refusal) → pick_answer_of v [] ≡ verdict_answer v
+    alone (Ok u) = refl
+    alone (Err (Before p)) = refl
+    alone (Err (Unknown p)) = refl
+    alone (Err (Reaches p)) = refl
+    alone (Err (Wrong p)) = refl
 
 -- ---- the same of what judges data alone: 13, 14 and 15, and 13 and 14
 
@@ -134,7 +135,7 @@ unfolding data_answer answer_of
 judgement-first d line at es kind = by (some_of (undeclared_by d) es) (some_of (past_by d) es) (fit_always line d es kind)
   where
     by : (u p f : Bool) →
-        judgement_answer at (with_fit (cond u (Unnamed (leftmost (undeclared_by d) es)) (cond p (TooFar (leftmost (past_by d) es)) InReach)) f)
+        judgement_answer at (with_fit (cond u (Err (Unnamed (leftmost (undeclared_by d) es))) (cond p (Err (TooFar (leftmost (past_by d) es))) (Ok tt))) f)
         ≡ answer_of (row (Undeclared (leftmost (undeclared_by d) es)) u ∷ row (Past (leftmost (past_by d) es)) p ∷ row (Unfit at) (not f) ∷ [])
     by true p f = refl
     by false true f = refl
@@ -150,7 +151,7 @@ unfolding data_answer answer_of
 data-answer-first d es = by (some_of (undeclared_by d) es) (some_of (past_by d) es)
   where
     by : (u p : Bool) →
-        data_answer_of (cond u (Unnamed (leftmost (undeclared_by d) es)) (cond p (TooFar (leftmost (past_by d) es)) InReach))
+        data_answer_of (cond u (Err (Unnamed (leftmost (undeclared_by d) es))) (cond p (Err (TooFar (leftmost (past_by d) es))) (Ok tt)))
         ≡ answer_of (row (Undeclared (leftmost (undeclared_by d) es)) u ∷ row (Past (leftmost (past_by d) es)) p ∷ [])
     by true p = refl
     by false true = refl

@@ -1,23 +1,23 @@
 -- R, V, C, A, B, LO, LE, LW, LS, LSE, LSW, X, GG, TD, TT: their rows of the table, and what they do outside a form.
 -- Assumes nothing.
-use Rattle.std.specs.Prelude.{ℕ, Bool, true, false, not, List, [], ◌∷◌}
+use Rattle.std.specs.Prelude.{ℕ, Bool, true, false, not, List, [], ◌∷◌, Result, Ok, Err}
 use Rattle.declarations.specs.declared.Declared.{Declared}
 use Rattle.declarations.specs.Declarations.{outside_forms, variable_declared, counter_declared}
 use Rattle.kinds.specs.declared.Kind.{Kind}
 use Rattle.kinds.specs.declared.Kind.TheVariants.{Shown}
 use Rattle.elements.specs.Elements.{elements}
-use Rattle.reach.specs.declared.DataAnswer.{DataAnswer}
-use Rattle.reach.specs.declared.DataAnswer.TheVariants.{Good as InReach, Undeclared as Unnamed, Past as TooFar}
-use Rattle.fitness.specs.declared.Judgement.{Judgement}
-use Rattle.fitness.specs.declared.Judgement.TheVariants.{Fit as AlwaysFit, Undeclared as NamesUndeclared, Past as GoesPast, Unfit as NotFit}
+use Rattle.reach.specs.declared.DataFault.{DataFault}
+use Rattle.reach.specs.declared.DataFault.TheVariants.{Undeclared as Unnamed, Past as TooFar}
+use Rattle.fitness.specs.declared.NotFit.{NotFit}
+use Rattle.fitness.specs.declared.NotFit.TheVariants.{Undeclared as NamesUndeclared, Past as GoesPast, Unfit as Unfits}
 use Rattle.reach.specs.Answers.{undeclared_by, past_by, some_of, leftmost}
 use Rattle.summary.specs.Summary.{judged as fit_always}
 use Rattle.elements.specs.declared.What.{What}
 use Rattle.grammar.specs.Named.{DECLARED-AT}
 use Rattle.grammar.specs.declared.Item.{Item}
 use Rattle.grammar.specs.declared.Item.TheVariants.{Origin, Variable, Counter, Text, Bars, Box, Frame, Slant, Picture, Format}
-use Rattle.recording.specs.declared.Verdict.{Verdict}
-use Rattle.recording.specs.declared.Verdict.TheVariants.{Taken as Fine, Again as Before, Undeclared as Unknown, Past as Reaches, Unfit as Wrong}
+use Rattle.recording.specs.declared.Refusal.{Refusal}
+use Rattle.recording.specs.declared.Refusal.TheVariants.{Again as Before, Undeclared as Unknown, Past as Reaches, Unfit as Wrong}
 use Rattle.recording.specs.Judged.{has_picture}
 use Rattle.item_drawing.specs.Draw.{setting, draws_item}
 use Rattle.session.specs.declared.Session.{Session}
@@ -104,24 +104,24 @@ item_rows d directory line it rows = row Missing (not (has_picture directory lin
 
 -- ---- the table's answers of what judges an item: the code walks its data once and gives the first that applies (proofs/First.antt)
 
-abbrev pub verdict_answer : Verdict → Answer
-verdict_answer Fine = Taken
-verdict_answer (Before p) = Again p
-verdict_answer (Unknown p) = Undeclared p
-verdict_answer (Reaches p) = Past p
-verdict_answer (Wrong p) = Unfit p
+abbrev pub verdict_answer : Result Unit Refusal → Answer
+verdict_answer (Ok u) = Taken
+verdict_answer (Err (Before p)) = Again p
+verdict_answer (Err (Unknown p)) = Undeclared p
+verdict_answer (Err (Reaches p)) = Past p
+verdict_answer (Err (Wrong p)) = Unfit p
 
 -- of data from `at` on
-abbrev pub judgement_answer : ℕ → Judgement → Answer
-judgement_answer at AlwaysFit = Taken
-judgement_answer at (NamesUndeclared p) = Undeclared p
-judgement_answer at (GoesPast p) = Past p
-judgement_answer at NotFit = Unfit at
+abbrev pub judgement_answer : ℕ → Result Unit NotFit → Answer
+judgement_answer at (Ok u) = Taken
+judgement_answer at (Err (NamesUndeclared p)) = Undeclared p
+judgement_answer at (Err (GoesPast p)) = Past p
+judgement_answer at (Err Unfits) = Unfit at
 
-abbrev pub data_answer_of : DataAnswer → Answer
-data_answer_of InReach = Taken
-data_answer_of (Unnamed p) = Undeclared p
-data_answer_of (TooFar p) = Past p
+abbrev pub data_answer_of : Result Unit DataFault → Answer
+data_answer_of (Ok u) = Taken
+data_answer_of (Err (Unnamed p)) = Undeclared p
+data_answer_of (Err (TooFar p)) = Past p
 
 -- ---- what an item does outside a form
 

@@ -13,21 +13,22 @@ ghost use Rattle.item_commands.specs.Items.{verdict_answer, item_rows, based_by,
 
 use answers::{Answer, is_taken};
 use declarations::Declared;
-use grammar::Item;
-use recording::Verdict;
+use grammar::{Item, Origin};
+use item_drawing::{Setting, Size, draw_item};
+use recording::Refusal;
 use results::{Done, answered, taken};
 use session::{Session, sixteen_bits};
 
-// What a verdict answers: [12] to [15] with their places, or taken.
-fn answer_of(v: Verdict) -> Answer
+// What recording's verdict answers: [12] to [15] with their places, or taken. A function and no From: both types are those of other crates.
+fn answer_of(v: Result<(), Refusal>) -> Answer
     ensures { result ≡ verdict_answer v }
 {
     match v {
-        Verdict::Taken => Answer::Taken,
-        Verdict::Again(p) => Answer::Again(p),
-        Verdict::Undeclared(p) => Answer::Undeclared(p),
-        Verdict::Past(p) => Answer::Past(p),
-        Verdict::Unfit(p) => Answer::Unfit(p),
+        Ok(()) => Answer::Taken,
+        Err(Refusal::Again(p)) => Answer::Again(p),
+        Err(Refusal::Undeclared(p)) => Answer::Undeclared(p),
+        Err(Refusal::Past(p)) => Answer::Past(p),
+        Err(Refusal::Unfit(p)) => Answer::Unfit(p),
     }
 }
 
@@ -86,15 +87,23 @@ pub fn run_item<'a>(
     if !is_taken(a) {
         return answered(a, session);
     }
-    let counters = session.counters;
-    let clock = session.clock;
-    let width = session.width as usize;
-    let length = session.length as usize;
-    let x = session.x as usize;
-    let y = session.y as usize;
-    item_drawing::draw_item(
-        background, font, store, links, directory, values, counters, clock, width, length, d, x, y,
-        line, item,
-    );
+    let s = Setting {
+        font,
+        store,
+        links,
+        directory,
+        values,
+        counters: session.counters,
+        clock: session.clock,
+        size: Size {
+            width: session.width as usize,
+            length: session.length as usize,
+        },
+    };
+    let origin = Origin {
+        x: session.x as usize,
+        y: session.y as usize,
+    };
+    draw_item(background, s, d, origin, line, item);
     taken(based_by(session, item))
 }

@@ -1,25 +1,20 @@
 -- What an item draws, on a label's page or on the background.
 -- Assumes nothing.
-use Rattle.std.specs.Prelude.{ℕ, ◌+◌, min, true, List, [], take}
-use Rattle.elements.specs.Elements.{elements}
+use Rattle.std.specs.Prelude.{ℕ, ◌+◌, min, true, List, [], take, None, Option, Some}
+use Rattle.pieces.specs.Elements.{elements}
 use Rattle.declarations.specs.declared.Declared.{Declared}
 use Rattle.counters.specs.declared.Counters.{Counters}
 use Rattle.calendar.specs.declared.Clock.{Clock}
 use Rattle.pieces.specs.Data.{assembled, values_in}
-use Rattle.finding.specs.declared.Found.{Found}
-use Rattle.finding.specs.declared.Found.TheVariants.{At, Nothing as Absent}
 use Rattle.finding.specs.Find.{titled_at}
 use Rattle.contents.specs.Content.{content}
-use Rattle.dots.specs.declared.Ink.{Ink}
-use Rattle.dots.specs.declared.Ink.TheVariants.{Black, White, Inverted}
+use Rattle.dots.specs.declared.Ink.TheVariants.{Black}
 use Rattle.dots.specs.Dots.{drawn, cut, box}
 use Rattle.frames.specs.Frame.{frame}
 use Rattle.slanted_lines.specs.Slanted.{slanted}
 use Rattle.picture.specs.Shape.{pictured}
 use Rattle.text.specs.Text.{text_drawn}
 use Rattle.lined.specs.Lined.{bars_with}
-use Rattle.grammar.specs.declared.Ink.{Ink as Said}
-use Rattle.grammar.specs.declared.Ink.TheVariants.{Black as black, White as white, Inverted as inverted}
 use Rattle.grammar.specs.declared.Item.{Item}
 use Rattle.grammar.specs.declared.Item.TheVariants.{Origin, Variable, Counter, Text, Bars, Box, Frame, Slant, Picture, Format}
 use Rattle.parts.specs.Names.{packed_of}
@@ -39,20 +34,14 @@ pub record Setting : Type 0 where
 abbrev pub setting : List ℕ → List ℕ → List ℕ → List ℕ → List ℕ → Counters → Clock → ℕ → ℕ → Setting
 setting f s l d v c t w n = record { font = f; store = s; links = l; directory = d; values = v; counters = c; clock = t; width = w; length = n }
 
--- `LO` black, `LW` white, `LE` inverts, and so `LS`, `LSW`, `LSE`
-abbrev pub ink_of : Said → Ink
-ink_of black = Black
-ink_of white = White
-ink_of inverted = Inverted
-
 -- the bytes that data from a place on shows, at most 128
 unfoldable pub shown : Setting → Declared → List ℕ → ℕ → List ℕ
 shown g d line at = take 128 (assembled line d (values_in g.values g.counters g.clock) (elements line at))
 
 -- the bytes of an entry that was looked for; none, where it was not found
-abbrev pub bytes_at : List ℕ → List ℕ → List ℕ → Found → List ℕ
-bytes_at store links directory (At i) = content store links directory i
-bytes_at store links directory Absent = []
+abbrev pub bytes_at : List ℕ → List ℕ → List ℕ → Option ℕ → List ℕ
+bytes_at store links directory (Some i) = content store links directory i
+bytes_at store links directory None = []
 
 -- the bytes of the picture of a name; none, where it is not stored
 unfoldable pub picture_bytes : Setting → List ℕ → List ℕ
@@ -73,11 +62,11 @@ draws_item g d x y line (Text t) page =
 draws_item g d x y line (Bars b) page =
     bars_with g.width g.length (far x b.x) (far y b.y) b.r b.kind b.e b.f b.g b.under g.font (shown g d line b.at) page
 draws_item g d x y line (Box r) page =
-    drawn (ink_of r.ink) (cut g.width g.length (box (far x r.a) (far y r.b) (far (far x r.a) r.c) (far (far y r.b) r.d))) page
+    drawn r.ink (cut g.width g.length (box (far x r.a) (far y r.b) (far (far x r.a) r.c) (far (far y r.b) r.d))) page
 draws_item g d x y line (Frame f) page =
     drawn Black (cut g.width g.length (frame (far x f.a) (far y f.b) f.c (far x f.d) (far y f.e))) page
 draws_item g d x y line (Slant l) page =
-    drawn (ink_of l.ink) (cut g.width g.length (slanted (far x l.a) (far y l.b) l.c (far x l.d) (far y l.e))) page
+    drawn l.ink (cut g.width g.length (slanted (far x l.a) (far y l.b) l.c (far x l.d) (far y l.e))) page
 draws_item g d x y line (Format f) page = page
 draws_item g d x y line (Picture p) page =
     drawn Black (cut g.width g.length (pictured (picture_bytes g (packed_of line p.at p.length)) (far x p.a) (far y p.b))) page

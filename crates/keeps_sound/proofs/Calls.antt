@@ -1,5 +1,6 @@
 -- Every call leads from a sound world to a sound one: a label call (Labels), and here each command call, taken or refused.
 -- Assumes nothing.
+use Rattle.std.proofs.Common.{Result, Ok, Err}
 use mathlib.Core.Path.{◌≡◌, refl, subst}
 use mathlib.Core.Bool.{Bool, true, false, ◌||◌, cond}
 use mathlib.Core.List.{List}
@@ -8,10 +9,9 @@ use native.Mathlib.Omega.{arith}
 use lib.ListN.{length, get_or, take, length-take}
 use lib.Dec.{eqb, ltb, leb}
 use borrow.Author.Tests.{ltb-true, ltb-false}
+use Rattle.read.specs.declared.Fault.{Fault}
 use Rattle.classes.specs.Bytes.{run}
 use Rattle.classes.specs.declared.Class.TheVariants.{Inside}
-use Rattle.finding.specs.declared.Found.{Found}
-use Rattle.finding.specs.declared.Found.TheVariants.{At, Nothing}
 use Rattle.finding.specs.Find.{recorded}
 use Rattle.grammar.specs.declared.Command.{Command}
 use Rattle.grammar.specs.declared.Command.TheVariants.{Item as item, End, Page, Forms, Pictures, Values, Listing, Clock}
@@ -27,23 +27,14 @@ use Rattle.grammar.specs.declared.ListingCommand.{ListingCommand}
 use Rattle.grammar.specs.declared.ListingCommand.TheVariants.{Forms as ListForms, Pictures as ListPictures, Form as ListForm}
 use Rattle.front.specs.declared.Front.{Front}
 use Rattle.front.specs.declared.Front.TheVariants.{Short, Long as LongLine, Idle, Line}
-use Rattle.read.specs.declared.Read.{Read}
-use Rattle.read.specs.declared.Read.TheVariants.{Taken as Reads, Refused}
 use Rattle.read.specs.Commands.{read_of}
 use Rattle.front.specs.Front.{front_of, line_front, asked}
 use Rattle.sound.specs.Sound.{sound}
 use Rattle.session.specs.declared.Session.{Session}
-use Rattle.answers.specs.declared.Answer.TheVariants.{
-  Taken,
-  Lengths,
-  Font,
-  Unsound,
-  Owing,
-}
 use Rattle.answers.specs.Answers.{number_of, is_taken, answer_of}
 use Rattle.lent.specs.Lent.{World, rows_of, wrong_lent}
-use Rattle.commands.specs.Rows.{run_rows, placed_rows, line_rows}
-use Rattle.commands.specs.Does.{runs, placed, does_line}
+use Rattle.calls.specs.Rows.{run_rows, placed_rows, line_rows}
+use Rattle.calls.specs.Does.{runs, placed, does_line}
 use Rattle.unread.specs.Front.{line_of, more_of}
 use Rattle.calls.specs.Table.{front_rows, command_table}
 use Rattle.calls.specs.Outcomes.{After}
@@ -58,6 +49,14 @@ use Rattle.keeps_sound.proofs.Values.{keeps-retrieve, keeps-variable, keeps-coun
 use Rattle.keeps_sound.proofs.Erasing.{keeps-erase-form, keeps-erase-picture}
 use Rattle.keeps_sound.proofs.Starting.{keeps-start, keeps-picture}
 use Rattle.keeps_sound.proofs.Recording.{keeps-records}
+use Rattle.std.specs.Prelude.{None, Option, Some}
+use Rattle.answers.specs.declared.Answer.TheVariants.{
+  Taken,
+  Lengths,
+  Font,
+  Unsound,
+  Owing,
+}
 
 -- ---- "A line is up to 255 bytes"
 
@@ -91,27 +90,27 @@ line-few s n k e =
 -- ---- a command that is taken
 
 module _ (font : List ℕ) (w : World) (s : Session) (line more : List ℕ) (room : ℕ) where
-  page-good : (c : PageCommand) → Good s w → s.owed ≡ 0 → read_of (rows_of w) line ≡ Reads (Page c)
+  page-good : (c : PageCommand) → Good s w → s.owed ≡ 0 → read_of (rows_of w) line ≡ Ok (Page c)
       → Good (runs font w s line more (Page c)).session (runs font w s line more (Page c)).world
   page-good (Length l) g none r = keeps-length font w s line more g l r
   page-good (Width m) g none r = keeps-width font w s line more g m r
   page-good (Turn x) g none r = keeps-turn font w s line more g x
   page-good White g none r = keeps-white font w s line more g none
 
-  form-good : (c : FormCommand) → Good s w → recorded w.directory ≡ Nothing → s.owed ≡ 0 → read_of (rows_of w) line ≡ Reads (Forms c)
+  form-good : (c : FormCommand) → Good s w → recorded w.directory ≡ None → s.owed ≡ 0 → read_of (rows_of w) line ≡ Ok (Forms c)
       → answer_of (run_rows w s line more room (Forms c)) ≡ Taken
       → Good (runs font w s line more (Forms c)).session (runs font w s line more (Forms c)).world
   form-good (Start n) g quiet none r a = keeps-start s w g none quiet font line more room n r a
   form-good (Retrieve n) g quiet none r a = keeps-retrieve font w s line more g n quiet none
   form-good (EraseForm n) g quiet none r a = keeps-erase-form s w g none font line more n
 
-  picture-good : (c : PictureCommand) → Good s w → recorded w.directory ≡ Nothing → s.owed ≡ 0 → read_of (rows_of w) line ≡ Reads (Pictures c)
+  picture-good : (c : PictureCommand) → Good s w → recorded w.directory ≡ None → s.owed ≡ 0 → read_of (rows_of w) line ≡ Ok (Pictures c)
       → answer_of (run_rows w s line more room (Pictures c)) ≡ Taken
       → Good (runs font w s line more (Pictures c)).session (runs font w s line more (Pictures c)).world
   picture-good (Store p) g quiet none r a = keeps-picture s w g none quiet font line more room p r a
   picture-good (ErasePicture n) g quiet none r a = keeps-erase-picture s w g none font line more n
 
-  value-good : (c : ValueCommand) → Good s w → Tens s → recorded w.directory ≡ Nothing → s.owed ≡ 0 → read_of (rows_of w) line ≡ Reads (Values c)
+  value-good : (c : ValueCommand) → Good s w → Tens s → recorded w.directory ≡ None → s.owed ≡ 0 → read_of (rows_of w) line ≡ Ok (Values c)
       → answer_of (run_rows w s line more room (Values c)) ≡ Taken
       → Good (runs font w s line more (Values c)).session (runs font w s line more (Values c)).world
   value-good (EnterVariable v) g t quiet none r a = keeps-variable font w s line more g v none
@@ -124,7 +123,7 @@ module _ (font : List ℕ) (w : World) (s : Session) (line more : List ℕ) (roo
   listing-good ListPictures g = keeps-pictures font w s line more g
   listing-good (ListForm n) g = keeps-printed font w s line more g n
 
-  run-good : (c : Command) → Good s w → Tens s → recorded w.directory ≡ Nothing → s.owed ≡ 0 → read_of (rows_of w) line ≡ Reads c
+  run-good : (c : Command) → Good s w → Tens s → recorded w.directory ≡ None → s.owed ≡ 0 → read_of (rows_of w) line ≡ Ok c
       → answer_of (run_rows w s line more room c) ≡ Taken → Good (runs font w s line more c).session (runs font w s line more c).world
   run-good (item it) g t quiet none r a = keeps-item font w s line more g it r
   run-good End g t quiet none r a = g
@@ -138,21 +137,21 @@ module _ (font : List ℕ) (w : World) (s : Session) (line more : List ℕ) (roo
 -- ---- a line that is taken
 
 module _ (font : List ℕ) (w : World) (s : Session) (g : Good s w) (t : Tens s) where
-  placed-good : (line more : List ℕ) (room : ℕ) (f : Found) (c : Command) → length line ≤ 255 → s.owed ≡ 0 → recorded w.directory ≡ f
-      → read_of (rows_of w) line ≡ Reads c → answer_of (placed_rows w s line more room c f) ≡ Taken
+  placed-good : (line more : List ℕ) (room : ℕ) (f : Option ℕ) (c : Command) → length line ≤ 255 → s.owed ≡ 0 → recorded w.directory ≡ f
+      → read_of (rows_of w) line ≡ Ok c → answer_of (placed_rows w s line more room c f) ≡ Taken
       → Good (placed font w s line more c f).session (placed font w s line more c f).world
-  placed-good line more room (At i) c short none q r a = keeps-records s w g i q line c r short a
-  placed-good line more room Nothing c short none q r a = run-good font w s line more room c g t q none r a
+  placed-good line more room (Some i) c short none q r a = keeps-records s w g i q line c r short a
+  placed-good line more room None c short none q r a = run-good font w s line more room c g t q none r a
 
   -- a line that was read: [8] does not apply
-  line-good : (line more : List ℕ) (room : ℕ) (r : Read) → length line ≤ 255 → read_of (rows_of w) line ≡ r
+  line-good : (line more : List ℕ) (room : ℕ) (r : Result Command Fault) → length line ≤ 255 → read_of (rows_of w) line ≡ r
       → answer_of (line_rows w s line more room r) ≡ Taken → Good (does_line font w s line more r).session (does_line font w s line more r).world
   unfolding is_taken number_of
-  line-good line more room (Reads c) short r a =
+  line-good line more room (Ok c) short r a =
       let h = clear Owing (ltb 0 s.owed) _ refl a in
       let none : s.owed ≡ 0 = omega (arith, ltb-false 0 s.owed h.0) in
       placed-good line more room (recorded w.directory) c short none refl r h.1
-  line-good line more room (Refused f) short r a = g
+  line-good line more room (Err f) short r a = g
 
   front-good : (input : List ℕ) (room : ℕ) (f : Front) → front_of input ≡ f → answer_of (front_rows w s input room f) ≡ Taken
       → Good (does_front font w s input f).session (does_front font w s input f).world

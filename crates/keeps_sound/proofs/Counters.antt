@@ -1,5 +1,6 @@
 -- The counters of a session: what a command leaves of them and of the active form, and that a set one has its form.
 -- Assumes nothing.
+use Rattle.std.proofs.Common.{Ok, Err}
 use mathlib.Core.Path.{◌≡◌, refl, sym, ap, ◌∙◌}
 use mathlib.Core.Bool.{Bool, true, false, cond, true≢false}
 use mathlib.Core.List.{List}
@@ -7,15 +8,14 @@ use mathlib.Core.Logic.{⊎_elim}
 use Prim.Native.Nat.{ℕ, ◌<◌, min}
 use lib.ListN.{set}
 use lib.Dec.{eqb, ltb}
-use Rattle.finding.specs.declared.Found.{Found}
-use Rattle.finding.specs.declared.Found.TheVariants.{At, Nothing}
+use Rattle.std.specs.Prelude.{None, Option, Some}
 use Rattle.store.specs.Entry.{entries, entry, kind}
 use Rattle.declarations.specs.declared.Declared.{Declared}
-use Rattle.declarations.specs.declared.Entered.TheVariants.{Taken as Enters, Undeclared as NotDeclared, Unfit as DoesNotFit}
+use Rattle.declarations.specs.declared.Refused.TheVariants.{Undeclared as NotDeclared, Unfit as DoesNotFit}
 use Rattle.declarations.specs.Declarations.{width_at, counter_declared, nothing}
 use Rattle.declarations.proofs.Tenths.{tenth-none}
 use Rattle.counters.specs.declared.Counters.{Counters}
-use Rattle.counters.specs.Counters.{ten_to, counters, counter_set, counted, counter_entered}
+use Rattle.counters.specs.Counters.{ten_to, counters, counter_set, counter_entered, counters_after}
 use Rattle.counters.proofs.Sound.{set-facts}
 use Rattle.values.proofs.Sound.{counter_at}
 use Rattle.forms.specs.Form.{declared_of}
@@ -37,7 +37,7 @@ use Rattle.results.specs.World.{State, memory_of, inactive}
 use Rattle.results.specs.Named.{place_of, named, erased_named, erased_every}
 use Rattle.form_commands.specs.Forms.{erased_form}
 use Rattle.item_commands.specs.Items.{based_by}
-use Rattle.commands.specs.Does.{records, runs, placed}
+use Rattle.calls.specs.Does.{records, runs, placed}
 use Rattle.store_sound.proofs.Facts.{sound-facts}
 use Rattle.keeps_sound.specs.Good.{Good}
 use Rattle.keeps_sound.proofs.Stored.{activity-facts, active-is, bytes-none}
@@ -74,19 +74,19 @@ module _ (font : List ℕ) (w : World) (s : Session) (line more : List ℕ) (P :
   based-left (Format f) = same
 
   entered-left :
-      (d : Declared) (n v : ℕ) → P (entered n v) s.active → P (counter_entered d s.counters n v).counters s.active
+      (d : Declared) (n v : ℕ) → P (entered n v) s.active → P (counters_after s.counters (counter_entered d s.counters n v)) s.active
   unfolding counter_entered
   entered-left d n v p = by (counter_declared d n) (ltb v (ten_to (width_at d n)))
     where
       by : (a b : Bool) →
-          P (cond a (cond b (counted Enters (entered n v)) (counted DoesNotFit s.counters)) (counted NotDeclared s.counters)).counters s.active
+          P (counters_after s.counters (cond a (cond b (Ok (entered n v)) (Err DoesNotFit)) (Err NotDeclared))) s.active
       by true true = p
       by true false = same
       by false b = same
 
-  erased-left : (f : Found) → Left (erased_named s w f)
-  erased-left (At i) = same
-  erased-left Nothing = same
+  erased-left : (f : Option ℕ) → Left (erased_named s w f)
+  erased-left (Some i) = same
+  erased-left None = same
 
   run-left : (c : Command) → Entering c → Left (runs font w s line more c)
   run-left (item it) p = based-left it
@@ -121,9 +121,9 @@ module _ (font : List ℕ) (w : World) (s : Session) (line more : List ℕ) (P :
   record-left i (Listing c) = same
   record-left i (Clock c) = same
 
-  pub placed-left : (f : Found) (c : Command) → Entering c → P (placed font w s line more c f).session.counters (placed font w s line more c f).session.active
-  placed-left (At i) c p = record-left i c
-  placed-left Nothing c p = run-left c p
+  pub placed-left : (f : Option ℕ) (c : Command) → Entering c → P (placed font w s line more c f).session.counters (placed font w s line more c f).session.active
+  placed-left (Some i) c p = record-left i c
+  placed-left None c p = run-left c p
 
 -- ---- a set counter
 

@@ -9,8 +9,7 @@ use lib.ListN.{get_or}
 use lib.Dec.{eqb}
 use borrow.Author.Tests.{ne_eqb, eqb-false}
 use Rattle.cells.proofs.Scan.{lowest-passes}
-use Rattle.finding.specs.declared.Found.{Found}
-use Rattle.finding.specs.declared.Found.TheVariants.{At, Nothing}
+use Rattle.std.specs.Prelude.{None, Option, Some}
 use Rattle.store.specs.Entry.{entries, entry, kind, of_kind}
 use Rattle.finding.specs.Find.{same_name, titled, titled_at}
 use Rattle.finding.proofs.Finding.{at-says}
@@ -34,7 +33,7 @@ use Rattle.results.specs.Named.{named, erased_named, erased_every}
 use Rattle.session.specs.Session.{sixteen_bits}
 use Rattle.results.proofs.Lengths.{directory-long}
 use Rattle.form_commands.specs.Forms.{erased_form}
-use Rattle.commands.specs.Does.{runs}
+use Rattle.calls.specs.Does.{runs}
 use Rattle.ground.proofs.Tests.{and_left}
 use Rattle.keeps_sound.specs.Good.{Good}
 use Rattle.keeps_sound.proofs.Freeing.{number-erased, number-swept}
@@ -43,7 +42,7 @@ use Rattle.keeps_sound.proofs.Stored.{held_ok, contents_of, contents-at, content
 -- ---- what is found
 
 -- an entry that is found by a name is one of its kind
-pub named-is : (directory : List ℕ) (picture : Bool) (n : List ℕ) (i : ℕ) → titled_at directory picture n ≡ At i
+pub named-is : (directory : List ℕ) (picture : Bool) (n : List ℕ) (i : ℕ) → titled_at directory picture n ≡ Some i
     → (i < entries directory) × (of_kind picture (kind (entry directory i)) ≡ true)
 unfolding titled
 named-is directory picture n i e =
@@ -84,8 +83,8 @@ form-stays m j b k =
 -- ---- the commands
 
 module _ (s : Session) (w : World) (g : Good s w) (z : s.owed ≡ 0) where
-  erased-form : (n : List ℕ) (f : Found) → titled_at w.directory false n ≡ f → Good (erased_form s w f).session (erased_form s w f).world
-  erased-form n (At i) e =
+  erased-form : (n : List ℕ) (f : Option ℕ) → titled_at w.directory false n ≡ f → Good (erased_form s w f).session (erased_form s w f).world
+  erased-form n (Some i) e =
       let a = named-is w.directory false n i e in
       let m' = erased_at (memory_of w) i in
       let v = erased_at-moved s w g i a.0 (some-kind false (kind (entry w.directory i)) a.1) in
@@ -97,13 +96,13 @@ module _ (s : Session) (w : World) (g : Good s w) (z : s.owed ≡ 0) where
       (go (eqb s.active i) refl (good-ended s w g z number m' v.sound free v.long-directory c)
       (λ ne. good-moved s w g z number m' i nothing v free a.0 refl (λ q k. ne q)))
     where
-      go : (b : Bool) → eqb s.active i ≡ b → Good (inactive (erased_named s w (At i))).session (inactive (erased_named s w (At i))).world
-          → ((s.active ≡ i → ⊥) → Good (erased_named s w (At i)).session (erased_named s w (At i)).world)
-          → Good (cond b (inactive (erased_named s w (At i))) (erased_named s w (At i))).session
-          (cond b (inactive (erased_named s w (At i))) (erased_named s w (At i))).world
+      go : (b : Bool) → eqb s.active i ≡ b → Good (inactive (erased_named s w (Some i))).session (inactive (erased_named s w (Some i))).world
+          → ((s.active ≡ i → ⊥) → Good (erased_named s w (Some i)).session (erased_named s w (Some i)).world)
+          → Good (cond b (inactive (erased_named s w (Some i))) (erased_named s w (Some i))).session
+          (cond b (inactive (erased_named s w (Some i))) (erased_named s w (Some i))).world
       go true q x y = x
       go false q x y = y (eqb-false s.active i q)
-  erased-form n Nothing e = go (eqb s.active 65535) (good-ended s w g z s.free (memory_of w) g.store g.free refl g.contents)
+  erased-form n None e = go (eqb s.active 65535) (good-ended s w g z s.free (memory_of w) g.store g.free refl g.contents)
     where
       go : (b : Bool) → Good (inactive (state s w)).session (inactive (state s w)).world
           → Good (cond b (inactive (state s w)) (state s w)).session (cond b (inactive (state s w)) (state s w)).world
@@ -126,14 +125,14 @@ module _ (s : Session) (w : World) (g : Good s w) (z : s.owed ≡ 0) where
       go true = erased-forms
       go false = erased-form (packed_of line n.at n.length) (named w false line n) refl
 
-  erased-picture : (n : List ℕ) (f : Found) → titled_at w.directory true n ≡ f → Good (erased_named s w f).session (erased_named s w f).world
-  erased-picture n (At i) e =
+  erased-picture : (n : List ℕ) (f : Option ℕ) → titled_at w.directory true n ≡ f → Good (erased_named s w f).session (erased_named s w f).world
+  erased-picture n (Some i) e =
       let a = named-is w.directory true n i e in
       let m' = erased_at (memory_of w) i in
       let v = erased_at-moved s w g i a.0 (some-kind true (kind (entry w.directory i)) a.1) in
       good-moved s w g z (after_erased s (entry w.directory i)).free m' i nothing v (number-erased s w g m' i nothing v a.0 refl) a.0 refl
       (λ q k. false≢true (ap (of_kind true) (sym k) ∙ a.1))
-  erased-picture n Nothing e = g
+  erased-picture n None e = g
 
   erased-pictures : Good (erased_every s w true).session (erased_every s w true).world
   erased-pictures =

@@ -1,5 +1,6 @@
 -- The normal form of an item is judged as the item is: what is judged are its numbers, its letters and its contents.
 -- Assumes nothing.
+use Rattle.std.proofs.Common.{Ok, Err, Some}
 use mathlib.Core.Path.{◌≡◌, refl, sym, ap, ◌∙◌, subst}
 use mathlib.Core.Bool.{Bool, true, false, not, cond, ◌&&◌, ◌||◌}
 use mathlib.Core.List.{List, [], ◌∷◌, ◌++◌, append-nil}
@@ -12,7 +13,6 @@ use Rattle.kinds.specs.Bytes.{all_in}
 use Rattle.kinds.specs.declared.Kind.{Kind}
 use Rattle.kinds.specs.declared.Kind.TheVariants.{Shown}
 use Rattle.kinds.specs.Fit.{in_class, fit_length}
-use Rattle.fields.specs.declared.Field.TheVariants.{Is}
 use Rattle.elements.specs.declared.What.{What}
 use Rattle.elements.specs.declared.What.TheVariants.{Text as Quote, Variable as VariableOf, Counter as CounterOf, Stamped as StampOf}
 use Rattle.formats.specs.Formats.{format_of}
@@ -24,7 +24,7 @@ use Rattle.elements.specs.Elements.{elements}
 use Rattle.classes.proofs.Laws.{and_T}
 use Rattle.declarations.specs.declared.Declared.{Declared}
 use Rattle.declarations.specs.Declarations.{length_at, side_at, width_at, variable_declared, counter_declared}
-use Rattle.reach.specs.declared.DataAnswer.TheVariants.{Good as Fine, Undeclared as NotDeclared, Past as Reaches}
+use Rattle.reach.specs.declared.DataFault.TheVariants.{Undeclared as NotDeclared, Past as Reaches}
 use Rattle.reach.specs.Answers.{undeclared_by, past_by, some_of, leftmost, data_answer}
 use Rattle.summary.specs.Summary.{part_length, fewest, takes_all, least, most, good as goods, judged as fit_always}
 use Rattle.row_fields.specs.Reading.{good, fields_from}
@@ -35,10 +35,8 @@ use Rattle.reader.specs.Letters.{field_at}
 use Rattle.read.specs.Commands.{read_of}
 use Rattle.grammar.specs.declared.Item.{Item}
 use Rattle.grammar.specs.declared.Item.TheVariants.{Origin, Variable, Counter, Text, Bars, Box, Frame, Slant, Picture, Format}
-use Rattle.heads.specs.declared.Head.TheVariants.{Row}
 use Rattle.grammar.specs.declared.Command.{Command}
 use Rattle.grammar.specs.declared.Command.TheVariants.{Item as item, End, Page, Forms, Pictures, Values, Listing, Clock}
-use Rattle.read.specs.declared.Read.TheVariants.{Taken as Reads}
 use Rattle.row_fields.proofs.Rows.{fields_split}
 use Rattle.writing.specs.Writing.{kept, cased}
 use Rattle.normal.specs.Written.{what_written, normal}
@@ -47,7 +45,7 @@ use Rattle.normal.proofs.Back.{text-fits}
 use Rattle.normal.proofs.Data.{a-text, a-variable, a-counter, a-stamp, Chain, ended, then, chain-of}
 use Rattle.normal.specs.Promise.{Normal}
 use Rattle.normal.proofs.Round.{item-parted}
-use Rattle.recording.specs.declared.Verdict.TheVariants.{Taken, Again}
+use Rattle.recording.specs.declared.Refusal.TheVariants.{Again}
 use Rattle.recording.specs.Judged.{of_data, judged_data, judged}
 use Rattle.answers.specs.Answers.{number_of}
 use Rattle.item_commands.specs.Items.{verdict_answer}
@@ -66,7 +64,7 @@ inner-quotes t =
     let n : length (34 ∷ (t ++ (34 ∷ []))) - 2 ≡ length t = (let z = length-append t (34 ∷ []) in omega arith) in
     ap (λ (k : ℕ). take k (t ++ (34 ∷ []))) n ∙ take-append_seam t (34 ∷ [])
 
-text-inner : (s : List ℕ) (at n e : ℕ) → text_at s at ≡ Is n e → take (n + 2 - 2) (drop (at + 1) s) ≡ inner (kept s at (n + 2))
+text-inner : (s : List ℕ) (at n e : ℕ) → text_at s at ≡ Ok (n, e) → take (n + 2 - 2) (drop (at + 1) s) ≡ inner (kept s at (n + 2))
 text-inner s at n e h =
     let q = text-fits s at n e h in
     let k : n + 2 - 2 ≡ n = omega arith in
@@ -142,7 +140,7 @@ judged_by d xs t =
     (cond (some_by (past_by d) xs) 14 (cond (fit_length t (least_by d xs) && (fit_length t (most_by d xs) && good_by t d xs)) 0 15))
 
 data-number :
-    (at m n : ℕ) (u p f : Bool) → number_of (verdict_answer (of_data at (cond u (NotDeclared m) (cond p (Reaches n) Fine)) f)) ≡ cond u 13 (cond p 14 (cond f 0 15))
+    (at m n : ℕ) (u p f : Bool) → number_of (verdict_answer (of_data at (cond u (Err (NotDeclared m)) (cond p (Err (Reaches n)) (Ok tt))) f)) ≡ cond u 13 (cond p 14 (cond f 0 15))
 unfolding number_of
 data-number at m n true p f = refl
 data-number at m n false true f = refl
@@ -213,7 +211,7 @@ last-data (f ∷ fs) s at vs ps t h =
     let n = and_T (silent f) (all_silent fs) t in
     ends-step f fs s x.v at x.vs x.ps vs ps x.values x.places n.0 (last-data fs s x.e x.vs x.ps n.1 x.others)
 
-contents-is : (s : List ℕ) (row : ℕ) (vs ps : List ℕ) → head_of s ≡ Row row → fields_from (row_of row).fields s 0 ≡ good vs ps
+contents-is : (s : List ℕ) (row : ℕ) (vs ps : List ℕ) → head_of s ≡ Some row → fields_from (row_of row).fields s 0 ≡ good vs ps
     → contents s ≡ held_by (row_of row).fields s vs ps
 unfolding head_contents contents_of
 contents-is s row vs ps h k = rw (h, k)
@@ -273,7 +271,7 @@ telling =
     & (λ s vs ps k c. tt)
     & (λ j s vs ps k c. tt)
 
-pub item-tells : (rows : ℕ) (s : List ℕ) (i : Item) → read_of rows s ≡ Reads (item i) → Tells s i
+pub item-tells : (rows : ℕ) (s : List ℕ) (i : Item) → read_of rows s ≡ Ok (item i) → Tells s i
 unfolding Telling
 item-tells rows s i h =
     let p = item-parted rows s i h in
@@ -293,7 +291,7 @@ judged_item d xs (Slant l) = 0
 judged_item d xs (Picture p) = 0
 judged_item d xs (Format f) = 0
 
-again-number : (b : Bool) (p : ℕ) → number_of (verdict_answer (cond b (Again p) Taken)) ≡ cond b 12 0
+again-number : (b : Bool) (p : ℕ) → number_of (verdict_answer (cond b (Err (Again p)) (Ok tt))) ≡ cond b 12 0
 unfolding number_of
 again-number true p = refl
 again-number false p = refl
@@ -312,7 +310,7 @@ judged-item d s (Picture p) h = refl
 judged-item d s (Format f) h = refl
 
 -- THE NORMAL FORM IS JUDGED AS THE LINE IS: by the same number. The place may be another, where zeros in front of a number are dropped
-pub normal-judged : (rows : ℕ) (d : Declared) (s : List ℕ) (i : Item) → read_of rows s ≡ Reads (item i) → (n : Normal rows s i)
+pub normal-judged : (rows : ℕ) (d : Declared) (s : List ℕ) (i : Item) → read_of rows s ≡ Ok (item i) → (n : Normal rows s i)
     → number_of (verdict_answer (judged d (normal s) n.back)) ≡ number_of (verdict_answer (judged d s i))
 normal-judged rows d s i h n =
     judged-item d (normal s) n.back (item-tells rows (normal s) n.back n.read)

@@ -25,3 +25,5 @@ pub mod Counters
 pub mod TenCounters
 pub mod Never
 pub mod Always
+pub use Rattle.calls.proofs.Promises
+pub use Rattle.sound.proofs.Times

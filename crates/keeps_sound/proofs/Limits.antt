@@ -1,6 +1,7 @@
 -- The numbers of a command that was read lie within the limits of papers 01 and 02: those that a session keeps, how many bytes follow a GM, those of bars, all five
 -- of a slanted line, and the date and time of a TS.
 -- Assumes nothing.
+use Rattle.std.proofs.Common.{Ok, Result, Err}
 use mathlib.Core.Path.{◌≡◌, refl, ap, subst, ◌∙◌}
 use mathlib.Core.Bool.{Bool, true, false, cond, ◌&&◌, false≢true}
 use mathlib.Core.List.{List, [], ◌∷◌, ◌++◌}
@@ -10,8 +11,6 @@ use lib.Dec.{ltb}
 use borrow.Author.Tests.{ltb-true}
 use Rattle.kinds.specs.Bytes.{between}
 use Rattle.kinds.specs.Text.{bytes}
-use Rattle.data_field.specs.declared.Limits.{Limits}
-use Rattle.data_field.specs.declared.Limits.TheVariants.{Within, Outside}
 use Rattle.grammar.specs.declared.Item.{Item}
 use Rattle.grammar.specs.declared.Item.TheVariants.{Origin, Variable, Counter, Text, Bars, Box, Frame, Slant, Picture, Format}
 use Rattle.grammar.specs.declared.Command.{Command}
@@ -19,7 +18,6 @@ use Rattle.grammar.specs.declared.Command.TheVariants.{Item as item, End, Page, 
 use Rattle.grammar.specs.declared.PageCommand.TheVariants.{Length, Width, Turn, White}
 use Rattle.grammar.specs.declared.PictureCommand.TheVariants.{Store, Erase as ErasePicture}
 use Rattle.grammar.specs.declared.ValueCommand.TheVariants.{Variable as EnterVariable, Counter as EnterCounter, Clear, Print}
-use Rattle.read.specs.declared.Read.TheVariants.{Taken}
 use Rattle.kinds.proofs.Laws.{between-facts}
 use Rattle.grammar.specs.Named.{LENGTH, WIDTH, ORIGIN, BARS, GM, PRINT, LS, LSE, LSW, TS}
 use Rattle.grammar.specs.Forms.{forms, bounds_of, is_number, spread, free, in_order}
@@ -68,21 +66,21 @@ CommandRanged rows (Clock c) =
 
 -- ---- fields within their limits
 
-abbrev is_within : Limits → Bool
-is_within Within = true
-is_within (Outside p) = false
+abbrev is_within : Result Unit ℕ → Bool
+is_within (Ok u) = true
+is_within (Err p) = false
 
-chosen-within : (b : Bool) (p : ℕ) → cond b Within (Outside p) ≡ Within → b ≡ true
+chosen-within : (b : Bool) (p : ℕ) → ◌≡◌ {A = Result Unit ℕ} (cond b (Ok tt) (Err p)) (Ok tt) → b ≡ true
 chosen-within true p e = refl
 chosen-within false p e = absurd (false≢true (ap is_within e))
 
-field-within : (l : ℕ × ℕ) (s : List ℕ) (u v p n : ℕ) → field_limits 110 l s u v p n ≡ Within → Ranged l v
+field-within : (l : ℕ × ℕ) (s : List ℕ) (u v p n : ℕ) → field_limits 110 l s u v p n ≡ Ok tt → Ranged l v
 unfolding field_limits
 field-within l s u v p n e =
     between-facts l.0 l.1 v (first_of (between l.0 l.1 v) (meets 110 s u v p n) (chosen-within (between l.0 l.1 v && meets 110 s u v p n) p e))
 
 number-within :
-    (fs : List ℕ) (ls : List (ℕ × ℕ)) (s : List ℕ) (u : ℕ) (vs ps : List ℕ) → limits_from (110 ∷ fs) ls s u vs ps ≡ Within →
+    (fs : List ℕ) (ls : List (ℕ × ℕ)) (s : List ℕ) (u : ℕ) (vs ps : List ℕ) → limits_from (110 ∷ fs) ls s u vs ps ≡ Ok tt →
     Ranged (get_or ls 0 free) (get_or vs 0 0)
 unfolding limits_from
 number-within fs ls s u vs ps e =
@@ -96,7 +94,7 @@ get_or-next (x ∷ xs) i d = refl
 
 -- a number behind other fields
 number_behind :
-    (before fs : List ℕ) (ls : List (ℕ × ℕ)) (s : List ℕ) (u : ℕ) (vs ps : List ℕ) → limits_from (before ++ (110 ∷ fs)) ls s u vs ps ≡ Within →
+    (before fs : List ℕ) (ls : List (ℕ × ℕ)) (s : List ℕ) (u : ℕ) (vs ps : List ℕ) → limits_from (before ++ (110 ∷ fs)) ls s u vs ps ≡ Ok tt →
     Ranged (get_or ls (length before) free) (get_or vs (length before) 0)
 number_behind [] fs ls s u vs ps e = number-within fs ls s u vs ps e
 number_behind (f ∷ before) fs ls s u vs ps e =
@@ -106,14 +104,14 @@ number_behind (f ∷ before) fs ls s u vs ps e =
     (subst (Ranged (get_or (drop 1 ls) (length before) free)) (get_or-next vs (length before) 0) h)
 
 -- the wide width behind the narrow one, which must be less
-wide-field : (l : ℕ × ℕ) (s : List ℕ) (u v p n : ℕ) → field_limits 119 l s u v p n ≡ Within → Ranged l v × (u < v)
+wide-field : (l : ℕ × ℕ) (s : List ℕ) (u v p n : ℕ) → field_limits 119 l s u v p n ≡ Ok tt → Ranged l v × (u < v)
 unfolding field_limits meets
 wide-field l s u v p n e =
     let h = chosen-within (between l.0 l.1 v && ltb u v) p e in
     (between-facts l.0 l.1 v (first_of (between l.0 l.1 v) (ltb u v) h), ltb-true u v (second-of (between l.0 l.1 v) (ltb u v) h))
 
 wide-within :
-    (fs : List ℕ) (ls : List (ℕ × ℕ)) (s : List ℕ) (u : ℕ) (vs ps : List ℕ) → limits_from (119 ∷ fs) ls s u vs ps ≡ Within →
+    (fs : List ℕ) (ls : List (ℕ × ℕ)) (s : List ℕ) (u : ℕ) (vs ps : List ℕ) → limits_from (119 ∷ fs) ls s u vs ps ≡ Ok tt →
     Ranged (get_or ls 0 free) (get_or vs 0 0) × (u < get_or vs 0 0)
 unfolding limits_from
 wide-within fs ls s u vs ps e =
@@ -125,7 +123,7 @@ get_or-third : {A : Type 0} (l : List A) (d : A) → get_or (drop 1 (drop 1 l)) 
 get_or-third l d = get_or-next (drop 1 l) 0 d ∙ get_or-next l 1 d
 
 wide-behind :
-    (before fs : List ℕ) (ls : List (ℕ × ℕ)) (s : List ℕ) (u : ℕ) (vs ps : List ℕ) → limits_from (before ++ (110 ∷ 44 ∷ 119 ∷ fs)) ls s u vs ps ≡ Within →
+    (before fs : List ℕ) (ls : List (ℕ × ℕ)) (s : List ℕ) (u : ℕ) (vs ps : List ℕ) → limits_from (before ++ (110 ∷ 44 ∷ 119 ∷ fs)) ls s u vs ps ≡ Ok tt →
     Ranged (get_or ls (suc (suc (length before))) free) (get_or vs (suc (suc (length before))) 0)
     × (get_or vs (length before) 0 < get_or vs (suc (suc (length before))) 0)
 wide-behind [] fs ls s u vs ps e =
@@ -139,14 +137,14 @@ wide-behind (f ∷ before) fs ls s u vs ps e =
     rw (get_or-next ls (suc (suc (length before))) free, get_or-next vs (suc (suc (length before))) 0, get_or-next vs (length before) 0) at h
 
 -- the day behind the month and before the year, which must be one of theirs
-day-field : (l : ℕ × ℕ) (s : List ℕ) (u v p n : ℕ) → field_limits 121 l s u v p n ≡ Within → Ranged l v × (day_there u v n ≡ true)
+day-field : (l : ℕ × ℕ) (s : List ℕ) (u v p n : ℕ) → field_limits 121 l s u v p n ≡ Ok tt → Ranged l v × (day_there u v n ≡ true)
 unfolding field_limits meets
 day-field l s u v p n e =
     let h = chosen-within (between l.0 l.1 v && day_there u v n) p e in
     (between-facts l.0 l.1 v (first_of (between l.0 l.1 v) (day_there u v n) h), second-of (between l.0 l.1 v) (day_there u v n) h)
 
 day-within :
-    (fs : List ℕ) (ls : List (ℕ × ℕ)) (s : List ℕ) (u : ℕ) (vs ps : List ℕ) → limits_from (121 ∷ fs) ls s u vs ps ≡ Within →
+    (fs : List ℕ) (ls : List (ℕ × ℕ)) (s : List ℕ) (u : ℕ) (vs ps : List ℕ) → limits_from (121 ∷ fs) ls s u vs ps ≡ Ok tt →
     Ranged (get_or ls 0 free) (get_or vs 0 0) × (day_there u (get_or vs 0 0) (get_or vs 2 0) ≡ true)
 unfolding limits_from
 day-within fs ls s u vs ps e =
@@ -155,7 +153,7 @@ day-within fs ls s u vs ps e =
     (limits_from fs (drop 1 ls) s (cond (is_number 121) (get_or vs 0 0) u) (drop 1 vs) (drop 1 ps)) e).0
 
 day-behind :
-    (fs : List ℕ) (ls : List (ℕ × ℕ)) (s : List ℕ) (u : ℕ) (vs ps : List ℕ) → limits_from (bytes "TSn,y" ++ fs) ls s u vs ps ≡ Within →
+    (fs : List ℕ) (ls : List (ℕ × ℕ)) (s : List ℕ) (u : ℕ) (vs ps : List ℕ) → limits_from (bytes "TSn,y" ++ fs) ls s u vs ps ≡ Ok tt →
     Ranged (get_or ls 4 free) (get_or vs 4 0) × (day_there (get_or vs 2 0) (get_or vs 4 0) (get_or vs 6 0) ≡ true)
 day-behind fs ls s u vs ps e =
     let a = limits-rest 84 (bytes "Sn,y" ++ fs) ls s u vs ps e in
@@ -178,7 +176,7 @@ Numbers (suc n) ls vs k = Ranged (get_or ls k free) (get_or vs k 0) × Numbers n
 
 -- the five numbers of a slanted line
 slant-behind :
-    (letters : List ℕ) (ls : List (ℕ × ℕ)) (s : List ℕ) (u : ℕ) (vs ps : List ℕ) → limits_from (letters ++ bytes "n,n,n,n,n") ls s u vs ps ≡ Within →
+    (letters : List ℕ) (ls : List (ℕ × ℕ)) (s : List ℕ) (u : ℕ) (vs ps : List ℕ) → limits_from (letters ++ bytes "n,n,n,n,n") ls s u vs ps ≡ Ok tt →
     Numbers 4 ls vs (length letters)
 slant-behind [] ls s u vs ps e = (
   number_behind [] (bytes ",n,n,n,n") ls s u vs ps e,
@@ -264,5 +262,5 @@ ranges =
     & (λ rows s vs ps h. tt)
     & (λ k rows s vs ps h. tt)
 
-pub read-ranges : (rows : ℕ) (s : List ℕ) (c : Command) → read_of rows s ≡ Taken c → CommandRanged rows c
+pub read-ranges : (rows : ℕ) (s : List ℕ) (c : Command) → read_of rows s ≡ Ok c → CommandRanged rows c
 read-ranges rows s c e = limits-tell (λ rows s. CommandRanged rows) ranges rows s c e

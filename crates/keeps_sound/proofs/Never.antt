@@ -1,13 +1,13 @@
 -- On a sound world of right lengths no call answers 3.
 -- Assumes nothing.
+use Rattle.std.proofs.Common.{Result, Ok, Err}
 use mathlib.Core.Path.{◌≡◌, refl, sym, ap, ◌∙◌}
 use mathlib.Core.Bool.{Bool, true, false, not, ◌&&◌, ◌||◌, true≢false, false≢true, cond}
 use mathlib.Core.List.{List, [], ◌∷◌}
 use Prim.Native.Nat.{ℕ}
 use lib.ListN.{length}
 use lib.Dec.{eqb}
-use Rattle.finding.specs.declared.Found.{Found}
-use Rattle.finding.specs.declared.Found.TheVariants.{At, Nothing}
+use Rattle.read.specs.declared.Fault.{Fault}
 use Rattle.finding.specs.Find.{recorded}
 use Rattle.grammar.specs.declared.Command.{Command}
 use Rattle.grammar.specs.declared.Command.TheVariants.{Item as item, End, Page, Forms, Pictures, Values, Listing, Clock}
@@ -18,8 +18,6 @@ use Rattle.grammar.specs.declared.ListingCommand.TheVariants.{Forms as ListForms
 use Rattle.read.specs.declared.Fault.TheVariants.{Form as form, Limit}
 use Rattle.front.specs.declared.Front.{Front}
 use Rattle.front.specs.declared.Front.TheVariants.{Short, Long as LongLine, Idle, Line}
-use Rattle.read.specs.declared.Read.{Read}
-use Rattle.read.specs.declared.Read.TheVariants.{Taken as Reads, Refused}
 use Rattle.read.specs.Commands.{read_of}
 use Rattle.front.specs.Front.{front_of}
 use Rattle.sound.specs.Sound.{sound}
@@ -28,13 +26,13 @@ use Rattle.answers.specs.declared.Answer.{Answer}
 use Rattle.answers.specs.declared.Answer.TheVariants.{Taken, Unsound}
 use Rattle.answers.specs.Answers.{Row, number_of, is_taken, answer_of}
 use Rattle.lent.specs.Lent.{World, rows_of}
-use Rattle.commands.specs.Rows.{record_rows, run_rows, placed_rows, line_rows}
+use Rattle.calls.specs.Rows.{record_rows, run_rows, placed_rows, line_rows}
 use Rattle.calls.specs.Outcomes.{After, Drawn, drawn_by, labelled}
-use Rattle.unread.specs.Front.{line_of, more_of}
+use Rattle.unread.specs.Front.{line_of, more_of, read_by}
 use Rattle.calls.specs.Table.{front_rows, command_table, label_table}
-use Rattle.unread.specs.Front.{read_by}
 use Rattle.calls.specs.Station.{refused, commanded, labelled_by}
 use Rattle.keeps_sound.proofs.Layers.{first_of, second-of}
+use Rattle.std.specs.Prelude.{None, Option, Some}
 
 -- ---- tables none of whose rows gives 3
 
@@ -85,15 +83,15 @@ module _ (w : World) (s : Session) (line more : List ℕ) (room : ℕ) where
   run-harmless (Listing (ListForm n)) = refl
   run-harmless (Clock c) = refl
 
-  placed-harmless : (f : Found) (c : Command) → harmless (placed_rows w s line more room c f) ≡ true
-  placed-harmless (At i) c = record-harmless i c
-  placed-harmless Nothing c = run-harmless c
+  placed-harmless : (f : Option ℕ) (c : Command) → harmless (placed_rows w s line more room c f) ≡ true
+  placed-harmless (Some i) c = record-harmless i c
+  placed-harmless None c = run-harmless c
 
-  line-harmless : (r : Read) → harmless (line_rows w s line more room r) ≡ true
+  line-harmless : (r : Result Command Fault) → harmless (line_rows w s line more room r) ≡ true
   unfolding number_of
-  line-harmless (Refused (form p)) = refl
-  line-harmless (Refused (Limit p)) = refl
-  line-harmless (Reads c) = placed-harmless (recorded w.directory) c
+  line-harmless (Err (form p)) = refl
+  line-harmless (Err (Limit p)) = refl
+  line-harmless (Ok c) = placed-harmless (recorded w.directory) c
 
 front-harmless : (w : World) (s : Session) (input : List ℕ) (room : ℕ) (f : Front) → harmless (front_rows w s input room f) ≡ true
 unfolding number_of

@@ -1,6 +1,7 @@
 -- The commands over the session's numbers and the background lead from a sound world to a sound one: Q, q, ZT and ZB, and the items that are drawn
 -- outside a form.
 -- Assumes nothing.
+use Rattle.std.proofs.Common.{Ok}
 use mathlib.Core.Path.{◌≡◌, refl, ap, ◌∙◌}
 use mathlib.Core.Bool.{Bool, true, false, cond}
 use mathlib.Core.List.{List}
@@ -17,7 +18,6 @@ use Rattle.grammar.specs.declared.Width.{Width as WidthOf}
 use Rattle.grammar.specs.declared.Turn.{Turn as TurnOf}
 use Rattle.grammar.specs.declared.Command.TheVariants.{Item as item, Page}
 use Rattle.grammar.specs.declared.PageCommand.TheVariants.{Length, Width, Turn}
-use Rattle.read.specs.declared.Read.TheVariants.{Taken as Reads}
 use Rattle.read.specs.Commands.{read_of}
 use Rattle.item_drawing.specs.Draw.{Setting, setting, draws_item}
 use Rattle.sound.specs.Sound.{numbers_ok, times_ok, background_ok}
@@ -29,7 +29,7 @@ use Rattle.lent.specs.Lent.{World, rows_of}
 use Rattle.session.specs.Active.{active_of}
 use Rattle.results.specs.World.{with_background}
 use Rattle.item_commands.specs.Items.{drawn_on, based_by}
-use Rattle.commands.specs.Does.{runs}
+use Rattle.calls.specs.Does.{runs}
 use Rattle.keeps_sound.specs.Good.{Good}
 use Rattle.keeps_sound.proofs.Facts.{Numbers, numbers-facts, facts-numbers}
 use Rattle.keeps_sound.proofs.Limits.{Ranged, ItemRanged, read-ranges}
@@ -60,7 +60,7 @@ background-good s s' w b g t f e n h a = record {
 module _ (font : List ℕ) (w : World) (s : Session) (line more : List ℕ) (g : Good s w) where
   -- ---- Q and q: "Both whiten the background"
 
-  pub keeps-length : (l : LengthOf) → read_of (rows_of w) line ≡ Reads (Page (Length l))
+  pub keeps-length : (l : LengthOf) → read_of (rows_of w) line ≡ Ok (Page (Length l))
       → Good (runs font w s line more (Page (Length l))).session (runs font w s line more (Page (Length l))).world
   unfolding activity_sound
   keeps-length l e =
@@ -76,7 +76,7 @@ module _ (font : List ℕ) (w : World) (s : Session) (line more : List ℕ) (g :
         y = n.y;
       }) (white-zeros s.width (sixteen_bits l.m) (length w.background)) g.activity
 
-  pub keeps-width : (m : WidthOf) → read_of (rows_of w) line ≡ Reads (Page (Width m))
+  pub keeps-width : (m : WidthOf) → read_of (rows_of w) line ≡ Ok (Page (Width m))
       → Good (runs font w s line more (Page (Width m))).session (runs font w s line more (Page (Width m))).world
   unfolding activity_sound
   keeps-width m e =
@@ -136,7 +136,7 @@ module _ (font : List ℕ) (w : World) (s : Session) (line more : List ℕ) (g :
   drawn-good : (it : Item) → Good s (drawn_on font line s w it)
   drawn-good it = background-good s s w _ g g.times refl (drawn-length it) (numbers-facts (rows_of w) s g.numbers) (drawn-white it) g.activity
 
-  item-good : (it : Item) → read_of (rows_of w) line ≡ Reads (item it) → ItemRanged it → Good (based_by s it) (drawn_on font line s w it)
+  item-good : (it : Item) → read_of (rows_of w) line ≡ Ok (item it) → ItemRanged it → Good (based_by s it) (drawn_on font line s w it)
   unfolding activity_sound
   item-good (Origin o) e r =
       let n = numbers-facts (rows_of w) s g.numbers in
@@ -171,6 +171,6 @@ module _ (font : List ℕ) (w : World) (s : Session) (line more : List ℕ) (g :
         y = n.y;
       }) (drawn-white (Format f)) g.activity
 
-  pub keeps-item : (it : Item) → read_of (rows_of w) line ≡ Reads (item it)
+  pub keeps-item : (it : Item) → read_of (rows_of w) line ≡ Ok (item it)
       → Good (runs font w s line more (item it)).session (runs font w s line more (item it)).world
   keeps-item it e = item-good it e (read-ranges (rows_of w) line (item it) e)

@@ -1,5 +1,6 @@
 -- The normal form of an item holds no LF: it is one line.
 -- Assumes nothing.
+use Rattle.std.specs.Prelude.{Ok}
 use mathlib.Core.Path.{◌≡◌, refl, sym, ap, ◌∙◌, subst}
 use mathlib.Core.Bool.{Bool, true, false, not, cond, ◌&&◌, false≢true}
 use mathlib.Core.List.{List, [], ◌∷◌, ◌++◌}
@@ -12,7 +13,6 @@ use borrow.Author.Tests.{lt-ltb, le-ltb, eq-eqb}
 use Rattle.kinds.specs.Bytes.{between}
 use Rattle.classes.specs.declared.Class.{Class}
 use Rattle.classes.specs.declared.Class.TheVariants.{Digit, Quoted, Mode, Side}
-use Rattle.fields.specs.declared.Field.TheVariants.{Is}
 use Rattle.elements.specs.declared.Part.{Part}
 use Rattle.elements.specs.declared.Part.TheVariants.{Whole, First, Last, Middle}
 use Rattle.elements.specs.declared.Element.{Element}
@@ -26,7 +26,6 @@ use Rattle.row_fields.specs.Reading.{fields_from, good}
 use Rattle.read.specs.Commands.{read_of}
 use Rattle.grammar.specs.declared.Item.{Item}
 use Rattle.grammar.specs.declared.Command.TheVariants.{Item as item}
-use Rattle.read.specs.declared.Read.TheVariants.{Taken as Reads}
 use Rattle.row_fields.proofs.Rows.{fields_split}
 use Rattle.writing.specs.Writing.{decimal, signed, kept, cased}
 use Rattle.normal.specs.Written.{part_written, what_written, element_written, data_written, word_written, written_field, written_from, normal}
@@ -62,7 +61,7 @@ unfolding between
 inside-quotes t l h = rw (cased-quotes t l)
     ((λ e. omega arith), inside-append (cased t l) (34 ∷ []) (inside-class Quoted refl (cased t l) (cased-quoted t l h)) ((λ e. omega arith), tt))
 
-inside-text : (t : Bool) (s : List ℕ) (at n e : ℕ) → text_at s at ≡ Is n e → Inside (cased t (kept s at (n + 2)))
+inside-text : (t : Bool) (s : List ℕ) (at n e : ℕ) → text_at s at ≡ Ok (n, e) → Inside (cased t (kept s at (n + 2)))
 inside-text t s at n e h = let q = text-fits s at n e h in rw q.whole (inside-quotes t q.text q.legal)
 
 inside-signed : (v : ℕ) → 0 < v → v < 2000000000 → Inside (signed v)
@@ -122,12 +121,12 @@ inside-rest [] (suc at) h = tt
 inside-rest (b ∷ l) zero h = (h 0 (omega arith) (omega arith), inside-rest l zero (λ i k m. h (suc i) (omega arith) (omega arith)))
 inside-rest (b ∷ l) (suc at) h = inside-rest l at (λ i k m. h (suc i) (omega arith) (omega arith))
 
-inside-format : (st : Stamp) (s : List ℕ) (at v e : ℕ) → format_field st s at ≡ Is v e → Inside (cased false (drop at s))
+inside-format : (st : Stamp) (s : List ℕ) (at v e : ℕ) → format_field st s at ≡ Ok (v, e) → Inside (cased false (drop at s))
 inside-format st s at v e h = rw (cased_kept (drop at s)) (inside-rest s at (format-unbroken st s at v e h))
 
 -- ---- the fields of a form
 
-inside-field : {f : ℕ} (x : Letter f) (s : List ℕ) (at v e : ℕ) → (f ≡ 10 → ⊥) → field_at f s at ≡ Is v e → Inside (written_field f s v at)
+inside-field : {f : ℕ} (x : Letter f) (s : List ℕ) (at v e : ℕ) → (f ≡ 10 → ⊥) → field_at f s at ≡ Ok (v, e) → Inside (written_field f s v at)
 unfolding field_at written_field between
 inside-field a-number s at v e n h = inside-decimal v (number_fits s at v e h)
 inside-field a-wide s at v e n h = inside-decimal v (number_fits s at v e h)
@@ -176,7 +175,7 @@ inside-fields (f ∷ fs) s at vs ps t h =
     (inside-field (letter-of f) s at x.v x.e (no-lf f n.0) x.first) (inside-fields fs s x.e x.vs x.ps n.1 x.others)
 
 -- THE NORMAL FORM IS ONE LINE
-pub normal-inside : (rows : ℕ) (s : List ℕ) (i : Item) → read_of rows s ≡ Reads (item i) → Inside (normal s)
+pub normal-inside : (rows : ℕ) (s : List ℕ) (i : Item) → read_of rows s ≡ Ok (item i) → Inside (normal s)
 normal-inside rows s i h =
     let p = item-parted rows s i h in
     rw (normal-is s p.row p.vs p.ps p.head p.read) (inside-fields (row_of p.row).fields s 0 p.vs p.ps (row-lines p.row) p.read)

@@ -2,9 +2,10 @@
 -- Assumes nothing.
 use mathlib.Core.Path.{◌≡◌, refl, ap, ◌∙◌}
 use Prim.Native.Nat.{ℕ}
+use Rattle.std.proofs.Common.{Result, Ok, Err}
 use Rattle.calendar.specs.declared.Clock.{Clock}
-use Rattle.calendar.specs.declared.Moved.{Moved}
-use Rattle.calendar.specs.declared.Moved.TheVariants.{To, NoClock, TooLong}
+use Rattle.calendar.specs.declared.Unmoved.{Unmoved}
+use Rattle.calendar.specs.declared.Unmoved.TheVariants.{NoClock, TooLong}
 use Rattle.calendar.specs.Clock.{moved}
 use Rattle.session.specs.declared.Session.{Session}
 use Rattle.session.specs.Session.{clocked}
@@ -15,10 +16,10 @@ pub passed-keeps : {A : Type 0} (f : Session → A) (s : Session) (n : ℕ) → 
 unfolding passed
 passed-keeps {A} f s n h = go (moved s.clock n)
   where
-    go : (m : Moved) → f (passed_by s m).session ≡ f s
-    go (To c) = h c
-    go NoClock = refl
-    go TooLong = refl
+    go : (m : Result Clock Unmoved) → f (passed_by s m).session ≡ f s
+    go (Ok c) = h c
+    go (Err NoClock) = refl
+    go (Err TooLong) = refl
 
 -- a change of the session that leaves the clock, before a clock call or behind it
 pub passed-in :
@@ -27,7 +28,7 @@ pub passed-in :
 unfolding passed
 passed-in f s n e h = ap (λ (c : Clock). (passed_by (f s) (moved c n)).session) e ∙ go (moved s.clock n)
   where
-    go : (m : Moved) → (passed_by (f s) m).session ≡ f (passed_by s m).session
-    go (To c) = h c
-    go NoClock = refl
-    go TooLong = refl
+    go : (m : Result Clock Unmoved) → (passed_by (f s) m).session ≡ f (passed_by s m).session
+    go (Ok c) = h c
+    go (Err NoClock) = refl
+    go (Err TooLong) = refl

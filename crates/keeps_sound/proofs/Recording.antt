@@ -1,5 +1,6 @@
 -- While a form is recorded: a line is kept behind it, FE ends it.
 -- Assumes nothing.
+use Rattle.std.proofs.Common.{Result, Ok, Err, Some, None}
 use mathlib.Core.Path.{◌≡◌, refl, sym, ap, ◌∙◌, subst}
 use mathlib.Core.Bool.{Bool, true, false, not, ◌&&◌, false≢true, cond}
 use mathlib.Core.List.{List, [], ◌∷◌, ◌++◌}
@@ -10,11 +11,10 @@ use lib.ListN.{length, length-append}
 use lib.Dec.{eqb, leb}
 use borrow.Author.Tests.{eq-eqb, ne_eqb, eqb-true, le-leb}
 use Rattle.cells.proofs.Scan.{lowest-passes}
-use Rattle.finding.specs.declared.Found.{Found}
-use Rattle.finding.specs.declared.Found.TheVariants.{At}
+use Rattle.std.specs.Prelude.{Option, Some, is_some}
 use Rattle.store.specs.Chain.{needed, free_count}
 use Rattle.store.specs.Entry.{entries, entry, kind, name, size}
-use Rattle.finding.specs.Find.{is_at, is_recording, recorded}
+use Rattle.finding.specs.Find.{is_recording, recorded}
 use Rattle.finding.proofs.Finding.{at-says}
 use Rattle.memory.specs.Memory.{memory}
 use Rattle.room.specs.Room.{can_grow}
@@ -32,14 +32,12 @@ use Rattle.read.specs.Commands.{read_of}
 use Rattle.grammar.specs.declared.Item.{Item}
 use Rattle.grammar.specs.declared.Command.{Command}
 use Rattle.grammar.specs.declared.Command.TheVariants.{Item as item, End, Page, Forms, Pictures, Values, Listing, Clock}
-use Rattle.read.specs.declared.Read.TheVariants.{Taken as Reads}
 use Rattle.normal.specs.Written.{normal, taken_item, is_normal}
 use Rattle.writing.specs.Writing.{equal}
 use Rattle.normal.proofs.Round.{normal-line, item-rows}
 use Rattle.normal.proofs.Short.{normal-short}
-use Rattle.recording.specs.declared.Verdict.{Verdict}
-use Rattle.recording.specs.declared.Verdict.TheVariants.{Taken as Fine, Again as Before, Undeclared as Unknown, Past as Reaches, Unfit as Wrong}
-use Rattle.kept_line.specs.declared.Stored.TheVariants.{Holds, Nothing as NoItem}
+use Rattle.recording.specs.declared.Refusal.{Refusal}
+use Rattle.recording.specs.declared.Refusal.TheVariants.{Again as Before, Undeclared as Unknown, Past as Reaches, Unfit as Wrong}
 use Rattle.recording.specs.Judged.{judged, is_taken as is_fine}
 use Rattle.forms.specs.Form.{form_ok, declared_of, takes_stored, takes}
 use Rattle.kept_line.specs.Held.{item_in, held_read}
@@ -52,8 +50,8 @@ use Rattle.session.specs.Active.{active_of}
 use Rattle.results.specs.World.{memory_of, content_at}
 use Rattle.item_commands.specs.Items.{fit_rows, verdict_answer}
 use Rattle.item_commands.proofs.First.{first-verdict}
-use Rattle.commands.specs.Rows.{record_rows}
-use Rattle.commands.specs.Does.{recorded_room, records}
+use Rattle.calls.specs.Rows.{record_rows}
+use Rattle.calls.specs.Does.{recorded_room, records}
 use Rattle.ground.proofs.Tests.{and_left, and_both}
 use Rattle.keeps_sound.specs.Good.{Good}
 use Rattle.keeps_sound.proofs.Tables.{clear, not-no}
@@ -64,21 +62,21 @@ use Rattle.keeps_sound.proofs.Stored.{held_ok, contents-at, activity-facts, owed
 
 -- ---- the form that is recorded
 
-pub recorded-is : (directory : List ℕ) (i : ℕ) → recorded directory ≡ At i → (i < entries directory) × (kind (entry directory i) ≡ 3)
+pub recorded-is : (directory : List ℕ) (i : ℕ) → recorded directory ≡ Some i → (i < entries directory) × (kind (entry directory i) ≡ 3)
 recorded-is directory i e =
     let a = at-says (is_recording directory) (entries directory) i e in
     let t : is_recording directory i ≡ true = ap (is_recording directory) (sym a.0) ∙ lowest-passes (is_recording directory) (entries directory) (omega (arith, a.0, a.1)) in
     (a.1, eqb-true _ 3 t)
 
 -- "labels owed only when nothing is recorded"
-pub recording-owes-none : (s : Session) (w : World) (i : ℕ) → Good s w → recorded w.directory ≡ At i → s.owed ≡ 0
+pub recording-owes-none : (s : Session) (w : World) (i : ℕ) → Good s w → recorded w.directory ≡ Some i → s.owed ≡ 0
 recording-owes-none s w i g e =
     let a = activity-facts s w.directory (active_of w s) w.values g.activity in
     elim (ℕ_discrete s.owed 0) [
       | yes z ↦ z
       | no some ↦ absurd
           (false≢true
-          (sym (ap (λ (f : Found). not (is_at f)) e)
+          (sym (ap (λ (f : Option ℕ). not (is_some f)) e)
           ∙ (owed-facts s.owed w.directory (active_of w s) w.values s.counters a.owed some).quiet))
     ]
 
@@ -95,7 +93,7 @@ not-active k a b = omega arith
 not_none : (k : ℕ) → k ≡ 3 → k ≡ 0 → ⊥
 not_none k a b = omega arith
 
-module _ (s : Session) (w : World) (g : Good s w) (i : ℕ) (e : recorded w.directory ≡ At i) where
+module _ (s : Session) (w : World) (g : Good s w) (i : ℕ) (e : recorded w.directory ≡ Some i) where
   here : i < entries w.directory
   here = (recorded-is w.directory i e).0
 
@@ -126,7 +124,7 @@ module _ (s : Session) (w : World) (g : Good s w) (i : ℕ) (e : recorded w.dire
 -- ---- a line
 
 fit-fine :
-    (d : Declared) (line : List ℕ) (it : Item) (rows : List Row) → answer_of (fit_rows d line it rows) ≡ Taken → (judged d line it ≡ Fine) × (answer_of rows ≡ Taken)
+    (d : Declared) (line : List ℕ) (it : Item) (rows : List Row) → answer_of (fit_rows d line it rows) ≡ Taken → (judged d line it ≡ (Ok tt)) × (answer_of rows ≡ Taken)
 unfolding is_taken number_of
 fit-fine d line it rows h =
     let a = clear (Again _) _ _ refl h in
@@ -141,34 +139,34 @@ equal-self [] = refl
 equal-self (x ∷ l) = and_both (eqb x x) (equal l l) (eq-eqb x x refl) (equal-self l)
 
 -- a line in normal form holds what it is read as
-normal-holds : (l : List ℕ) (i : Item) → length l ≤ 255 → read_of 1 l ≡ Reads (item i) → normal l ≡ l → item_in l ≡ Holds i
+normal-holds : (l : List ℕ) (i : Item) → length l ≤ 255 → read_of 1 l ≡ Ok (item i) → normal l ≡ l → item_in l ≡ Some i
 unfolding item_in is_normal
 normal-holds l i h r n =
     let t : (leb (length l) 255 && (taken_item (read_of 1 l) && equal (normal l) l)) ≡ true =
     and_both _ _ (le-leb (length l) 255 h) (and_both _ _ (ap taken_item r) (ap (λ (x : List ℕ). equal x l) n ∙ equal-self l)) in
-    ap (λ (b : Bool). cond b (held_read (read_of 1 l)) NoItem) t ∙ ap held_read r
+    ap (λ (b : Bool). cond b (held_read (read_of 1 l)) None) t ∙ ap held_read r
 
 -- what is answered 0 recording takes
-zero-fine : (v : Verdict) → number_of (verdict_answer v) ≡ 0 → is_fine v ≡ true
+zero-fine : (v : Result Unit Refusal) → number_of (verdict_answer v) ≡ 0 → is_fine v ≡ true
 unfolding number_of
-zero-fine Fine e = refl
-zero-fine (Before p) e = absurd (omega (arith, e))
-zero-fine (Unknown p) e = absurd (omega (arith, e))
-zero-fine (Reaches p) e = absurd (omega (arith, e))
-zero-fine (Wrong p) e = absurd (omega (arith, e))
+zero-fine (Ok u) e = refl
+zero-fine (Err (Before p)) e = absurd (omega (arith, e))
+zero-fine (Err (Unknown p)) e = absurd (omega (arith, e))
+zero-fine (Err (Reaches p)) e = absurd (omega (arith, e))
+zero-fine (Err (Wrong p)) e = absurd (omega (arith, e))
 
 -- "recording would take" the normal form of a line that is taken
-pub normal-takes : (rows : ℕ) (d : Declared) (line : List ℕ) (it : Item) → read_of rows line ≡ Reads (item it) → length line ≤ 255
-    → judged d line it ≡ Fine → takes d (normal line) ≡ true
+pub normal-takes : (rows : ℕ) (d : Declared) (line : List ℕ) (it : Item) → read_of rows line ≡ Ok (item it) → length line ≤ 255
+    → judged d line it ≡ (Ok tt) → takes d (normal line) ≡ true
 unfolding takes number_of
 normal-takes rows d line it r h v =
     let n = normal-line rows line it r in
     ap (takes_stored d (normal line)) (normal-holds (normal line) n.back (normal-short rows line it r h) (item-rows rows 1 (normal line) n.back n.read) n.again)
-    ∙ zero-fine (judged d (normal line) n.back) (normal-judged rows d line it r n ∙ ap (λ (x : Verdict). number_of (verdict_answer x)) v)
+    ∙ zero-fine (judged d (normal line) n.back) (normal-judged rows d line it r n ∙ ap (λ (x : Result Unit Refusal). number_of (verdict_answer x)) v)
 
-module _ (s : Session) (w : World) (g : Good s w) (i : ℕ) (e : recorded w.directory ≡ At i) where
+module _ (s : Session) (w : World) (g : Good s w) (i : ℕ) (e : recorded w.directory ≡ Some i) where
   -- a recorded line
-  pub keeps-recorded : (line : List ℕ) (it : Item) → read_of (rows_of w) line ≡ Reads (item it) → length line ≤ 255
+  pub keeps-recorded : (line : List ℕ) (it : Item) → read_of (rows_of w) line ≡ Ok (item it) → length line ≤ 255
       → answer_of (record_rows w s line i (item it)) ≡ Taken
       → Good (records w s line i (item it)).session (records w s line i (item it)).world
   unfolding is_taken number_of
@@ -196,7 +194,7 @@ module _ (s : Session) (w : World) (g : Good s w) (i : ℕ) (e : recorded w.dire
       (here s w g i e) (rw (three s w g i e, fine)) (λ a. not-active _ (three s w g i e))
 
   -- every command while a form is recorded
-  pub keeps-records : (line : List ℕ) (c : Command) → read_of (rows_of w) line ≡ Reads c → length line ≤ 255
+  pub keeps-records : (line : List ℕ) (c : Command) → read_of (rows_of w) line ≡ Ok c → length line ≤ 255
       → answer_of (record_rows w s line i c) ≡ Taken → Good (records w s line i c).session (records w s line i c).world
   keeps-records line (item it) r h a = keeps-recorded line it r h a
   keeps-records line End r h a = keeps-end s w g i e line

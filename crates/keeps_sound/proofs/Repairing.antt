@@ -16,7 +16,7 @@ use Rattle.cells.proofs.Cells.{length-zeros}
 use Rattle.dots.specs.Dots.{bytes_a_row}
 use Rattle.store.specs.Chain.{free_count}
 use Rattle.store.specs.Entry.{entries, kind}
-use Rattle.finding.specs.declared.Found.TheVariants.{Nothing}
+use Rattle.std.specs.Prelude.{None}
 use Rattle.finding.specs.Find.{is_empty, recorded}
 use Rattle.memory.specs.Memory.{Memory, entry_of}
 use Rattle.store_sound.specs.Sound.{lent_ok, store_sound}
@@ -109,7 +109,7 @@ module _ (s : Session) (rows : ℕ) (m : Memory) (values output : List ℕ) (tak
 -- a sound store with nothing being recorded stays as it is, whatever is answered
 pub sound-stays :
     (m : Memory) → store_sound m.store m.links m.directory ≡ true → contents_ok m.store m.links m.directory ≡ true →
-    recorded m.directory ≡ Nothing → (s : Session) (rows : ℕ) (values output : List ℕ) → (repaired s rows m values output).memory ≡ m
+    recorded m.directory ≡ None → (s : Session) (rows : ℕ) (values output : List ℕ) → (repaired s rows m values output).memory ≡ m
 sound-stays m sound contents quiet s rows values output = stays (is_taken (repaired s rows m values output).outcome.answer) refl
   where
     stays : (t : Bool) → is_taken (repaired s rows m values output).outcome.answer ≡ t → (repaired s rows m values output).memory ≡ m

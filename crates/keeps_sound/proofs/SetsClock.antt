@@ -1,5 +1,6 @@
 -- TS and the clock call lead from a sound world to a sound one.
 -- Assumes nothing.
+use Rattle.std.proofs.Common.{Ok}
 use mathlib.Core.Path.{◌≡◌, refl, ap, ◌∙◌}
 use mathlib.Core.Bool.{Bool, true, false, cond, not, ◌||◌}
 use mathlib.Core.List.{List}
@@ -7,16 +8,16 @@ use Prim.Native.Nat.{ℕ, min, ◌≤◌}
 use native.Mathlib.Omega.{arith}
 use lib.Dec.{leb}
 use borrow.Author.Tests.{leb-true, le-leb}
+use Rattle.std.proofs.Common.{Result, Ok, Err}
 use Rattle.calendar.specs.declared.Clock.{Clock}
-use Rattle.calendar.specs.declared.Moved.{Moved}
-use Rattle.calendar.specs.declared.Moved.TheVariants.{To, NoClock, TooLong}
+use Rattle.calendar.specs.declared.Unmoved.{Unmoved}
+use Rattle.calendar.specs.declared.Unmoved.TheVariants.{NoClock, TooLong}
 use Rattle.calendar.specs.Clock.{legal_clock, days_in, moved}
 use Rattle.calendar.proofs.Clocks.{facts-legal}
 use Rattle.calendar.proofs.Ticks.{moved-legal}
 use Rattle.grammar.specs.declared.SetClock.{SetClock}
 use Rattle.grammar.specs.declared.Command.TheVariants.{Clock as SetsClock}
 use Rattle.row_limits.specs.Limits.{day_there}
-use Rattle.read.specs.declared.Read.TheVariants.{Taken as Reads}
 use Rattle.read.specs.Commands.{read_of}
 use Rattle.activity_check.specs.Activity.{activity_sound}
 use Rattle.sound.specs.Sound.{numbers_ok}
@@ -25,7 +26,7 @@ use Rattle.session.specs.Session.{clocked}
 use Rattle.lent.specs.Lent.{World, rows_of}
 use Rattle.clock_commands.specs.Clocks.{eight_bits, clock_said}
 use Rattle.clock_call.specs.Passing.{passed, passed_by}
-use Rattle.commands.specs.Does.{runs}
+use Rattle.calls.specs.Does.{runs}
 use Rattle.keeps_sound.specs.Good.{Good}
 use Rattle.keeps_sound.specs.Tens.{Tens}
 use Rattle.keeps_sound.proofs.Limits.{Ranged, CommandRanged, read-ranges}
@@ -75,26 +76,26 @@ said-legal rows c r =
     })
 
 pub keeps-clock :
-    (font : List ℕ) (w : World) (s : Session) (line more : List ℕ) → Good s w → (c : SetClock) → read_of (rows_of w) line ≡ Reads (SetsClock c) →
+    (font : List ℕ) (w : World) (s : Session) (line more : List ℕ) → Good s w → (c : SetClock) → read_of (rows_of w) line ≡ Ok (SetsClock c) →
     Good (runs font w s line more (SetsClock c)).session (runs font w s line more (SetsClock c)).world
 keeps-clock font w s line more g c r = clock-good s w (clock_said c) g (said-legal (rows_of w) c (read-ranges (rows_of w) line (SetsClock c) r))
 
 -- ---- the clock call
 
 module _ (s : Session) (w : World) (seconds : ℕ) where
-  moved-good : (m : Moved) → moved s.clock seconds ≡ m → Good s w → Good (passed_by s m).session w
-  moved-good (To c) e g = clock-good s w c g (moved-legal s.clock c seconds e)
-  moved-good NoClock e g = g
-  moved-good TooLong e g = g
+  moved-good : (m : Result Clock Unmoved) → moved s.clock seconds ≡ m → Good s w → Good (passed_by s m).session w
+  moved-good (Ok c) e g = clock-good s w c g (moved-legal s.clock c seconds e)
+  moved-good (Err NoClock) e g = g
+  moved-good (Err TooLong) e g = g
 
   pub pass-good : Good s w → Good (passed s seconds).session w
   unfolding passed
   pass-good = moved-good (moved s.clock seconds) refl
 
-moved-tens : (s : Session) (m : Moved) → Tens s → Tens (passed_by s m).session
-moved-tens s (To c) t = record { flags = t.flags; values = t.values }
-moved-tens s NoClock t = t
-moved-tens s TooLong t = t
+moved-tens : (s : Session) (m : Result Clock Unmoved) → Tens s → Tens (passed_by s m).session
+moved-tens s (Ok c) t = record { flags = t.flags; values = t.values }
+moved-tens s (Err NoClock) t = t
+moved-tens s (Err TooLong) t = t
 
 pub pass-tens : (s : Session) (seconds : ℕ) → Tens s → Tens (passed s seconds).session
 unfolding passed

@@ -1,5 +1,6 @@
 -- FS and GM: a new entry, empty or with all its bytes.
 -- Assumes nothing.
+use Rattle.std.proofs.Common.{Ok}
 use mathlib.Core.Path.{◌≡◌, refl, sym, subst}
 use mathlib.Core.Bool.{true, false, false≢true}
 use mathlib.Core.List.{List, []}
@@ -8,11 +9,10 @@ use native.Mathlib.Omega.{arith}
 use lib.ListN.{length}
 use borrow.Author.Tests.{eqb-true}
 use Rattle.cells.proofs.Scan.{lowest-passes}
-use Rattle.finding.specs.declared.Found.{Found}
-use Rattle.finding.specs.declared.Found.TheVariants.{At, Nothing}
+use Rattle.std.specs.Prelude.{None, Option, Some, is_some}
 use Rattle.store.specs.Chain.{free_count}
 use Rattle.store.specs.Entry.{entries, entry, kind}
-use Rattle.finding.specs.Find.{is_at, is_empty, recorded}
+use Rattle.finding.specs.Find.{is_empty, recorded}
 use Rattle.room.specs.Room.{lowest_entry, has_room}
 use Rattle.starting.specs.Start.{begun}
 use Rattle.growing.specs.Keep.{kept}
@@ -26,7 +26,6 @@ use Rattle.grammar.specs.declared.StorePicture.{StorePicture}
 use Rattle.grammar.specs.declared.Command.TheVariants.{Forms, Pictures}
 use Rattle.grammar.specs.declared.FormCommand.TheVariants.{Start}
 use Rattle.grammar.specs.declared.PictureCommand.TheVariants.{Store}
-use Rattle.read.specs.declared.Read.TheVariants.{Taken as Reads}
 use Rattle.read.specs.Commands.{read_of}
 use Rattle.parts.specs.Names.{packed_of}
 use Rattle.forms.proofs.Growing.{form_ok-empty}
@@ -38,17 +37,17 @@ use Rattle.full.proofs.Full.{taken-room}
 use Rattle.lent.specs.Lent.{World, rows_of}
 use Rattle.results.specs.World.{memory_of}
 use Rattle.results.specs.Named.{lookup, named}
-use Rattle.commands.specs.Rows.{run_rows}
-use Rattle.commands.specs.Does.{runs}
+use Rattle.calls.specs.Rows.{run_rows}
+use Rattle.calls.specs.Does.{runs}
 use Rattle.keeps_sound.specs.Good.{Good}
 use Rattle.keeps_sound.proofs.Tables.{clear, not-no}
 use Rattle.keeps_sound.proofs.Titles.{start-title, store-title}
 use Rattle.keeps_sound.proofs.Freeing.{number-stored}
 use Rattle.keeps_sound.proofs.Stored.{good-moved}
 
-none_found : (f : Found) → is_at f ≡ false → f ≡ Nothing
-none_found (At i) e = absurd (false≢true (sym e))
-none_found Nothing e = refl
+none_found : (f : Option ℕ) → is_some f ≡ false → f ≡ None
+none_found (Some i) e = absurd (false≢true (sym e))
+none_found None e = refl
 
 -- the entry that is taken is empty: it is not the active form's
 empty-there : (free : ℕ) (directory : List ℕ) (size : ℕ) → has_room free directory size ≡ true
@@ -57,7 +56,7 @@ empty-there free directory size h =
     let b = (room_says free directory size h).0 in
     (b, eqb-true _ 0 (lowest-passes (is_empty directory) (entries directory) b))
 
-module _ (s : Session) (w : World) (g : Good s w) (z : s.owed ≡ 0) (quiet : recorded w.directory ≡ Nothing) where
+module _ (s : Session) (w : World) (g : Good s w) (z : s.owed ≡ 0) (quiet : recorded w.directory ≡ None) where
   -- room asked of the number is room by the links marked free
   counted-room : (size : ℕ) → has_room s.free w.directory size ≡ true → has_room (free_count w.links) w.directory size ≡ true
   counted-room size h = subst (λ (n : ℕ). has_room n w.directory size ≡ true) g.free h
@@ -67,7 +66,7 @@ module _ (s : Session) (w : World) (g : Good s w) (z : s.owed ≡ 0) (quiet : re
   apart size h e k = let o = (empty-there s.free w.directory size h).1 in let x : ⊥ = omega arith in x
 
   -- FS
-  pub keeps-start : (font line more : List ℕ) (room : ℕ) (n : Named) → read_of (rows_of w) line ≡ Reads (Forms (Start n))
+  pub keeps-start : (font line more : List ℕ) (room : ℕ) (n : Named) → read_of (rows_of w) line ≡ Ok (Forms (Start n))
       → answer_of (run_rows w s line more room (Forms (Start n))) ≡ Taken
       → Good (runs font w s line more (Forms (Start n))).session (runs font w s line more (Forms (Start n))).world
   unfolding is_taken number_of
@@ -91,7 +90,7 @@ module _ (s : Session) (w : World) (g : Good s w) (z : s.owed ≡ 0) (quiet : re
       there.0 (rw form_ok-empty) (apart 0 can)
 
   -- GM
-  pub keeps-picture : (font line more : List ℕ) (room : ℕ) (p : StorePicture) → read_of (rows_of w) line ≡ Reads (Pictures (Store p))
+  pub keeps-picture : (font line more : List ℕ) (room : ℕ) (p : StorePicture) → read_of (rows_of w) line ≡ Ok (Pictures (Store p))
       → answer_of (run_rows w s line more room (Pictures (Store p))) ≡ Taken
       → Good (runs font w s line more (Pictures (Store p))).session (runs font w s line more (Pictures (Store p))).world
   unfolding is_taken number_of

@@ -9,11 +9,12 @@ use native.Mathlib.Omega.{arith}
 use lib.ListN.{length, get_or, take, length-replicate, drop_of_length-le}
 use lib.Dec.{eqb, leb}
 use borrow.Author.Tests.{eq-eqb, ne_eqb, eqb-true, leb-true, leb-false, le-ltb}
+use Rattle.std.specs.Prelude.{is_some}
 use Rattle.cells.specs.Cell.{cell}
 use Rattle.cells.proofs.Counts.{all-at, all_of}
 use Rattle.store.specs.Chain.{free_count}
 use Rattle.store.specs.Entry.{entries, entry, kind, of_kind}
-use Rattle.finding.specs.Find.{is_at, recorded}
+use Rattle.finding.specs.Find.{recorded}
 use Rattle.contents.specs.Content.{content_of}
 use Rattle.memory.specs.Memory.{Memory}
 use Rattle.store_sound.specs.Sound.{lent_ok, store_sound}
@@ -107,7 +108,7 @@ module _ (s : Session) (directory bytes values : List ℕ) where
 -- what labels that are owed ask for
 module _ (n : ℕ) (directory bytes values : List ℕ) (c : Counters) where
   pub record Owed : Type 0 where
-    pub quiet : not (is_at (recorded directory)) ≡ true
+    pub quiet : not (is_some (recorded directory)) ≡ true
     pub set : all_set (declared_of bytes) values c ≡ true
     pub lasts : lasts (declared_of bytes) c n ≡ true
     pub pictures : pictures_stored directory bytes ≡ true
@@ -117,11 +118,11 @@ module _ (n : ℕ) (directory bytes values : List ℕ) (c : Counters) where
   owed-facts e some =
       let d = declared_of bytes in
       let rest = lasts d c n && pictures_stored directory bytes in
-      let t : (not (is_at (recorded directory)) && (all_set d values c && rest)) ≡ true = rw (ne_eqb n 0 some) at e in
-      let u = and_right (not (is_at (recorded directory))) (all_set d values c && rest) t in
+      let t : (not (is_some (recorded directory)) && (all_set d values c && rest)) ≡ true = rw (ne_eqb n 0 some) at e in
+      let u = and_right (not (is_some (recorded directory))) (all_set d values c && rest) t in
       let v = and_right (all_set d values c) rest u in
       record {
-        quiet = and_left (not (is_at (recorded directory))) (all_set d values c && rest) t;
+        quiet = and_left (not (is_some (recorded directory))) (all_set d values c && rest) t;
         set = and_left (all_set d values c) rest u;
         lasts = and_left (lasts d c n) (pictures_stored directory bytes) v;
         pictures = and_right (lasts d c n) (pictures_stored directory bytes) v;

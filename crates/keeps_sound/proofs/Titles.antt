@@ -1,5 +1,6 @@
 -- The name under which FS and GM store: a line that is read gives one that an entry may bear.
 -- Assumes nothing.
+use Rattle.std.proofs.Common.{Option, Some, None, Ok, Result, Err}
 use mathlib.Core.Path.{◌≡◌, refl, sym, ap, ◌∙◌, subst}
 use mathlib.Core.Bool.{Bool, true, false, not, cond, ◌&&◌, ◌||◌, false≢true, and-false}
 use mathlib.Core.List.{List, [], ◌∷◌}
@@ -17,8 +18,6 @@ use Rattle.cells.proofs.Counts.{all-at, all_of}
 use Rattle.cells.proofs.Scan.{lowest-passes, lowest-first, lowest-most}
 use Rattle.classes.specs.declared.Class.{Class}
 use Rattle.classes.specs.declared.Class.TheVariants.{Named as NameByte}
-use Rattle.data_field.specs.declared.Limits.{Limits}
-use Rattle.data_field.specs.declared.Limits.TheVariants.{Within, Outside}
 use Rattle.classes.specs.Bytes.{in_class, run, run_at}
 use Rattle.starting.specs.Start.{name_end}
 use Rattle.store_sound.specs.Sound.{legal_byte, name_byte_ok}
@@ -31,9 +30,6 @@ use Rattle.heads.specs.Heads.{head_of}
 use Rattle.row_limits.specs.Limits.{limits_from, field_limits, first_of, meets, named}
 use Rattle.parts.specs.Names.{capital, name_byte, packed_of}
 use Rattle.read.specs.Commands.{read_of, headed, judged, decided}
-use Rattle.heads.specs.declared.Head.{Head}
-use Rattle.heads.specs.declared.Head.TheVariants.{Row, Unknown}
-use Rattle.read.specs.declared.Read.TheVariants.{Taken as Reads}
 use Rattle.grammar.specs.declared.Named.{Named}
 use Rattle.grammar.specs.declared.StorePicture.{StorePicture}
 use Rattle.grammar.specs.declared.Command.{Command}
@@ -142,46 +138,46 @@ module _ (s : List ℕ) (p n : ℕ) (some : 1 ≤ n) (few : n ≤ 8) (name : run
 
 pub record Parted (rows : ℕ) (s : List ℕ) (c : Command) : Type 0 where
   pub row : ℕ
-  pub head : head_of s ≡ Row row
+  pub head : head_of s ≡ Some row
   pub vs : List ℕ
   pub ps : List ℕ
   pub read : fields_from (row_of row).fields s 0 ≡ good vs ps
-  pub within : limits_from (row_of row).fields (bounds_of row rows) s 0 vs ps ≡ Within
+  pub within : limits_from (row_of row).fields (bounds_of row rows) s 0 vs ps ≡ Ok tt
   pub command : command_of row s vs ps ≡ c
 
-pub line-parted : (rows : ℕ) (s : List ℕ) (c : Command) → read_of rows s ≡ Reads c → Parted rows s c
+pub line-parted : (rows : ℕ) (s : List ℕ) (c : Command) → read_of rows s ≡ Ok c → Parted rows s c
 unfolding read_of headed judged
 line-parted rows s c h = go (head_of s) refl h
   where
-    within : (row : ℕ) (vs ps : List ℕ) (l : Limits) → head_of s ≡ Row row → fields_from (row_of row).fields s 0 ≡ good vs ps
-        → limits_from (row_of row).fields (bounds_of row rows) s 0 vs ps ≡ l → decided l (command_of row s vs ps) ≡ Reads c → Parted rows s c
-    within row vs ps Within a b e d = record { row = row; head = a; vs = vs; ps = ps; read = b; within = e; command = cc }
-    within row vs ps (Outside p) a b e d = absurd (let z : ◌≡◌ {A = ℕ} 0 1 = cc in omega arith)
+    within : (row : ℕ) (vs ps : List ℕ) (l : Result Unit ℕ) → head_of s ≡ Some row → fields_from (row_of row).fields s 0 ≡ good vs ps
+        → limits_from (row_of row).fields (bounds_of row rows) s 0 vs ps ≡ l → decided l (command_of row s vs ps) ≡ Ok c → Parted rows s c
+    within row vs ps (Ok u) a b e d = record { row = row; head = a; vs = vs; ps = ps; read = b; within = e; command = cc }
+    within row vs ps (Err p) a b e d = absurd (let z : ◌≡◌ {A = ℕ} 0 1 = cc in omega arith)
 
-    fields : (row : ℕ) (g : Got) → head_of s ≡ Row row → fields_from (row_of row).fields s 0 ≡ g → judged row rows s g ≡ Reads c → Parted rows s c
+    fields : (row : ℕ) (g : Got) → head_of s ≡ Some row → fields_from (row_of row).fields s 0 ≡ g → judged row rows s g ≡ Ok c → Parted rows s c
     fields row (good vs ps) a b d = within row vs ps (limits_from (row_of row).fields (bounds_of row rows) s 0 vs ps) a b refl d
     fields row (bad vs ps p) a b d = absurd (let z : ◌≡◌ {A = ℕ} 0 1 = cc in omega arith)
 
-    go : (x : Head) → head_of s ≡ x → headed x rows s ≡ Reads c → Parted rows s c
-    go (Row row) a d = fields row (fields_from (row_of row).fields s 0) a refl d
-    go Unknown a d = absurd (let z : ◌≡◌ {A = ℕ} 0 1 = cc in omega arith)
+    go : (x : Option ℕ) → head_of s ≡ x → headed x rows s ≡ Ok c → Parted rows s c
+    go (Some row) a d = fields row (fields_from (row_of row).fields s 0) a refl d
+    go None a d = absurd (let z : ◌≡◌ {A = ℕ} 0 1 = cc in omega arith)
 
 -- what the limits of a row tell of the command that its fields make, for each row
 abbrev pub Told : (ℕ → List ℕ → Command → Type 0) → ℕ → Form → Type 0
 Told q k f =
-    (rows : ℕ) (s vs ps : List ℕ) → limits_from f.fields (spread f.fields (f.bounds rows)) s 0 vs ps ≡ Within
+    (rows : ℕ) (s vs ps : List ℕ) → limits_from f.fields (spread f.fields (f.bounds rows)) s 0 vs ps ≡ Ok tt
     → q rows s (f.makes s (λ i. get_or (in_order f.fields 0 vs) i 0) (λ i. get_or (in_order f.fields 0 ps) i 0))
 
-pub limits-tell : (q : ℕ → List ℕ → Command → Type 0) → Each (Told q) forms → (rows : ℕ) (s : List ℕ) (c : Command) → read_of rows s ≡ Reads c → q rows s c
+pub limits-tell : (q : ℕ → List ℕ → Command → Type 0) → Each (Told q) forms → (rows : ℕ) (s : List ℕ) (c : Command) → read_of rows s ≡ Ok c → q rows s c
 limits-tell q h rows s c e =
     let p = line-parted rows s c e in
     subst (q rows s) p.command (each_row (Told q) h p.row rows s p.vs p.ps p.within)
 
 -- ---- its name is within its limits
 
-pub first-within : (a b : Limits) → first_of a b ≡ Within → (a ≡ Within) × (b ≡ Within)
-first-within Within b h = (refl, h)
-first-within (Outside p) b h = absurd (let z : ◌≡◌ {A = ℕ} 0 1 = cc in omega arith)
+pub first-within : (a b : Result Unit ℕ) → first_of a b ≡ Ok tt → (a ≡ Ok tt) × (b ≡ Ok tt)
+first-within (Ok u) b h = (refl, h)
+first-within (Err p) b h = absurd (let z : ◌≡◌ {A = ℕ} 0 1 = cc in omega arith)
 
 third : (l : List ℕ) → get_or (drop 1 (drop 1 l)) 0 0 ≡ get_or l 2 0
 third [] = refl
@@ -194,24 +190,24 @@ pub record Name (s : List ℕ) (p n : ℕ) : Type 0 where
   pub few : n ≤ 8
   pub bytes : run_at NameByte s (p + 1) ≡ n
 
-name-field : (s : List ℕ) (u v p n : ℕ) → field_limits 97 (1, 8) s u v p n ≡ Within → Name s p v
+name-field : (s : List ℕ) (u v p n : ℕ) → field_limits 97 (1, 8) s u v p n ≡ Ok tt → Name s p v
 unfolding field_limits meets between
 name-field s u v p n h = go (leb 1 v) (leb v 8) (named s p v) refl refl refl h
   where
-    go : (a b c : Bool) → leb 1 v ≡ a → leb v 8 ≡ b → named s p v ≡ c → cond ((a && b) && c) Within (Outside p) ≡ Within → Name s p v
+    go : (a b c : Bool) → leb 1 v ≡ a → leb v 8 ≡ b → named s p v ≡ c → ◌≡◌ {A = Result Unit ℕ} (cond ((a && b) && c) (Ok tt) (Err p)) (Ok tt) → Name s p v
     go true true true x y z k = record { some = leb-true 1 v x; few = leb-true v 8 y; bytes = eqb-true (run_at NameByte s (p + 1)) v z }
     go true true false x y z k = absurd (let w : ◌≡◌ {A = ℕ} 0 1 = cc in omega arith)
     go true false c x y z k = absurd (let w : ◌≡◌ {A = ℕ} 0 1 = cc in omega arith)
     go false b c x y z k = absurd (let w : ◌≡◌ {A = ℕ} 0 1 = cc in omega arith)
 
-pub limits-rest : (f : ℕ) (fs : List ℕ) (ls : List (ℕ × ℕ)) (s : List ℕ) (u : ℕ) (vs ps : List ℕ) → limits_from (f ∷ fs) ls s u vs ps ≡ Within
-    → limits_from fs (drop 1 ls) s (cond (is_number f) (get_or vs 0 0) u) (drop 1 vs) (drop 1 ps) ≡ Within
+pub limits-rest : (f : ℕ) (fs : List ℕ) (ls : List (ℕ × ℕ)) (s : List ℕ) (u : ℕ) (vs ps : List ℕ) → limits_from (f ∷ fs) ls s u vs ps ≡ Ok tt
+    → limits_from fs (drop 1 ls) s (cond (is_number f) (get_or vs 0 0) u) (drop 1 vs) (drop 1 ps) ≡ Ok tt
 unfolding limits_from
 limits-rest f fs ls s u vs ps h =
     (first-within (field_limits f (get_or ls 0 free) s u (get_or vs 0 0) (get_or ps 0 0) (get_or vs 2 0))
     (limits_from fs (drop 1 ls) s (cond (is_number f) (get_or vs 0 0) u) (drop 1 vs) (drop 1 ps)) h).1
 
-limits-name : (fs : List ℕ) (ls : List (ℕ × ℕ)) (s : List ℕ) (u : ℕ) (vs ps : List ℕ) → get_or ls 0 free ≡ (1, 8) → limits_from (97 ∷ fs) ls s u vs ps ≡ Within
+limits-name : (fs : List ℕ) (ls : List (ℕ × ℕ)) (s : List ℕ) (u : ℕ) (vs ps : List ℕ) → get_or ls 0 free ≡ (1, 8) → limits_from (97 ∷ fs) ls s u vs ps ≡ Ok tt
     → Name s (get_or ps 0 0) (get_or vs 0 0)
 unfolding limits_from
 limits-name fs ls s u vs ps e h =
@@ -221,7 +217,7 @@ limits-name fs ls s u vs ps e h =
     (limits_from fs (drop 1 ls) s (cond (is_number 97) (get_or vs 0 0) u) (drop 1 vs) (drop 1 ps)) h).0)
 
 third-name : (f g : ℕ) (fs : List ℕ) (ls : List (ℕ × ℕ)) (s : List ℕ) (u : ℕ) (vs ps : List ℕ) → get_or (drop 1 (drop 1 ls)) 0 free ≡ (1, 8)
-    → limits_from (f ∷ (g ∷ (97 ∷ fs))) ls s u vs ps ≡ Within → Name s (get_or ps 2 0) (get_or vs 2 0)
+    → limits_from (f ∷ (g ∷ (97 ∷ fs))) ls s u vs ps ≡ Ok tt → Name s (get_or ps 2 0) (get_or vs 2 0)
 third-name f g fs ls s u vs ps e h =
     let a = limits-rest f (g ∷ (97 ∷ fs)) ls s u vs ps h in
     let b = limits-rest g (97 ∷ fs) (drop 1 ls) s (cond (is_number f) (get_or vs 0 0) u) (drop 1 vs) (drop 1 ps) a in
@@ -281,17 +277,17 @@ titles =
     & (λ rows s vs ps h. tt)
     & (λ k rows s vs ps h. tt)
 
-pub start-named : (rows : ℕ) (s : List ℕ) (n : Named) → read_of rows s ≡ Reads (Forms (Start n)) → Name s n.at n.length
+pub start-named : (rows : ℕ) (s : List ℕ) (n : Named) → read_of rows s ≡ Ok (Forms (Start n)) → Name s n.at n.length
 start-named rows s n h = limits-tell Titled titles rows s (Forms (Start n)) h
 
-pub store-named : (rows : ℕ) (s : List ℕ) (x : StorePicture) → read_of rows s ≡ Reads (Pictures (Store x)) → Name s x.at x.length
+pub store-named : (rows : ℕ) (s : List ℕ) (x : StorePicture) → read_of rows s ≡ Ok (Pictures (Store x)) → Name s x.at x.length
 store-named rows s x h = limits-tell Titled titles rows s (Pictures (Store x)) h
 
 name-title : (s : List ℕ) (p n : ℕ) → Name s p n → title_ok (packed_of s p n) ≡ true
 name-title s p n a = title-legal s p n a.some a.few a.bytes
 
-pub start-title : (rows : ℕ) (s : List ℕ) (n : Named) → read_of rows s ≡ Reads (Forms (Start n)) → title_ok (packed_of s n.at n.length) ≡ true
+pub start-title : (rows : ℕ) (s : List ℕ) (n : Named) → read_of rows s ≡ Ok (Forms (Start n)) → title_ok (packed_of s n.at n.length) ≡ true
 start-title rows s n h = name-title s n.at n.length (start-named rows s n h)
 
-pub store-title : (rows : ℕ) (s : List ℕ) (x : StorePicture) → read_of rows s ≡ Reads (Pictures (Store x)) → title_ok (packed_of s x.at x.length) ≡ true
+pub store-title : (rows : ℕ) (s : List ℕ) (x : StorePicture) → read_of rows s ≡ Ok (Pictures (Store x)) → title_ok (packed_of s x.at x.length) ≡ true
 store-title rows s x h = name-title s x.at x.length (store-named rows s x h)

@@ -1,5 +1,6 @@
 -- A format that was read has no LF in it: its letters are none, and "a separator is any one byte 33 to 126 but the quote".
 -- Assumes nothing.
+use Rattle.std.specs.Prelude.{Result, Ok, Err}
 use mathlib.Core.Path.{◌≡◌, refl, sym, ap, ◌∙◌}
 use mathlib.Core.Bool.{Bool, true, false, cond, false≢true}
 use mathlib.Core.List.{List, [], ◌∷◌}
@@ -15,11 +16,8 @@ use Rattle.formats.specs.declared.Stamp.{Stamp}
 use Rattle.formats.specs.declared.Stamp.TheVariants.{Date, Time}
 use Rattle.formats.specs.Formats.{format, unit, new_unit, separator}
 use Rattle.formats.proofs.Legality.{no-new}
-use Rattle.fields.specs.declared.Field.TheVariants.{Is}
-use Rattle.format_field.specs.declared.Spot.{Spot}
-use Rattle.format_field.specs.declared.Spot.TheVariants.{Letters, Fault}
-use Rattle.format_field.specs.declared.Found.TheVariants.{Whole, Wrong}
 use Rattle.format_field.specs.Reading.{letter, date_field, time_field, width, field_of, cut_at, spot_of, field_at, further_at, with_third, with_second, with_first, format_at, format_field}
+use Rattle.fields.proofs.Pairs.{ok_second}
 use Rattle.format_field.proofs.Laws.{format_read}
 
 -- no LF from a place to another
@@ -63,16 +61,16 @@ module _ (s : List ℕ) (u v at : ℕ) where
       go (no x) e = let y : at + 1 ≡ i = omega arith in second-letter h (ap (λ (k : ℕ). get_or s k 0) y ∙ e)
   letters-unbroken Time h i l m = λ e. let y : at ≡ i = omega arith in first-letter Time h (ap (λ (k : ℕ). get_or s k 0) y ∙ e)
 
-field-unbroken : (st : Stamp) (s : List ℕ) (u v at x n : ℕ) → field_at st s u v at ≡ Letters x n → Unbroken s at n
+field-unbroken : (st : Stamp) (s : List ℕ) (u v at x n : ℕ) → field_at st s u v at ≡ Ok (x, n) → Unbroken s at n
 unfolding field_at
 field-unbroken st s u v at x n = whole (leb (at + width st) (length s))
   where
     spot : (b : Bool) → new_unit u v (unit st (field_of st (get_or s at 0) (get_or s (at + 1) 0))) ≡ b
-        → cond b (Letters (field_of st (get_or s at 0) (get_or s (at + 1) 0)) (at + width st)) (Fault at) ≡ Letters x n → Unbroken s at n
-    spot true p e = let q : at + width st ≡ n = cc in rw q at (letters-unbroken s u v at st p)
+        → cond {A = Result (ℕ × ℕ) ℕ} b (Ok (field_of st (get_or s at 0) (get_or s (at + 1) 0), at + width st)) (Err at) ≡ Ok (x, n) → Unbroken s at n
+    spot true p e = let q : at + width st ≡ n = ok_second e in rw q at (letters-unbroken s u v at st p)
     spot false p e = absurd (let z : ◌≡◌ {A = ℕ} 0 1 = cc in omega arith)
 
-    whole : (b : Bool) → cond b (spot_of st u v at (field_of st (get_or s at 0) (get_or s (at + 1) 0))) (Fault (cut_at s u v at)) ≡ Letters x n → Unbroken s at n
+    whole : (b : Bool) → cond b (spot_of st u v at (field_of st (get_or s at 0) (get_or s (at + 1) 0))) (Err (cut_at s u v at)) ≡ Ok (x, n) → Unbroken s at n
     whole true e = spot (new_unit u v (unit st (field_of st (get_or s at 0) (get_or s (at + 1) 0)))) refl e
     whole false e = absurd (let z : ◌≡◌ {A = ℕ} 0 1 = cc in omega arith)
 
@@ -81,7 +79,7 @@ unfolding separator between
 lf-no-mark e = false≢true e
 
 -- a separator and a field
-further-unbroken : (st : Stamp) (s : List ℕ) (u v at x n : ℕ) → further_at st s u v at ≡ Letters x n → Unbroken s at n
+further-unbroken : (st : Stamp) (s : List ℕ) (u v at x n : ℕ) → further_at st s u v at ≡ Ok (x, n) → Unbroken s at n
 unfolding further_at
 further-unbroken st s u v at x n = go (separator (get_or s at 0)) refl
   where
@@ -91,7 +89,7 @@ further-unbroken st s u v at x n = go (separator (get_or s at 0)) refl
         let z : get_or s at 0 ≡ 10 = ap (λ (k : ℕ). get_or s k 0) y ∙ e in
         lf-no-mark (rw z at h)
 
-    go : (b : Bool) → separator (get_or s at 0) ≡ b → cond b (field_at st s u v (at + 1)) (Fault at) ≡ Letters x n → Unbroken s at n
+    go : (b : Bool) → separator (get_or s at 0) ≡ b → cond b (field_at st s u v (at + 1)) (Err at) ≡ Ok (x, n) → Unbroken s at n
     go true p e = joined s at (at + 1) n (mark p) (field-unbroken st s u v (at + 1) x n e)
     go false p e = absurd (let z : ◌≡◌ {A = ℕ} 0 1 = cc in omega arith)
 
@@ -101,33 +99,33 @@ module _ (st : Stamp) (s : List ℕ) (f : Format) where
   less : (at n : ℕ) → length s ≤ n → Unbroken s at n → Unbroken s at (length s)
   less at n h k i l m = k i l (omega arith)
 
-  third : (at a d b e : ℕ) → Unbroken s at e → (t : Spot) → further_at st s (unit st a) (unit st b) e ≡ t → with_third s a d b e t ≡ Whole f → Unbroken s at (length s)
-  third at a d b e k (Fault x) r w = absurd (let z : ◌≡◌ {A = ℕ} 0 1 = cc in omega arith)
-  third at a d b e k (Letters c n) r w = go (leb (length s) n) refl w
+  third : (at a d b e : ℕ) → Unbroken s at e → (t : Result (ℕ × ℕ) ℕ) → further_at st s (unit st a) (unit st b) e ≡ t → with_third s a d b e t ≡ Ok f → Unbroken s at (length s)
+  third at a d b e k (Err x) r w = absurd (let z : ◌≡◌ {A = ℕ} 0 1 = cc in omega arith)
+  third at a d b e k (Ok (c, n)) r w = go (leb (length s) n) refl w
     where
-      go : (t : Bool) → leb (length s) n ≡ t → cond t (Whole (format a (get_or s d 0) b (get_or s e 0) c)) (Wrong n) ≡ Whole f → Unbroken s at (length s)
+      go : (t : Bool) → leb (length s) n ≡ t → cond t (Ok (format a (get_or s d 0) b (get_or s e 0) c)) (Err n) ≡ Ok f → Unbroken s at (length s)
       go true q i = less at n (leb-true (length s) n q) (joined s at e n k (further-unbroken st s (unit st a) (unit st b) e c n r))
       go false q i = absurd (let z : ◌≡◌ {A = ℕ} 0 1 = cc in omega arith)
 
-  second : (at a d : ℕ) → Unbroken s at d → (t : Spot) → further_at st s (unit st a) 0 d ≡ t → with_second st s a d t ≡ Whole f → Unbroken s at (length s)
-  second at a d k (Fault x) r w = absurd (let z : ◌≡◌ {A = ℕ} 0 1 = cc in omega arith)
-  second at a d k (Letters b e) r w = go (leb (length s) e) refl w
+  second : (at a d : ℕ) → Unbroken s at d → (t : Result (ℕ × ℕ) ℕ) → further_at st s (unit st a) 0 d ≡ t → with_second st s a d t ≡ Ok f → Unbroken s at (length s)
+  second at a d k (Err x) r w = absurd (let z : ◌≡◌ {A = ℕ} 0 1 = cc in omega arith)
+  second at a d k (Ok (b, e)) r w = go (leb (length s) e) refl w
     where
       both : Unbroken s at e
       both = joined s at d e k (further-unbroken st s (unit st a) 0 d b e r)
 
-      go : (t : Bool) → leb (length s) e ≡ t → cond t (Whole (format a (get_or s d 0) b 0 0)) (with_third s a d b e (further_at st s (unit st a) (unit st b) e)) ≡ Whole f → Unbroken s at (length s)
+      go : (t : Bool) → leb (length s) e ≡ t → cond t (Ok (format a (get_or s d 0) b 0 0)) (with_third s a d b e (further_at st s (unit st a) (unit st b) e)) ≡ Ok f → Unbroken s at (length s)
       go true q i = less at e (leb-true (length s) e q) both
       go false q i = third at a d b e both (further_at st s (unit st a) (unit st b) e) refl i
 
-  first : (at : ℕ) (t : Spot) → field_at st s 0 0 at ≡ t → with_first st s t ≡ Whole f → Unbroken s at (length s)
-  first at (Fault x) r w = absurd (let z : ◌≡◌ {A = ℕ} 0 1 = cc in omega arith)
-  first at (Letters a d) r w = go (leb (length s) d) refl w
+  first : (at : ℕ) (t : Result (ℕ × ℕ) ℕ) → field_at st s 0 0 at ≡ t → with_first st s t ≡ Ok f → Unbroken s at (length s)
+  first at (Err x) r w = absurd (let z : ◌≡◌ {A = ℕ} 0 1 = cc in omega arith)
+  first at (Ok (a, d)) r w = go (leb (length s) d) refl w
     where
-      go : (t : Bool) → leb (length s) d ≡ t → cond t (Whole (format a 0 0 0 0)) (with_second st s a d (further_at st s (unit st a) 0 d)) ≡ Whole f → Unbroken s at (length s)
+      go : (t : Bool) → leb (length s) d ≡ t → cond t (Ok (format a 0 0 0 0)) (with_second st s a d (further_at st s (unit st a) 0 d)) ≡ Ok f → Unbroken s at (length s)
       go true q i = less at d (leb-true (length s) d q) (field-unbroken st s 0 0 at a d r)
       go false q i = second at a d (field-unbroken st s 0 0 at a d r) (further_at st s (unit st a) 0 d) refl i
 
-pub format-unbroken : (st : Stamp) (s : List ℕ) (at v e : ℕ) → format_field st s at ≡ Is v e → Unbroken s at (length s)
+pub format-unbroken : (st : Stamp) (s : List ℕ) (at v e : ℕ) → format_field st s at ≡ Ok (v, e) → Unbroken s at (length s)
 unfolding format_at
 format-unbroken st s at v e h = let r = format_read st s at v e h in first st s r.found at (field_at st s 0 0 at) refl r.reads

@@ -1,6 +1,7 @@
 -- The commands over values, the active form and the labels owed lead from a sound world to a sound one: FR, ?V, ?C, VC, P and N; and those that only
 -- list: FI, GI and FP.
 -- Assumes nothing.
+use Rattle.std.proofs.Common.{Ok, Err}
 use mathlib.Core.Path.{◌≡◌, refl, sym, ap, ◌∙◌}
 use mathlib.Core.Bool.{Bool, true, false, not, ◌||◌, cond, true≢false}
 use mathlib.Core.List.{List}
@@ -13,15 +14,13 @@ use borrow.Author.Tests.{le-leb, not-false}
 use Rattle.cells.specs.Cell.{zeros}
 use Rattle.cells.proofs.Cells.{length-zeros}
 use Rattle.cells.proofs.Scan.{lowest-passes, lowest-before}
-use Rattle.finding.specs.declared.Found.{Found}
-use Rattle.finding.specs.declared.Found.TheVariants.{At, Nothing}
 use Rattle.store.specs.Entry.{entries, entry, kind, of_kind}
-use Rattle.finding.specs.Find.{is_at, is_recording, recorded, same_name, titled, titled_at}
+use Rattle.finding.specs.Find.{is_recording, recorded, same_name, titled, titled_at}
 use Rattle.finding.proofs.Finding.{at-says, nothing-says}
 use Rattle.declarations.specs.declared.Declared.{Declared}
-use Rattle.declarations.specs.declared.Entered.TheVariants.{Taken as Enters, Undeclared as NotDeclared, Unfit as DoesNotFit}
+use Rattle.declarations.specs.declared.Refused.TheVariants.{Undeclared as NotDeclared, Unfit as DoesNotFit}
 use Rattle.declarations.specs.Declarations.{side_at, length_at, variable_declared}
-use Rattle.counters.specs.Counters.{none_set, counter_entered}
+use Rattle.counters.specs.Counters.{none_set, counter_entered, counters_after}
 use Rattle.counter_steps.specs.Steps.{lasts}
 use Rattle.padding.specs.Padding.{enters, padded}
 use Rattle.stored_values.specs.Stored.{field, stored, variable_entered, unset}
@@ -36,7 +35,6 @@ use Rattle.grammar.specs.declared.PageCommand.TheVariants.{White}
 use Rattle.grammar.specs.declared.FormCommand.TheVariants.{Retrieve}
 use Rattle.grammar.specs.declared.ValueCommand.TheVariants.{Variable as EnterVariable, Counter as EnterCounter, Clear, Print}
 use Rattle.grammar.specs.declared.ListingCommand.TheVariants.{Forms as ListForms, Pictures as ListPictures, Form as ListForm}
-use Rattle.read.specs.declared.Read.TheVariants.{Taken as Reads}
 use Rattle.read.specs.Commands.{read_of}
 use Rattle.parts.specs.Names.{packed_of}
 use Rattle.forms.specs.Form.{pictures_stored}
@@ -53,8 +51,8 @@ use Rattle.results.specs.Named.{place_of, named}
 use Rattle.results.proofs.Lengths.{directory-long}
 use Rattle.page_commands.specs.Page.{whitened}
 use Rattle.value_commands.specs.Values.{text_of}
-use Rattle.commands.specs.Rows.{run_rows}
-use Rattle.commands.specs.Does.{runs}
+use Rattle.calls.specs.Rows.{run_rows}
+use Rattle.calls.specs.Does.{runs}
 use Rattle.ground.proofs.Tests.{or-second}
 use Rattle.keeps_sound.specs.Good.{Good}
 use Rattle.keeps_sound.specs.Tens.{Tens}
@@ -64,6 +62,7 @@ use Rattle.keeps_sound.proofs.Stored.{Active, activity-facts, facts-activity, ow
 use Rattle.keeps_sound.proofs.Tables.{clear}
 use Rattle.keeps_sound.proofs.Fresh.{white-zeros}
 use Rattle.keeps_sound.proofs.Numbers.{background-good}
+use Rattle.std.specs.Prelude.{None, Option, Some, is_some}
 
 -- ---- lengths, and values that are unset
 
@@ -76,7 +75,7 @@ unfolding variable_entered
 length-entered d n text values = go (variable_declared d n) (enters (side_at d n) (length_at d n) text)
   where
     go : (a b : Bool)
-        → length (cond a (cond b (stored Enters (sets values (34 * n) (field (padded (side_at d n) (length_at d n) text)))) (stored DoesNotFit values)) (stored NotDeclared values)).values ≡ length values
+        → length (cond a (cond b (stored (Ok tt) (sets values (34 * n) (field (padded (side_at d n) (length_at d n) text)))) (stored (Err DoesNotFit) values)) (stored (Err NotDeclared) values)).values ≡ length values
     go true true = length-sets values (34 * n) (field (padded (side_at d n) (length_at d n) text))
     go true false = refl
     go false b = refl
@@ -91,7 +90,7 @@ or-other : (a b : Bool) → (a || b) ≡ true → b ≡ false → a ≡ true
 or-other true b e z = refl
 or-other false b e z = absurd (true≢false (sym e ∙ z))
 
-module _ (directory name : List ℕ) (long : length directory ≤ 8192) (quiet : recorded directory ≡ Nothing) where
+module _ (directory name : List ℕ) (long : length directory ≤ 8192) (quiet : recorded directory ≡ None) where
   not-recording : (i : ℕ) → i < entries directory → is_recording directory i ≡ false
   not-recording i h =
       lowest-before (is_recording directory) (entries directory) i (omega (arith, nothing-says (is_recording directory) (entries directory) quiet))
@@ -100,16 +99,16 @@ module _ (directory name : List ℕ) (long : length directory ≤ 8192) (quiet :
   unfolding titled
   titled-form i e = first_of (of_kind false (kind (entry directory i))) (same_name (entry directory i) name) e
 
-  found-active : (f : Found) → titled_at directory false name ≡ f → active_ok directory (place_of f) ≡ true
+  found-active : (f : Option ℕ) → titled_at directory false name ≡ f → active_ok directory (place_of f) ≡ true
   unfolding active_ok
-  found-active (At i) e =
+  found-active (Some i) e =
       let a = at-says (titled directory false name) (entries directory) i e in
       let t : titled directory false name i ≡ true =
       ap (titled directory false name) (sym a.0) ∙ lowest-passes (titled directory false name) (entries directory) (omega (arith, a.0, a.1)) in
       let small : sixteen_bits i ≡ i = omega (arith, a.1, long) in
       rw small
       (or-second (eqb i 65535) _ (or-other (eqb (kind (entry directory i)) 1) (eqb (kind (entry directory i)) 3) (titled-form i t) (not-recording i a.1)))
-  found-active Nothing e = refl
+  found-active None e = refl
 
   pub found-form : active_ok directory (place_of (titled_at directory false name)) ≡ true
   found-form = found-active (titled_at directory false name) refl
@@ -135,7 +134,7 @@ module _ (font : List ℕ) (w : World) (s : Session) (line more : List ℕ) (g :
   was = activity-facts s w.directory (active_of w s) w.values g.activity
 
   -- FR: "FR unsets all values"
-  pub keeps-retrieve : (n : Named) → recorded w.directory ≡ Nothing → s.owed ≡ 0
+  pub keeps-retrieve : (n : Named) → recorded w.directory ≡ None → s.owed ≡ 0
       → Good (runs font w s line more (Forms (Retrieve n))).session (runs font w s line more (Forms (Retrieve n))).world
   unfolding numbers_ok
   keeps-retrieve n quiet none =
@@ -166,7 +165,7 @@ module _ (font : List ℕ) (w : World) (s : Session) (line more : List ℕ) (g :
   unfolding numbers_ok
   keeps-counter c none t =
       let d = active_declared w s in
-      let c' = (counter_entered d s.counters c.n c.value).counters in
+      let c' = counters_after s.counters (counter_entered d s.counters c.n c.value) in
       values-good (counting s c') w.values refl g.numbers g.times refl refl refl (record {
         form = was.form;
         fit = sound-counted d w.values s.counters was.fit t.values c.n c.value t.flags;
@@ -185,7 +184,7 @@ module _ (font : List ℕ) (w : World) (s : Session) (line more : List ℕ) (g :
       })
 
   -- P: its pictures are stored [11], all declared values set [18], and no counter runs out [22]
-  print-owed : (room : ℕ) (p : PrintOf) → recorded w.directory ≡ Nothing → answer_of (run_rows w s line more room (Values (Print p))) ≡ Taken
+  print-owed : (room : ℕ) (p : PrintOf) → recorded w.directory ≡ None → answer_of (run_rows w s line more room (Values (Print p))) ≡ Taken
       → owed_ok (sixteen_bits p.k) w.directory (active_of w s) w.values s.counters ≡ true
   unfolding is_taken number_of
   print-owed room p quiet e =
@@ -193,13 +192,13 @@ module _ (font : List ℕ) (w : World) (s : Session) (line more : List ℕ) (g :
       let b = clear Unset (not (all_set (active_declared w s) w.values s.counters)) _ refl a.1 in
       let l = clear RunsOut (not (lasts (active_declared w s) s.counters (sixteen_bits p.k))) _ refl b.1 in
       facts-owed (sixteen_bits p.k) w.directory (active_of w s) w.values s.counters (record {
-        quiet = ap (λ (f : Found). not (is_at f)) quiet;
+        quiet = ap (λ (f : Option ℕ). not (is_some f)) quiet;
         set = not-false _ b.0;
         lasts = not-false _ l.0;
         pictures = not-false _ a.0;
       })
 
-  pub keeps-print : (room : ℕ) (p : PrintOf) → recorded w.directory ≡ Nothing → read_of (rows_of w) line ≡ Reads (Values (Print p))
+  pub keeps-print : (room : ℕ) (p : PrintOf) → recorded w.directory ≡ None → read_of (rows_of w) line ≡ Ok (Values (Print p))
       → answer_of (run_rows w s line more room (Values (Print p))) ≡ Taken
       → Good (runs font w s line more (Values (Print p))).session (runs font w s line more (Values (Print p))).world
   unfolding numbers_ok

@@ -2,3 +2,7 @@
 pub mod Good
 pub mod Tens
 pub mod Calls
+pub use Rattle.calls.specs.Outcomes
+pub use Rattle.calls.specs.Station
+pub use Rattle.calls.specs.Table
+pub use Rattle.sound.specs.Sound

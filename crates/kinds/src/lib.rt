@@ -3,7 +3,7 @@
 // Paper 01 says under "Fit data" how many bytes a text or a bar symbol takes, and which. This crate has that paragraph for
 // bytes that are known: `fits` answers true exactly when the definition `fit` (specs/Fit.antt) holds. What becomes of data with
 // variables and counters in it stands in crate `fitness`, the bars themselves in crate `bars`, and the line under them in crate `lined`.
-#![tactic(auto)]
+#![tactic(auto, unfolding(crate::specs::Bytes::between, crate::specs::Fit::in_class, crate::specs::Fit::fit_length, crate::specs::Fit::fit))]
 
 ghost use Rattle.std.specs.Prelude.{◌≡◌, ◌&&◌, length};
 ghost use Rattle.kinds.specs.Bytes.{between, all_in};
@@ -41,31 +41,13 @@ pub enum Under {
 pub fn is_between(lo: u8, hi: u8, b: u8) -> bool
     ensures { result ≡ between lo hi b }
 {
-    if b < lo {
-        return false;
-    }
-    b <= hi
+    lo <= b && b <= hi
 }
 
 fn is_39(b: u8) -> bool
     ensures { result ≡ in_class Kind.Code39 b }
 {
-    if is_between(b'0', b'9', b) {
-        return true;
-    }
-    if is_between(b'A', b'Z', b) {
-        return true;
-    }
-    match b {
-        b'-' => true,
-        b'.' => true,
-        b' ' => true,
-        b'$' => true,
-        b'/' => true,
-        b'+' => true,
-        b'%' => true,
-        _ => false,
-    }
+    matches!(b, b'0'..=b'9' | b'A'..=b'Z' | b'-' | b'.' | b' ' | b'$' | b'/' | b'+' | b'%')
 }
 
 // Whether a byte may stand in data of a kind.
@@ -75,8 +57,7 @@ pub fn in_class(k: Kind, b: u8) -> bool
     match k {
         Kind::Shown => true,
         Kind::Code39 => is_39(b),
-        Kind::Interleaved => is_between(b'0', b'9', b),
-        Kind::Ean13 => is_between(b'0', b'9', b),
+        Kind::Interleaved | Kind::Ean13 => is_between(b'0', b'9', b),
         Kind::Code128 => is_between(b' ', b'~', b),
     }
 }
@@ -85,36 +66,19 @@ pub fn in_class(k: Kind, b: u8) -> bool
 pub fn all_in(k: Kind, s: &[u8]) -> bool
     ensures { result ≡ all_in (in_class k) s.now }
 {
-    let mut i = 0;
-    while i < s.len() {
-        if in_class(k, s[i]) {
-            i += 1;
-        } else {
-            return false;
-        }
-    }
-    true
+    s.iter().all(|b| in_class(k, *b))
 }
 
 fn some(n: usize) -> bool
     ensures { result ≡ fit_length Kind.Code39 n }
 {
-    if n < 1 {
-        return false;
-    }
-    n <= MOST_DATA
+    1 <= n && n <= MOST_DATA
 }
 
 fn pairs(n: usize) -> bool
     ensures { result ≡ fit_length Kind.Interleaved n }
 {
-    if n < 2 {
-        return false;
-    }
-    if MOST_DATA < n {
-        return false;
-    }
-    n % 2 == 0
+    2 <= n && n <= MOST_DATA && n % 2 == 0
 }
 
 // Whether data of a kind may have n bytes.
@@ -123,10 +87,9 @@ pub fn fit_length(k: Kind, n: usize) -> bool
 {
     match k {
         Kind::Shown => n <= MOST_DATA,
-        Kind::Code39 => some(n),
+        Kind::Code39 | Kind::Code128 => some(n),
         Kind::Interleaved => pairs(n),
         Kind::Ean13 => n == 12,
-        Kind::Code128 => some(n),
     }
 }
 
@@ -134,8 +97,5 @@ pub fn fit_length(k: Kind, n: usize) -> bool
 pub fn fits(k: Kind, s: &[u8]) -> bool
     ensures { result ≡ fit k s.now }
 {
-    if fit_length(k, s.len()) {
-        return all_in(k, s);
-    }
-    false
+    fit_length(k, s.len()) && all_in(k, s)
 }

@@ -1,1 +1,2 @@
 pub mod Labelling
+pub use Rattle.sound.specs.Entry

@@ -8,7 +8,7 @@
 -- Between head, slots and body stand bytes that nobody reads. The whole slot of the greater order holds. The session's number of free portions
 -- (paper 02, §6) is not read: it is that of the links marked free. A file of version 1 was made before there was a clock (§10) and is still read: its slots have the
 -- front of the image alone.
-use Rattle.std.specs.Prelude.{ℕ, zero, suc, ◌+◌, ◌-◌, ◌*◌, ◌/◌, ◌%◌, Bool, not, ◌&&◌, ◌||◌, cond, List, [], ◌∷◌, ◌++◌, length, get_or, eqb, ltb}
+use Rattle.std.specs.Prelude.{ℕ, zero, suc, ◌+◌, ◌-◌, ◌*◌, ◌/◌, ◌%◌, Bool, not, ◌&&◌, ◌||◌, cond, List, [], ◌∷◌, ◌++◌, length, get_or, eqb, ltb, Result, Ok, Err}
 use Rattle.std.proofs.lemmas.List.Edits.{sets}
 use Rattle.kinds.specs.Text.{bytes}
 use Rattle.writing.specs.Writing.{equal}
@@ -19,8 +19,8 @@ use Rattle.store.specs.Chain.{most_portions, bytes_a_portion}
 use Rattle.store.specs.Entry.{most_entries, bytes_an_entry}
 use Rattle.lent.specs.Lent.{most_rows}
 use Rattle.slots.specs.Slots.{page_bytes, slot_of, version_at, is_first, body_sum_at, whole}
-use Rattle.lasting.specs.declared.judged.Verdict.{Verdict}
-use Rattle.lasting.specs.declared.judged.Verdict.TheVariants.{Foreign, Version, Sizes, Length, Damaged, Slots, Good}
+use Rattle.lasting.specs.declared.judged.Fault.{Fault}
+use Rattle.lasting.specs.declared.judged.Fault.TheVariants.{Foreign, Version, Sizes, Length, Damaged, Slots}
 
 -- ---- the links: two bytes each
 
@@ -106,16 +106,16 @@ abbrev pub sizes_wrong : List ℕ → Bool
 sizes_wrong file =
     eqb (rows_of file) 0 || (ltb most_rows (rows_of file) || (not (eqb (number_at 2 file portions_at) most_portions) || not (eqb (number_at 2 file entries_at) most_entries)))
 
-unfoldable pub chosen : List ℕ → Verdict
+unfoldable pub chosen : List ℕ → Result ℕ Fault
 chosen file =
-    cond (whole file (slot_of 1) && (not (whole file (slot_of 0)) || ltb (number_at 4 file (slot_of 0)) (number_at 4 file (slot_of 1)))) (Good 1)
-    (cond (whole file (slot_of 0)) (Good 0) Slots)
+    cond (whole file (slot_of 1) && (not (whole file (slot_of 0)) || ltb (number_at 4 file (slot_of 0)) (number_at 4 file (slot_of 1)))) (Ok 1)
+    (cond (whole file (slot_of 0)) (Ok 0) (Err Slots))
 
-unfoldable pub judged : List ℕ → Verdict
+unfoldable pub judged : List ℕ → Result ℕ Fault
 judged file =
-    cond (not (equal (part_of file 0 version_at) name)) Foreign
-    (cond (version_wrong file) Version
-    (cond (sizes_wrong file) Sizes
-    (cond (not (eqb (length file) (file_size (rows_of file)))) Length
-    (cond (not (eqb (file_sum file) (number_at 4 file body_sum_at))) Damaged
+    cond (not (equal (part_of file 0 version_at) name)) (Err Foreign)
+    (cond (version_wrong file) (Err Version)
+    (cond (sizes_wrong file) (Err Sizes)
+    (cond (not (eqb (length file) (file_size (rows_of file)))) (Err Length)
+    (cond (not (eqb (file_sum file) (number_at 4 file body_sum_at))) (Err Damaged)
     (chosen file)))))

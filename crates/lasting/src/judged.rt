@@ -9,17 +9,16 @@ use ground::{both, either};
 use slots::{BODY_SUM_AT, VERSION_AT, is_first, is_whole, order_of};
 use store::{MOST_ENTRIES, MOST_PORTIONS};
 
-// What a file is: not a store; of another version; of other sizes; longer or shorter than its sizes say; of another sum; with no whole slot; or a
-// store, and which slot holds.
-#[derive(Clone, Copy)]
-pub enum Verdict {
+// Why a file is no store that can be loaded: it is not a store; of another version; of other sizes; longer or shorter than its sizes say; of another sum; with no
+// whole slot.
+#[derive(Clone, Copy, PartialEq, Eq)]
+pub enum Fault {
     Foreign,
     Version,
     Sizes,
     Length,
     Damaged,
     Slots,
-    Good(usize),
 }
 
 // The rows that the head names.
@@ -64,7 +63,7 @@ pub(crate) fn file_sum(file: &[u8]) -> u32
 }
 
 // The whole slot of the greater order.
-fn choose(file: &[u8]) -> Verdict
+fn choose(file: &[u8]) -> Result<usize, Fault>
     ensures { result ≡ chosen file.now }
 {
     let first = is_whole(file, 0);
@@ -72,31 +71,32 @@ fn choose(file: &[u8]) -> Verdict
     let earlier = order_of(file, 0);
     let later = order_of(file, 1);
     if both(second, either(!first, earlier < later)) {
-        return Verdict::Good(1);
+        return Ok(1);
     }
     if first {
-        return Verdict::Good(0);
+        return Ok(0);
     }
-    Verdict::Slots
+    Err(Fault::Slots)
 }
 
-pub fn judge(file: &[u8]) -> Verdict
+// The slot that holds, where a file is a store.
+pub fn judge(file: &[u8]) -> Result<usize, Fault>
     ensures { result ≡ judged file.now }
 {
     if !writing::same(part(file, 0, VERSION_AT), b"Skeinferry store") {
-        return Verdict::Foreign;
+        return Err(Fault::Foreign);
     }
     if version_wrong(file) {
-        return Verdict::Version;
+        return Err(Fault::Version);
     }
     if sizes_wrong(file) {
-        return Verdict::Sizes;
+        return Err(Fault::Sizes);
     }
     if file.len() != BACKGROUND_AT + BYTES_A_ROW * rows(file) {
-        return Verdict::Length;
+        return Err(Fault::Length);
     }
     if file_sum(file) != four_at(file, BODY_SUM_AT) {
-        return Verdict::Damaged;
+        return Err(Fault::Damaged);
     }
     choose(file)
 }

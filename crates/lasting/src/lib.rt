@@ -11,7 +11,7 @@ mod links; // the links as bytes
 mod saved; // head and body, saved and loaded again
 
 use dots::BYTES_A_ROW;
-pub use judged::{Verdict, judge, rows};
+pub use judged::{Fault, judge, rows};
 pub use saved::{load_body, place, seal};
 use slots::PAGE;
 use store::{BYTES_A_PORTION, BYTES_AN_ENTRY, MOST_ENTRIES, MOST_PORTIONS};

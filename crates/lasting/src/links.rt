@@ -18,10 +18,8 @@ pub(crate) fn put_links(file: &mut [u8], at: usize, links: &[u16])
     requires { at < 4294967296 }
     ensures { file.new ≡ sets file.old at (link_bytes most_portions 0 links.now) }
 {
-    let mut i: usize = 0;
-    while i < MOST_PORTIONS {
+    for i in 0..MOST_PORTIONS {
         put_two(file, at + 2 * i, link(links, i));
-        i += 1;
     }
 }
 
@@ -38,9 +36,7 @@ pub(crate) fn take_links(file: &[u8], at: usize, links: &mut [u16])
     requires { at < 4294960000 }
     ensures { links.new ≡ sets links.old 0 (links_from most_portions file.now at) }
 {
-    let mut i: usize = 0;
-    while i < MOST_PORTIONS {
+    for i in 0..MOST_PORTIONS {
         set_link(links, i, two_at(file, at + 2 * i));
-        i += 1;
     }
 }

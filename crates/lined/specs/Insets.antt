@@ -2,6 +2,8 @@
 -- stands by itself.
 -- Assumes nothing.
 use Rattle.std.specs.Prelude.{ℕ, zero, suc, ◌+◌, ◌-◌, ◌%◌, Bool}
+use Rattle.ground.specs.Numbers.{capped}
+use Rattle.figures.specs.declared.Corner.{Corner}
 use Rattle.figures.specs.Figures.{standing, placed}
 use Rattle.kinds.specs.declared.Place.{Place}
 use Rattle.lined.specs.declared.insets.Margins.{Margins}
@@ -18,6 +20,10 @@ beside r m = brought (r % 4) m.left m.bottom m.right m.top
 
 abbrev pub above : ℕ → Margins → ℕ
 above r m = brought (r % 4) m.top m.left m.bottom m.right
+
+-- the corner of the box within, where the greater box stands at a corner
+abbrev pub corner_within : Margins → Corner → Corner
+corner_within m c = record { size = c.size; r = c.r; x = capped (c.x + beside c.r m); y = capped (c.y + above c.r m) }
 
 -- a figure of w by h dots with margins, its greater box turned r times and then with its corner at (x, y)
 unfoldable pub inset : ℕ → Margins → ℕ → ℕ → ℕ → ℕ → (ℕ → ℕ → Bool) → ℕ → ℕ → Bool

@@ -11,80 +11,45 @@ ghost use Rattle.lined.specs.Insets.{inset};
 
 use crate::insets::Margins;
 use crate::{insets, line};
+use bars::{Bars, Widths};
+use figures::Corner;
 use font::cell_height;
 use ground::{both, greatest};
 use kinds::{Kind, Place};
 
 // Draws the bars within their margins. `draw_lined` asks, with numbers in their limits and fit data.
-fn draw_bars(
-    page: &mut [u8],
-    width: usize,
-    length: usize,
-    x: usize,
-    y: usize,
-    r: usize,
-    m: Margins,
-    kind: Kind,
-    e: usize,
-    f: usize,
-    g: usize,
-    bytes: &[u8],
-)
-    requires { (in_limits e f g ≡ true) × (fit kind bytes.now ≡ true) }
-    ensures { page.new ≡ drawn Black (cut width length (inset r m (sum (widths kind e f bytes.now)) g x y (bars_of (widths kind e f bytes.now)))) page.old }
+fn draw_bars(page: &mut [u8], corner: Corner, m: Margins, b: Bars, bytes: &[u8])
+    requires { (in_limits b.e b.f b.g ≡ true) × (fit b.kind bytes.now ≡ true) }
+    ensures { page.new ≡ drawn Black (cut corner.size.width corner.size.length (inset corner.r m (sum (widths b.kind b.e b.f bytes.now)) b.g corner.x corner.y (bars_of (widths b.kind b.e b.f bytes.now)))) page.old }
 {
-    let a = insets::beside(x, r, m);
-    let b = insets::above(y, r, m);
-    bars::draw(page, width, length, a, b, r, kind, e, f, g, bytes);
+    bars::draw(page, m.within(corner), b, bytes);
 }
 
 // Draws the line within its margins. `draw_lined` asks, with fit data.
-fn draw_line(
-    page: &mut [u8],
-    width: usize,
-    length: usize,
-    x: usize,
-    y: usize,
-    r: usize,
-    m: Margins,
-    font: &[u8],
-    kind: Kind,
-    bytes: &[u8],
-)
+fn draw_line(page: &mut [u8], corner: Corner, m: Margins, font: &[u8], kind: Kind, bytes: &[u8])
     requires { fit kind bytes.now ≡ true }
-    ensures { page.new ≡ drawn Black (cut width length (inset r m (line_wide font.now (line_of kind bytes.now)) (down font.now 1) x y (glyphs font.now 1 1 (line_of kind bytes.now)))) page.old }
+    ensures { page.new ≡ drawn Black (cut corner.size.width corner.size.length (inset corner.r m (line_wide font.now (line_of kind bytes.now)) (down font.now 1) corner.x corner.y (glyphs font.now 1 1 (line_of kind bytes.now)))) page.old }
 {
-    let a = insets::beside(x, r, m);
-    let b = insets::above(y, r, m);
-    line::draw(page, width, length, a, b, r, font, kind, bytes);
+    line::draw(page, m.within(corner), font, kind, bytes);
 }
 
 // Draws the bars of data and the line under them, one after the other in one box.
-pub fn draw_lined(
-    page: &mut [u8],
-    width: usize,
-    length: usize,
-    x: usize,
-    y: usize,
-    r: usize,
-    kind: Kind,
-    e: usize,
-    f: usize,
-    g: usize,
-    place: Place,
-    font: &[u8],
-    bytes: &[u8],
-)
-    ensures { page.new ≡ lined_drawn width length x y r kind e f g place font.now bytes.now page.old }
+pub fn draw_lined(page: &mut [u8], corner: Corner, b: Bars, place: Place, font: &[u8], bytes: &[u8])
+    ensures { page.new ≡ lined_drawn corner.size.width corner.size.length corner.x corner.y corner.r b.kind b.e b.f b.g place font.now bytes.now page.old }
 {
-    if both(bars::in_limits(e, f, g), kinds::fits(kind, bytes)) {
-        let upper = bars::breadth(kind, e as u8, f as u8, bytes);
-        let lower = line::breadth(kind, font, bytes);
+    if both(bars::in_limits(b), kinds::fits(b.kind, bytes)) {
+        let by = Widths {
+            kind: b.kind,
+            e: b.e as u8,
+            f: b.f as u8,
+        };
+        let upper = bars::breadth(by, bytes);
+        let lower = line::breadth(b.kind, font, bytes);
         let wide = greatest(upper, lower);
         let high = cell_height(font);
         let over = insets::around(place, wide - upper, 0, high);
-        let below = insets::around(place, wide - lower, g, 0);
-        draw_bars(page, width, length, x, y, r, over, kind, e, f, g, bytes);
-        draw_line(page, width, length, x, y, r, below, font, kind, bytes);
+        let below = insets::around(place, wide - lower, b.g, 0);
+        draw_bars(page, corner, over, b, bytes);
+        draw_line(page, corner, below, font, b.kind, bytes);
     }
 }

@@ -1,9 +1,9 @@
 // A box with margins around it in a greater box, which is turned as one: where its own corner is then.
-ghost use Rattle.std.specs.Prelude.{◌≡◌, ◌+◌, ◌/◌, ◌%◌};
-ghost use Rattle.ground.specs.Numbers.{capped};
+ghost use Rattle.std.specs.Prelude.{◌≡◌, ◌/◌, ◌%◌};
 ghost use Rattle.lined.specs.Lined.{left_of};
-ghost use Rattle.lined.specs.Insets.{brought, beside as beside_of, above as above_of, margins_of};
+ghost use Rattle.lined.specs.Insets.{brought, corner_within, margins_of};
 
+use figures::Corner;
 use ground::{capped_sum, less};
 use kinds::Place;
 
@@ -27,18 +27,19 @@ fn bring(r: usize, a: usize, b: usize, c: usize, d: usize) -> usize
     }
 }
 
-// The corner of the box within, where the greater box has its corner at x.
-pub fn beside(x: usize, r: usize, m: Margins) -> usize
-    ensures { result ≡ capped (x + beside_of r m) }
-{
-    capped_sum(x, bring(r, m.left, m.bottom, m.right, m.top))
-}
-
-// The same, where the greater box has its corner at y.
-pub fn above(y: usize, r: usize, m: Margins) -> usize
-    ensures { result ≡ capped (y + above_of r m) }
-{
-    capped_sum(y, bring(r, m.top, m.left, m.bottom, m.right))
+impl Margins {
+    // The corner of the box within, where the greater box stands at a corner.
+    pub fn within(self, at: Corner) -> Corner
+        ensures { result ≡ corner_within self at }
+    {
+        let left = bring(at.r, self.left, self.bottom, self.right, self.top);
+        let top = bring(at.r, self.top, self.left, self.bottom, self.right);
+        Corner {
+            x: capped_sum(at.x, left),
+            y: capped_sum(at.y, top),
+            ..at
+        }
+    }
 }
 
 // "C with the smaller half left"

@@ -13,30 +13,16 @@ mod line; // what the line shows, and its size
 ghost use Rattle.std.specs.Prelude.{◌≡◌};
 ghost use Rattle.lined.specs.Lined.{bars_with};
 
-use kinds::{Kind, Under};
+pub use bars::Bars;
+pub use figures::{Corner, Size};
+use kinds::Under;
 
-// Draws the bars of data in g rows and what stands under them, in one box that is turned by r quarters, whose upper left corner then stands at x,y.
-pub fn draw(
-    page: &mut [u8],
-    width: usize,
-    length: usize,
-    x: usize,
-    y: usize,
-    r: usize,
-    kind: Kind,
-    e: usize,
-    f: usize,
-    g: usize,
-    under: Under,
-    font: &[u8],
-    bytes: &[u8],
-)
-    ensures { page.new ≡ bars_with width length x y r kind e f g under font.now bytes.now page.old }
+// Draws the bars of data in g rows and what stands under them, in one box from a corner.
+pub fn draw(page: &mut [u8], corner: Corner, b: Bars, under: Under, font: &[u8], bytes: &[u8])
+    ensures { page.new ≡ bars_with corner.size.width corner.size.length corner.x corner.y corner.r b.kind b.e b.f b.g under font.now bytes.now page.old }
 {
     match under {
-        Under::Nothing => bars::draw(page, width, length, x, y, r, kind, e, f, g, bytes),
-        Under::Line(place) => drawing::draw_lined(
-            page, width, length, x, y, r, kind, e, f, g, place, font, bytes,
-        ),
+        Under::Nothing => bars::draw(page, corner, b, bytes),
+        Under::Line(place) => drawing::draw_lined(page, corner, b, place, font, bytes),
     }
 }

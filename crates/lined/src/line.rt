@@ -6,10 +6,15 @@ ghost use Rattle.symbols.specs.Elements.{checked};
 ghost use Rattle.text.specs.Text.{text_drawn};
 ghost use Rattle.lined.specs.Lined.{checks as checks_of, line_of, line_wide};
 
+use figures::Corner;
 use font::cell_width;
 use ground::put;
 use kinds::Kind;
 use symbols::check_digit;
+use text::Scale;
+
+// "in the lent font at scale 1"
+const ONE: Scale = Scale { h: 1, v: 1 };
 
 // Whether the line of a kind shows a check digit.
 fn checks(kind: Kind) -> bool
@@ -42,44 +47,25 @@ pub(crate) fn breadth(kind: Kind, font: &[u8], s: &[u8]) -> usize
 }
 
 // Draws twelve digits and their check digit.
-fn draw_checked(
-    page: &mut [u8],
-    width: usize,
-    length: usize,
-    x: usize,
-    y: usize,
-    r: usize,
-    font: &[u8],
-    s: &[u8],
-)
+fn draw_checked(page: &mut [u8], corner: Corner, font: &[u8], s: &[u8])
     requires { size s.now ≡ 12 }
-    ensures { page.new ≡ text_drawn width length x y r 1 1 false font.now (checked s.now) page.old }
+    ensures { page.new ≡ text_drawn corner.size.width corner.size.length corner.x corner.y corner.r 1 1 false font.now (checked s.now) page.old }
 {
     let c = check_digit(s);
     let mut digits = [0u8; 13];
     put(&mut digits, 0, s);
     digits[12] = b'0' + c;
-    text::draw(page, width, length, x, y, r, 1, 1, false, font, &digits);
+    text::draw(page, corner, ONE, false, font, &digits);
 }
 
 // Draws the line at scale 1 in mode N.
-pub(crate) fn draw(
-    page: &mut [u8],
-    width: usize,
-    length: usize,
-    x: usize,
-    y: usize,
-    r: usize,
-    font: &[u8],
-    kind: Kind,
-    s: &[u8],
-)
+pub(crate) fn draw(page: &mut [u8], corner: Corner, font: &[u8], kind: Kind, s: &[u8])
     requires { fit kind s.now ≡ true }
-    ensures { page.new ≡ text_drawn width length x y r 1 1 false font.now (line_of kind s.now) page.old }
+    ensures { page.new ≡ text_drawn corner.size.width corner.size.length corner.x corner.y corner.r 1 1 false font.now (line_of kind s.now) page.old }
 {
     if checks(kind) {
-        draw_checked(page, width, length, x, y, r, font, s);
+        draw_checked(page, corner, font, s);
     } else {
-        text::draw(page, width, length, x, y, r, 1, 1, false, font, s);
+        text::draw(page, corner, ONE, false, font, s);
     }
 }

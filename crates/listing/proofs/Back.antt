@@ -1,5 +1,6 @@
 -- A line that a listing writes is read back: its size, and where its name stands.
 -- Assumes nothing.
+use Rattle.std.specs.Prelude.{Ok}
 use native.Mathlib.Omega.{arith}
 use Prim.Native.Nat.{ℕ, ◌+◌, ◌<◌}
 use mathlib.Core.Path.{◌≡◌, refl, ap, ◌∙◌}
@@ -8,7 +9,6 @@ use lib.Dec.{T}
 use lib.ListN.{length, take, length-append}
 use Rattle.kinds.specs.Bytes.{between}
 use Rattle.classes.specs.declared.Class.TheVariants.{Quoted}
-use Rattle.fields.specs.declared.Field.TheVariants.{Is}
 use Rattle.numbers.specs.Number.{number_at}
 use Rattle.fields.specs.Field.{text_at, byte_at}
 use Rattle.store.specs.Entry.{name_length, name, size}
@@ -24,13 +24,13 @@ unfolding listed_at
 back pre rest n t h q =
     let x : List ℕ = 34 ∷ (t ++ (34 ∷ rest)) in
     let s : List ℕ = pre ++ (decimal n ++ (44 ∷ x)) in
-    let number : number_at s (length pre) ≡ Is n (length pre + length (decimal n)) = number-back pre (44 ∷ x) n h (unfold between in refl) in
-    let comma : byte_at 44 s (length pre + length (decimal n)) ≡ Is 44 (length pre + length (decimal n) + 1) =
+    let number : number_at s (length pre) ≡ Ok (n, length pre + length (decimal n)) = number-back pre (44 ∷ x) n h (unfold between in refl) in
+    let comma : byte_at 44 s (length pre + length (decimal n)) ≡ Ok (44, length pre + length (decimal n) + 1) =
     rw (append_assoc pre (decimal n) (44 ∷ x), length-append pre (decimal n)) at (byte-back (pre ++ decimal n) x 44) in
     let front : (pre ++ (decimal n ++ (44 ∷ []))) ++ x ≡ s =
     append_assoc pre (decimal n ++ (44 ∷ [])) x ∙ ap (λ (l : List ℕ). pre ++ l) (append_assoc (decimal n) (44 ∷ []) x) in
     let place : length (pre ++ (decimal n ++ (44 ∷ []))) ≡ length pre + length (decimal n) + 1 = simp length-append (omega arith) in
-    let text : text_at s (length pre + length (decimal n) + 1) ≡ Is (length t) (length pre + length (decimal n) + 1 + 1 + length t + 1) =
+    let text : text_at s (length pre + length (decimal n) + 1) ≡ Ok (length t, length pre + length (decimal n) + 1 + 1 + length t + 1) =
     rw (front, place) at (text-back (pre ++ (decimal n ++ (44 ∷ []))) rest t q) in
     rw (number, comma, text)
 

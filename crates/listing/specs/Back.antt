@@ -1,13 +1,11 @@
 -- The line of a listing read back: "A listing line is size, comma, quoted name".
 -- Assumes nothing.
-use Rattle.std.specs.Prelude.{ℕ, ◌≡◌, refl, List}
+use Rattle.std.specs.Prelude.{ℕ, ◌≡◌, refl, List, Result, Ok, Err}
 use Prim.Native.Char.{code}
 use Rattle.kinds.specs.Bytes.{between}
 use Rattle.kinds.specs.Text.{bytes}
 use Rattle.classes.specs.Bytes.{run}
 use Rattle.numbers.specs.Number.{value_from, number_at}
-use Rattle.fields.specs.declared.Field.{Field}
-use Rattle.fields.specs.declared.Field.TheVariants.{Is, Not}
 use Rattle.fields.specs.Field.{text_at, byte_at}
 
 -- the size, the place of the name's first quote, and how many bytes stand between its quotes; or the place at fault
@@ -16,16 +14,16 @@ pub data Listed : Type 0 where
   Wrong : ℕ → Listed
 
 -- the place after a field; where the field is not there, the place stays
-abbrev pub place_after : Field → ℕ → ℕ
-place_after (Is v e) at = e
-place_after (Not p) at = at
+abbrev pub place_after : Result (ℕ × ℕ) ℕ → ℕ → ℕ
+place_after (Ok (v, e)) at = e
+place_after (Err p) at = at
 
 -- the first of the three that is not there is at fault
-abbrev pub listed_from : Field → Field → Field → Listed
-listed_from (Not p) c t = Wrong p
-listed_from (Is n e) (Not p) t = Wrong p
-listed_from (Is n e) (Is b at) (Not p) = Wrong p
-listed_from (Is n e) (Is b at) (Is k f) = Entry n at k
+abbrev pub listed_from : Result (ℕ × ℕ) ℕ → Result (ℕ × ℕ) ℕ → Result (ℕ × ℕ) ℕ → Listed
+listed_from (Err p) c t = Wrong p
+listed_from (Ok (n, e)) (Err p) t = Wrong p
+listed_from (Ok (n, e)) (Ok (b, at)) (Err p) = Wrong p
+listed_from (Ok (n, e)) (Ok (b, at)) (Ok (k, f)) = Entry n at k
 
 -- the comma behind the size, and the name behind the comma
 unfoldable pub listed_at : List ℕ → ℕ → Listed

@@ -66,10 +66,8 @@ fn lines(directory: &[u8], k: usize, output: &mut [u8]) -> usize
 {
     let n = directory.len() / BYTES_AN_ENTRY;
     let mut at: usize = 0;
-    let mut i: usize = 0;
-    while i < n {
+    for i in 0..n {
         at = list_entry(directory, k, i, output, at);
-        i += 1;
     }
     at
 }

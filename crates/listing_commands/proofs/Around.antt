@@ -8,8 +8,7 @@ use native.Mathlib.Omega.{arith}
 use lib.ListN.{length}
 use lib.Seq.{sets}
 use borrow.Author.Tests.{le-ltb}
-use Rattle.finding.specs.declared.Found.{Found}
-use Rattle.finding.specs.declared.Found.TheVariants.{At, Nothing}
+use Rattle.std.specs.Prelude.{None, Option, Some}
 use Rattle.contents.specs.declared.Cursor.{Cursor}
 use Rattle.contents.specs.Content.{content, cursor_at}
 use Rattle.contents.proofs.Reading.{length-content}
@@ -34,18 +33,18 @@ pub reader-left : (s l d : List ℕ) (i : ℕ) (k : Cursor) → k ≡ cursor_at 
 reader-left s l d i k e = ap (λ (x : Cursor). x.left) e ∙ sym (length-content s l d i)
 
 print-in :
-    (m : Bool) (f : Found) (s : Session) (b st l d v o : List ℕ) →
+    (m : Bool) (f : Option ℕ) (s : Session) (b st l d v o : List ℕ) →
     on_output (world b st l d v)
     (ran_by (answer_of (row Missing m ∷ row Overlong (exceeds (printed_at (world [] st l d []) f) (length o)) ∷ [])) s (world [] st l d []) o
     (state s (world [] st l d [])) (printed_at (world [] st l d []) f))
     ≡ ran_by (answer_of (row Missing m ∷ row Overlong (exceeds (printed_at (world b st l d v) f) (length o)) ∷ [])) s (world b st l d v) o
     (state s (world b st l d v)) (printed_at (world b st l d v) f)
-print-in m (At i) s b st l d v o =
+print-in m (Some i) s b st l d v o =
     let a = answer_of (row Missing m ∷ row Overlong (exceeds (content_at (world [] st l d []) i) (length o)) ∷ []) in
     let bytes = content_at (world [] st l d []) i in
     cond_map (on_output (world b st l d v)) (is_taken a) (ran (done Taken s (length bytes)) (world [] st l d []) (sets o 0 bytes))
     (ran (done a s 0) (world [] st l d []) o)
-print-in m Nothing s b st l d v o =
+print-in m None s b st l d v o =
     let a = answer_of (row Missing m ∷ row Overlong (exceeds [] (length o)) ∷ []) in
     cond_map (on_output (world b st l d v)) (is_taken a) (ran (done Taken s 0) (world [] st l d []) (sets o 0 [])) (ran (done a s 0) (world [] st l d []) o)
 

@@ -1,8 +1,6 @@
 -- FI, GI, FP: their rows of the table, and what they write. They change nothing else.
 -- Assumes nothing.
-use Rattle.std.specs.Prelude.{ℕ, Bool, false, List, [], ◌∷◌, length, ltb}
-use Rattle.finding.specs.declared.Found.{Found}
-use Rattle.finding.specs.declared.Found.TheVariants.{At, Nothing}
+use Rattle.std.specs.Prelude.{ℕ, Bool, false, List, [], ◌∷◌, length, ltb, None, Option, Some}
 use Rattle.grammar.specs.declared.Named.{Named}
 use Rattle.grammar.specs.declared.ListingCommand.{ListingCommand}
 use Rattle.grammar.specs.declared.ListingCommand.TheVariants.{Forms, Pictures, Form}
@@ -16,9 +14,9 @@ use Rattle.results.specs.Result.{Ran, ran_by}
 use Rattle.results.specs.Named.{named, not_found}
 
 -- the bytes of the form that FP names
-abbrev pub printed_at : World → Found → List ℕ
-printed_at w (At i) = content_at w i
-printed_at w Nothing = []
+abbrev pub printed_at : World → Option ℕ → List ℕ
+printed_at w (Some i) = content_at w i
+printed_at w None = []
 
 abbrev pub printed : World → List ℕ → Named → List ℕ
 printed w line n = printed_at w (named w false line n)

@@ -16,7 +16,6 @@ ghost use Rattle.results.specs.Result.{done, settles, ran};
 ghost use Rattle.listing_commands.specs.Listings.{exceeds, listing_by};
 
 use answers::Answer;
-use finding::Found;
 use grammar::{ListingCommand, Named};
 use results::names::{entry_of, is_missing};
 use results::{Done, answered, taken};
@@ -79,8 +78,8 @@ fn print_form(
         return answered(Answer::Missing, session);
     }
     match found {
-        Found::At(i) => print_entry(session, store, links, directory, i, output),
-        Found::Nothing => taken(session),
+        Some(i) => print_entry(session, store, links, directory, i, output),
+        None => taken(session),
     }
 }
 

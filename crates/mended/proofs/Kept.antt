@@ -13,9 +13,8 @@ use Rattle.cells.proofs.Scan.{lowest-passes, lowest-first}
 use Rattle.ground.proofs.Tests.{same?, is_false, and_left, and_right, and_both}
 use Rattle.store.specs.Chain.{chain}
 use Rattle.store.specs.Entry.{most_entries, entries, kind, name, first, of_kind}
-use Rattle.finding.specs.declared.Found.{Found}
-use Rattle.finding.specs.declared.Found.TheVariants.{At, Nothing}
-use Rattle.finding.specs.Find.{found, is_at, same_name, titled}
+use Rattle.std.specs.Prelude.{None, Option, Some, is_some}
+use Rattle.finding.specs.Find.{found, same_name, titled}
 use Rattle.finding.proofs.Finding.{found_at, at-says}
 use Rattle.memory.specs.Memory.{Memory, entry_of}
 use Rattle.store_sound.specs.Sound.{lent_ok, firsts}
@@ -38,15 +37,15 @@ sum-some f (suc n) h = ⊎_elim
 
 -- ---- a search finds something exactly when something passes
 
-pub passes-found : (test : ℕ → Bool) (n j : ℕ) → j < n → test j ≡ true → is_at (found test n) ≡ true
+pub passes-found : (test : ℕ → Bool) (n j : ℕ) → j < n → test j ≡ true → is_some (found test n) ≡ true
 passes-found test n j b t = rw (found_at test n (omega (arith, lowest-first test n j b t)))
 
-found-passes : (test : ℕ → Bool) (n : ℕ) → is_at (found test n) ≡ true → (j : ℕ) × ((j < n) × (test j ≡ true))
+found-passes : (test : ℕ → Bool) (n : ℕ) → is_some (found test n) ≡ true → (j : ℕ) × ((j < n) × (test j ≡ true))
 found-passes test n h = go (found test n) refl h
   where
-    go : (f : Found) → found test n ≡ f → is_at f ≡ true → (j : ℕ) × ((j < n) × (test j ≡ true))
-    go (At j) e h = let a = at-says test n j e in (j, (a.1, ap test (sym a.0) ∙ lowest-passes test n (omega (arith, a.0, a.1))))
-    go Nothing e h = absurd (false≢true h)
+    go : (f : Option ℕ) → found test n ≡ f → is_some f ≡ true → (j : ℕ) × ((j < n) × (test j ≡ true))
+    go (Some j) e h = let a = at-says test n j e in (j, (a.1, ap test (sym a.0) ∙ lowest-passes test n (omega (arith, a.0, a.1))))
+    go None e h = absurd (false≢true h)
 
 -- ---- kinds: of forms that are not being recorded, and of pictures
 

@@ -20,7 +20,7 @@ use Rattle.ground.proofs.Tests.{same?}
 use Rattle.store.specs.Chain.{free_link, needed, chain, chain_ok, portion, bytes_of}
 use Rattle.store.specs.Entry.{most_entries, bytes_an_entry, entries, entry, kind, name, first, size, many, of_kind}
 use Rattle.contents.specs.Content.{content_of}
-use Rattle.finding.specs.declared.Found.TheVariants.{Nothing}
+use Rattle.std.specs.Prelude.{None}
 use Rattle.finding.specs.Find.{is_recording, recorded}
 use Rattle.finding.proofs.Finding.{found_nothing}
 use Rattle.memory.specs.Memory.{Memory}
@@ -292,7 +292,7 @@ module _ (m : Memory) (lent : lent_ok m.store m.links m.directory ≡ true) wher
   pub sound-now : store_sound st' ls' dir' ≡ true
   sound-now = facts-sound st' ls' dir' (subst (λ (n : ℕ). SoundAt st' ls' dir' n) (sym (ap (λ (n : ℕ). n / 16) long-dir)) sound-at)
 
-  pub quiet-now : recorded dir' ≡ Nothing
+  pub quiet-now : recorded dir' ≡ None
   quiet-now =
       let x : ℕ = lowest (is_recording dir') (entries dir') in
       found_nothing (is_recording dir') (entries dir') (elim (dec_lt x (entries dir')) [

@@ -16,7 +16,7 @@ use Rattle.cells.specs.Count.{times, all_zero}
 use Rattle.ground.proofs.Tests.{same?}
 use Rattle.store.specs.Chain.{free_link, chain, chain_ok, portion, bytes_of}
 use Rattle.store.specs.Entry.{bytes_an_entry, entries, kind, name, first, size, of_kind}
-use Rattle.finding.specs.declared.Found.TheVariants.{Nothing}
+use Rattle.std.specs.Prelude.{None}
 use Rattle.finding.specs.Find.{is_empty, recorded}
 use Rattle.memory.specs.Memory.{Memory, memory, entry_of}
 use Rattle.store_sound.specs.Sound.{lent_ok, firsts, counts, store_sound}
@@ -147,7 +147,7 @@ module _ (m : Memory) (lent : lent_ok m.store m.links m.directory ≡ true) wher
   unfolding mended_by judged_all
   mended-contents = left.contents-now m lent
 
-  pub mended-quiet : recorded (mended m).directory ≡ Nothing
+  pub mended-quiet : recorded (mended m).directory ≡ None
   unfolding mended_by judged_all
   mended-quiet = left.quiet-now m lent
 
@@ -216,7 +216,7 @@ module _ (m : Memory) (lent : lent_ok m.store m.links m.directory ≡ true) wher
 -- ---- a store that is sound, with nothing being recorded, needs no repair: every entry is kept, and nothing changes
 
 module _ (m : Memory) (sound : store_sound m.store m.links m.directory ≡ true) (contents : contents_ok m.store m.links m.directory ≡ true)
-    (quiet : recorded m.directory ≡ Nothing) where
+    (quiet : recorded m.directory ≡ None) where
   pub all-kept : (i : ℕ) → i < entries m.directory → (kind (entry_of m i) ≡ 0 → ⊥) → said m i ≡ kept
   all-kept = unchanged.all-kept m sound contents quiet
 

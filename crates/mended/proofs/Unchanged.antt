@@ -15,8 +15,8 @@ use Rattle.cells.proofs.Counts.{one-yes, one-no, sum_same, all-at}
 use Rattle.ground.proofs.Tests.{same?}
 use Rattle.store.specs.Chain.{bytes_a_portion, free_link, chain, portion, bytes_of}
 use Rattle.store.specs.Entry.{entries, entry, kind, size, of_kind}
-use Rattle.finding.specs.declared.Found.TheVariants.{Nothing}
-use Rattle.finding.specs.Find.{is_at, is_recording, recorded}
+use Rattle.std.specs.Prelude.{None, is_some}
+use Rattle.finding.specs.Find.{is_recording, recorded}
 use Rattle.memory.specs.Memory.{Memory}
 use Rattle.store_sound.specs.Sound.{lent_ok, firsts, counts, uses, store_sound}
 use Rattle.store_sound.proofs.Linked.{held-apart}
@@ -44,7 +44,7 @@ bytes-portion st st' (p ∷ ps) l l' e q h =
     (same? p q)
 
 module _ (m : Memory) (sound : store_sound m.store m.links m.directory ≡ true) (contents : contents_ok m.store m.links m.directory ≡ true)
-    (quiet : recorded m.directory ≡ Nothing) where
+    (quiet : recorded m.directory ≡ None) where
   abbrev st : List ℕ
   st = m.store
 
@@ -68,7 +68,7 @@ module _ (m : Memory) (sound : store_sound m.store m.links m.directory ≡ true)
   fit i b = all-at (content_ok st ls dir) E contents i b
 
   finished : (i : ℕ) → i < E → kind (entry dir i) ≡ 3 → ⊥
-  finished i b k = false≢true (sym (ap is_at quiet) ∙ passes-found (is_recording dir) E i b (eq-eqb (kind (entry dir i)) 3 k))
+  finished i b k = false≢true (sym (ap is_some quiet) ∙ passes-found (is_recording dir) E i b (eq-eqb (kind (entry dir i)) 3 k))
 
   counted : (i : ℕ) → (kind (entry dir i) ≡ 0 → ⊥) → chain ls (firsts dir i) (counts dir i) ≡ held m i
   counted i n = ap (chain ls (firsts dir i)) (many-some st ls dir i n)

@@ -31,11 +31,9 @@ fn zero_behind(bytes: &mut [u8], from: usize, n: usize, many: usize)
 fn mend_store(store: &mut [u8], fills: &[u16])
     ensures { store.new ≡ kept_store store.old fills.now }
 {
-    let mut q: usize = 0;
-    while q <= store.len() / BYTES_A_PORTION {
+    for q in 0..store.len() / BYTES_A_PORTION + 1 {
         let n = less(link_at(fills, q), 1);
         zero_behind(store, q * BYTES_A_PORTION, n, BYTES_A_PORTION);
-        q += 1;
     }
 }
 
@@ -53,10 +51,8 @@ fn kept_link(links: &[u16], fills: &[u16], q: usize) -> u16
 fn mend_links(links: &mut [u16], fills: &[u16])
     ensures { links.new ≡ kept_links links.old fills.now }
 {
-    let mut q = 0;
-    while q < links.len() {
+    for q in 0..links.len() {
         links[q] = kept_link(links, fills, q);
-        q += 1;
     }
 }
 
@@ -74,11 +70,9 @@ fn kept_of(verdicts: &[u8], i: usize) -> usize
 fn mend_directory(directory: &mut [u8], verdicts: &[u8])
     ensures { directory.new ≡ kept_directory directory.old verdicts.now }
 {
-    let mut i: usize = 0;
-    while i <= directory.len() / BYTES_AN_ENTRY {
+    for i in 0..directory.len() / BYTES_AN_ENTRY + 1 {
         let n = kept_of(verdicts, i);
         zero_behind(directory, i * BYTES_AN_ENTRY, n, BYTES_AN_ENTRY);
-        i += 1;
     }
 }
 

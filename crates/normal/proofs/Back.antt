@@ -1,4 +1,5 @@
 -- Each field of a line, written: reading it gives its value back, and writing it again gives the same bytes.
+use Rattle.std.specs.Prelude.{Ok, Err, Result}
 use mathlib.Core.Path.{◌≡◌, ◌∙◌, refl, sym, ap}
 use mathlib.Core.Bool.{Bool, true, false, cond, ◌&&◌, false≢true, and-false}
 use mathlib.Core.List.{List, [], ◌∷◌, ◌++◌, append_assoc}
@@ -14,21 +15,18 @@ use borrow.Author.Tests.{lt-ltb, le-ltb, lt-leb, eq-eqb, eqb-true, ltb-true, leb
 use Rattle.kinds.specs.Bytes.{between}
 use Rattle.classes.specs.declared.Class.{Class}
 use Rattle.classes.specs.declared.Class.TheVariants.{Digit, Quoted, Named}
-use Rattle.fields.specs.declared.Field.{Field}
-use Rattle.fields.specs.declared.Field.TheVariants.{Is, Not}
 use Rattle.classes.specs.Bytes.{in_class, run, run_at}
-use Rattle.numbers.specs.Number.{digit_of, value_from, number_at, signed_at, behind_sign, plus, minus, nought, Small}
+use Rattle.writing.specs.Number.{digit_of, value_from, number_at, signed_at, behind_sign, plus, minus, nought, Small}
 use Rattle.fields.specs.Field.{text_at, text_fault, letter_at, word_to, byte_at}
 use Rattle.classes.proofs.Laws.{in-range, above-range, inside, and_T}
-use Rattle.numbers.proofs.Laws.{number_is, number_small, signed-found}
+use Rattle.writing.proofs.Laws.{number_is, number_small, signed-found}
+use Rattle.fields.proofs.Pairs.{ok_first, ok_second}
 use Rattle.fields.proofs.Laws.{text-is, word-comma, letter-found}
 use Rattle.formats.specs.declared.Format.{Format}
 use Rattle.formats.specs.declared.Stamp.{Stamp}
 use Rattle.formats.specs.Formats.{unit, new_unit}
-use Rattle.format_field.specs.declared.Spot.TheVariants.{Letters, Fault}
-use Rattle.format_field.specs.declared.Found.TheVariants.{Whole}
-use Rattle.format_field.specs.Reading.{width, field_of, cut_at, field_at, with_first, format_at, format_field}
-use Rattle.format_field.proofs.Laws.{format_read}
+use Rattle.read.specs.Reading.{width, field_of, cut_at, field_at, with_first, format_at, format_field}
+use Rattle.read.proofs.Laws.{format_read}
 use Rattle.parts.specs.Names.{capital}
 use Rattle.writing.specs.Writing.{digit_byte, digits, decimal, signed, kept, cased}
 use Rattle.writing.proofs.Writes.{digits-room, digits-less, cased-append}
@@ -134,7 +132,7 @@ digits-count (suc f) k n acc h = go (dec_lt n 10) (digits-count f (k - 1) (n / 1
 -- ---- a field after pre, before rest
 module _ (pre rest : List ℕ) where
   pub number-back : (v : ℕ) → v < 1000000000 → in_class Digit (get_or rest 0 0) ≡ false
-      → number_at (pre ++ (decimal v ++ rest)) (length pre) ≡ Is v (length pre + length (decimal v))
+      → number_at (pre ++ (decimal v ++ rest)) (length pre) ≡ Ok (v, length pre + length (decimal v))
   number-back v h e =
       let k = digits-count 19 8 v [] h in
       let s : List ℕ = pre ++ (decimal v ++ rest) in
@@ -145,7 +143,7 @@ module _ (pre rest : List ℕ) where
       ∙ rw (m, drop-append_seam pre (decimal v ++ rest), take-append_seam (decimal v) rest, digits_value 19 v [] (omega arith)) (unfold value_from in refl)
 
   pub text-back : (t : List ℕ) → T (all_in Quoted t)
-      → text_at (pre ++ (code "\"" ∷ (t ++ (code "\"" ∷ rest)))) (length pre) ≡ Is (length t) (length pre + 1 + length t + 1)
+      → text_at (pre ++ (code "\"" ∷ (t ++ (code "\"" ∷ rest)))) (length pre) ≡ Ok (length t, length pre + 1 + length t + 1)
   text-back t h =
       let s : List ℕ = pre ++ (code "\"" ∷ (t ++ (code "\"" ∷ rest))) in
       let d : drop (length pre + 1) s ≡ t ++ (code "\"" ∷ rest) = drop-append-add pre (code "\"" ∷ (t ++ (code "\"" ∷ rest))) 1 in
@@ -156,17 +154,17 @@ module _ (pre rest : List ℕ) where
       let m : length pre + 1 + length t - (length pre + 1) ≡ length t = omega arith in
       text-is s (length pre) (length pre + 1 + length t) (rw n) (get_or-append_seam pre (code "\"") (t ++ (code "\"" ∷ rest)) 0) g ∙ rw m
 
-  pub byte-back : (b : ℕ) → byte_at b (pre ++ (b ∷ rest)) (length pre) ≡ Is b (length pre + 1)
+  pub byte-back : (b : ℕ) → byte_at b (pre ++ (b ∷ rest)) (length pre) ≡ Ok (b, length pre + 1)
   unfolding byte_at
   byte-back b =
       let l : length pre < length (pre ++ (b ∷ rest)) = simp length-append (omega arith) in
       rw (lt-ltb (length pre) (length (pre ++ (b ∷ rest))) l, get_or-append_seam pre b rest 0) (rw (eq-eqb b b refl))
 
   -- a word after pre is read where a comma follows it
-  pub word_back : (b v : ℕ) → get_or rest 0 0 ≡ code "," → word_to (pre ++ (b ∷ rest)) (length pre) v (length pre + 1) ≡ Is v (length pre + 1)
+  pub word_back : (b v : ℕ) → get_or rest 0 0 ≡ code "," → word_to (pre ++ (b ∷ rest)) (length pre) v (length pre + 1) ≡ Ok (v, length pre + 1)
   word_back b v c = word-comma (pre ++ (b ∷ rest)) (length pre) v (length pre + 1) (get_or-append-add pre (b ∷ rest) 1 0 ∙ c)
 
-  pub letter-back : (k : Class) (b : ℕ) → in_class k b ≡ true → get_or rest 0 0 ≡ code "," → letter_at k (pre ++ (b ∷ rest)) (length pre) ≡ Is b (length pre + 1)
+  pub letter-back : (k : Class) (b : ℕ) → in_class k b ≡ true → get_or rest 0 0 ≡ code "," → letter_at k (pre ++ (b ∷ rest)) (length pre) ≡ Ok (b, length pre + 1)
   unfolding letter_at
   letter-back k b e c =
       let l : length pre < length (pre ++ (b ∷ rest)) = simp length-append (omega arith) in
@@ -174,14 +172,14 @@ module _ (pre rest : List ℕ) where
 
 -- a number after one more byte
 number-after : (pre rest : List ℕ) (b v : ℕ) → v < 1000000000 → in_class Digit (get_or rest 0 0) ≡ false
-    → number_at (pre ++ (b ∷ (decimal v ++ rest))) (length pre + 1) ≡ Is v (length pre + 1 + length (decimal v))
+    → number_at (pre ++ (b ∷ (decimal v ++ rest))) (length pre + 1) ≡ Ok (v, length pre + 1 + length (decimal v))
 number-after pre rest b v h e =
     let a : (pre ++ (b ∷ [])) ++ (decimal v ++ rest) ≡ pre ++ (b ∷ (decimal v ++ rest)) = append_assoc pre (b ∷ []) (decimal v ++ rest) in
     let l : length (pre ++ (b ∷ [])) ≡ length pre + 1 = simp length-append (omega arith) in
     rw (a, l) at (number-back (pre ++ (b ∷ [])) rest v h e)
 
 pub signed_back : (pre rest : List ℕ) (v : ℕ) → 0 < v → v < 2000000000 → in_class Digit (get_or rest 0 0) ≡ false
-    → signed_at (pre ++ (signed v ++ rest)) (length pre) ≡ Is v (length pre + length (signed v))
+    → signed_at (pre ++ (signed v ++ rest)) (length pre) ≡ Ok (v, length pre + length (signed v))
 unfolding signed_at signed
 signed_back pre rest v h k e = go (dec_lt v nought)
   where
@@ -191,7 +189,7 @@ signed_back pre rest v h k e = go (dec_lt v nought)
         cond (eqb (get_or s (length pre) 0) (code "+")) (plus (behind_sign s (length pre) (number_at s (length pre + 1))))
         (cond (eqb (get_or s (length pre) 0) (code "-")) (minus (behind_sign s (length pre) (number_at s (length pre + 1))))
         (plus (number_at s (length pre))))
-        ≡ Is v (length pre + length x))
+        ≡ Ok (v, length pre + length x))
     go (yes l) =
         let q : nought - (nought - v) ≡ v = omega arith in
         let r : length pre + 1 + length (decimal (nought - v)) ≡ length pre + suc (length (decimal (nought - v))) = omega arith in
@@ -208,43 +206,43 @@ pub kept_back : (pre x rest : List ℕ) → kept (pre ++ (x ++ rest)) (length pr
 kept_back pre x rest = rw (drop-append_seam pre (x ++ rest), take-append_seam x rest)
 
 -- a number read is small
-pub number_fits : (s : List ℕ) (at v e : ℕ) → number_at s at ≡ Is v e → v < 1000000000
+pub number_fits : (s : List ℕ) (at v e : ℕ) → number_at s at ≡ Ok (v, e) → v < 1000000000
 number_fits s at v e h = rw h at (number_small s at)
 
-plus-fits : (f : Field) (v e : ℕ) → Small f → plus f ≡ Is v e → (0 < v) × (v < 2000000000)
-plus-fits (Is w d) v e k h = let q : nought + w ≡ v = cc in (omega arith, omega arith)
-plus-fits (Not p) v e k h = absurd (let z : ◌≡◌ {A = ℕ} 0 1 = cc in omega arith)
+plus-fits : (f : Result (ℕ × ℕ) ℕ) (v e : ℕ) → Small f → plus f ≡ Ok (v, e) → (0 < v) × (v < 2000000000)
+plus-fits (Ok (w, d)) v e k h = let q : nought + w ≡ v = ok_first h in (omega arith, omega arith)
+plus-fits (Err p) v e k h = absurd (let z : ◌≡◌ {A = ℕ} 0 1 = cc in omega arith)
 
-minus-fits : (f : Field) (v e : ℕ) → Small f → minus f ≡ Is v e → (0 < v) × (v < 2000000000)
-minus-fits (Is w d) v e k h = let q : nought - w ≡ v = cc in (omega arith, omega arith)
-minus-fits (Not p) v e k h = absurd (let z : ◌≡◌ {A = ℕ} 0 1 = cc in omega arith)
+minus-fits : (f : Result (ℕ × ℕ) ℕ) (v e : ℕ) → Small f → minus f ≡ Ok (v, e) → (0 < v) × (v < 2000000000)
+minus-fits (Ok (w, d)) v e k h = let q : nought - w ≡ v = ok_first h in (omega arith, omega arith)
+minus-fits (Err p) v e k h = absurd (let z : ◌≡◌ {A = ℕ} 0 1 = cc in omega arith)
 
-pub signed-fits : (s : List ℕ) (at v e : ℕ) → signed_at s at ≡ Is v e → (0 < v) × (v < 2000000000)
+pub signed-fits : (s : List ℕ) (at v e : ℕ) → signed_at s at ≡ Ok (v, e) → (0 < v) × (v < 2000000000)
 signed-fits s at v e h = go (eqb (get_or s at 0) (code "+")) (eqb (get_or s at 0) (code "-")) (signed-found s at v e h)
   where
     go : (a b : Bool)
-        → cond a (plus (number_at s (at + 1))) (cond b (minus (number_at s (at + 1))) (plus (number_at s at))) ≡ Is v e
+        → cond a (plus (number_at s (at + 1))) (cond b (minus (number_at s (at + 1))) (plus (number_at s at))) ≡ Ok (v, e)
         → (0 < v) × (v < 2000000000)
     go true b k = plus-fits (number_at s (at + 1)) v e (number_small s (at + 1)) k
     go false true k = minus-fits (number_at s (at + 1)) v e (number_small s (at + 1)) k
     go false false k = plus-fits (number_at s at) v e (number_small s at) k
 
-pub byte_fits : (b : ℕ) (s : List ℕ) (at v e : ℕ) → byte_at b s at ≡ Is v e → v ≡ b
+pub byte_fits : (b : ℕ) (s : List ℕ) (at v e : ℕ) → byte_at b s at ≡ Ok (v, e) → v ≡ b
 unfolding byte_at
 byte_fits b s at v e h = go (ltb at (length s) && eqb (get_or s at 0) b) h
   where
-    go : (t : Bool) → cond t (Is b (at + 1)) (Not at) ≡ Is v e → v ≡ b
-    go true k = cc
+    go : (t : Bool) → cond {A = Result (ℕ × ℕ) ℕ} t (Ok (b, at + 1)) (Err at) ≡ Ok (v, e) → v ≡ b
+    go true k = sym (ok_first k)
     go false k = absurd (let z : ◌≡◌ {A = ℕ} 0 1 = cc in omega arith)
 
 -- a letter stays as it stands
-pub letter-fits : (k : Class) (s : List ℕ) (at v e : ℕ) → letter_at k s at ≡ Is v e → (in_class k v ≡ true) × (kept s at 1 ≡ v ∷ [])
+pub letter-fits : (k : Class) (s : List ℕ) (at v e : ℕ) → letter_at k s at ≡ Ok (v, e) → (in_class k v ≡ true) × (kept s at 1 ≡ v ∷ [])
 letter-fits k s at v e h = go (ltb at (length s)) (in_class k (get_or s at 0)) refl refl (letter-found s at v e k h)
   where
-    go : (a b : Bool) → ltb at (length s) ≡ a → in_class k (get_or s at 0) ≡ b → cond (a && b) (Is (get_or s at 0) (at + 1)) (Not at) ≡ Is v e
+    go : (a b : Bool) → ltb at (length s) ≡ a → in_class k (get_or s at 0) ≡ b → cond {A = Result (ℕ × ℕ) ℕ} (a && b) (Ok (get_or s at 0, at + 1)) (Err at) ≡ Ok (v, e)
         → (in_class k v ≡ true) × (kept s at 1 ≡ v ∷ [])
     go true true p q r =
-        let w : get_or s at 0 ≡ v = cc in
+        let w : get_or s at 0 ≡ v = ok_first r in
         (rw (← w) q, rw (drop-cons s at 0 (ltb-true at (length s) p), w))
     go true false p q r = absurd (let z : ◌≡◌ {A = ℕ} 0 1 = cc in omega arith)
     go false b p q r = absurd (let z : ◌≡◌ {A = ℕ} 0 1 = cc in omega arith)
@@ -260,15 +258,15 @@ pub record Quotes (s : List ℕ) (at n e : ℕ) : Type 0 where
   pub run_of : run_at Quoted s (at + 1) ≡ n
   pub closed : get_or s (at + 1 + n) 0 ≡ code "\""
 
-pub text-fits : (s : List ℕ) (at n e : ℕ) → text_at s at ≡ Is n e → Quotes s at n e
+pub text-fits : (s : List ℕ) (at n e : ℕ) → text_at s at ≡ Ok (n, e) → Quotes s at n e
 unfolding text_at
 text-fits s at n e h = go (eqb (get_or s at 0) (code "\"")) (eqb (get_or s (at + 1 + run_at Quoted s (at + 1)) 0) (code "\"")) refl refl h
   where
     go : (a b : Bool) → eqb (get_or s at 0) (code "\"") ≡ a → eqb (get_or s (at + 1 + run_at Quoted s (at + 1)) 0) (code "\"") ≡ b
-        → cond (a && b) (Is (run_at Quoted s (at + 1)) (at + 1 + run_at Quoted s (at + 1) + 1)) (Not (text_fault s at)) ≡ Is n e → Quotes s at n e
+        → cond {A = Result (ℕ × ℕ) ℕ} (a && b) (Ok (run_at Quoted s (at + 1), at + 1 + run_at Quoted s (at + 1) + 1)) (Err (text_fault s at)) ≡ Ok (n, e) → Quotes s at n e
     go true true p q r =
-        let m : run_at Quoted s (at + 1) ≡ n = cc in
-        let d : at + 1 + run_at Quoted s (at + 1) + 1 ≡ e = cc in
+        let m : run_at Quoted s (at + 1) ≡ n = ok_first r in
+        let d : at + 1 + run_at Quoted s (at + 1) + 1 ≡ e = ok_second r in
         let a : get_or s at 0 ≡ code "\"" = eqb-true (get_or s at 0) (code "\"") p in
         let z : get_or s (at + 1 + n) 0 ≡ code "\"" = rw m at (eqb-true (get_or s (at + 1 + run_at Quoted s (at + 1)) 0) (code "\"") q) in
         let i : at < length s = inside s at (omega arith) in
@@ -296,7 +294,7 @@ pub record Formatted (st : Stamp) (s : List ℕ) (at : ℕ) : Type 0 where
   pub within : at + width st ≤ length s
   pub letters : new_unit 0 0 (unit st (field_of st (get_or s at 0) (get_or s (at + 1) 0))) ≡ true
 
-pub format-fits : (st : Stamp) (s : List ℕ) (at v e : ℕ) → format_field st s at ≡ Is v e → Formatted st s at
+pub format-fits : (st : Stamp) (s : List ℕ) (at v e : ℕ) → format_field st s at ≡ Ok (v, e) → Formatted st s at
 unfolding format_at field_at
 format-fits st s at v e h =
     let r = format_read st s at v e h in
@@ -304,8 +302,8 @@ format-fits st s at v e h =
   where
     go : (a b : Bool) → leb (at + width st) (length s) ≡ a → new_unit 0 0 (unit st (field_of st (get_or s at 0) (get_or s (at + 1) 0))) ≡ b
         → (f : Format)
-        → with_first st s (cond a (cond b (Letters (field_of st (get_or s at 0) (get_or s (at + 1) 0)) (at + width st)) (Fault at)) (Fault (cut_at s 0 0 at)))
-        ≡ Whole f
+        → with_first st s (cond a (cond b (Ok (field_of st (get_or s at 0) (get_or s (at + 1) 0), at + width st)) (Err at)) (Err (cut_at s 0 0 at)))
+        ≡ Ok f
         → Formatted st s at
     go true true p q f k = record { within = leb-true (at + width st) (length s) p; letters = q }
     go true false p q f k = absurd (let z : ◌≡◌ {A = ℕ} 0 1 = cc in omega arith)

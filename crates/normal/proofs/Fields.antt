@@ -1,4 +1,5 @@
 -- Each letter of the grammar: its field, written, reads back as it was, is written again the same, and stays within its limits.
+use Rattle.std.specs.Prelude.{Ok, Err, Result}
 use mathlib.Core.Path.{◌≡◌, ◌∙◌, refl, sym, ap}
 use mathlib.Core.Bool.{Bool, true, false, cond, ◌&&◌, ◌||◌, false≢true}
 use mathlib.Core.List.{List, [], ◌∷◌, ◌++◌, append_assoc, append-nil}
@@ -12,21 +13,20 @@ use lib.Seq.{get_or-append_seam, get_or-append-add, drop-append_seam, drop-appen
 use borrow.Author.Tests.{eq-eqb, ne_eqb, eqb-true}
 use Rattle.kinds.specs.Bytes.{between}
 use Rattle.classes.specs.declared.Class.TheVariants.{Digit, Named, Mode, Side}
-use Rattle.fields.specs.declared.Field.TheVariants.{Is, Not}
 use Rattle.elements.specs.declared.What.TheVariants.{Text as Quote}
-use Rattle.data_field.specs.declared.Limits.TheVariants.{Within, Outside}
 use Rattle.classes.specs.Bytes.{in_class, run_at}
 use Rattle.fields.specs.Field.{text_at, type_at, byte_at, is_place, place_behind, place_cut, under_at}
 use Rattle.elements.specs.Elements.{elements}
 use Rattle.classes.proofs.Laws.{inside}
+use Rattle.fields.proofs.Pairs.{ok_first, ok_second}
 use Rattle.fields.proofs.Laws.{word-comma, type-found, under-found}
-use Rattle.reader.specs.Letters.{field_at}
-use Rattle.row_limits.specs.Limits.{named, day_there, meets, field_limits}
+use Rattle.row_fields.specs.Letters.{field_at}
+use Rattle.read.specs.Limits.{named, day_there, meets, field_limits}
 use Rattle.grammar.specs.Makers.{starred}
 use Rattle.formats.specs.declared.Stamp.{Stamp}
 use Rattle.formats.specs.declared.Stamp.TheVariants.{Date, Time}
-use Rattle.format_field.specs.Reading.{format_field}
-use Rattle.format_field.proofs.Laws.{format-moved}
+use Rattle.read.specs.Reading.{format_field}
+use Rattle.read.proofs.Laws.{format-moved}
 use Rattle.parts.specs.Names.{capital}
 use Rattle.writing.specs.Writing.{kept, cased}
 use Rattle.normal.specs.Written.{data_written, word_written, written_field}
@@ -156,16 +156,16 @@ After (itself p) rest = Unit {0}
 
 -- a field of value v at a place of s, in the line w at another
 pub record Moved (f : ℕ) (s : List ℕ) (v p : ℕ) (w : List ℕ) (q : ℕ) : Type 0 where
-  pub read : field_at f w q ≡ Is v (q + length (written_field f s v p))
+  pub read : field_at f w q ≡ Ok (v, q + length (written_field f s v p))
   pub again : written_field f w v q ≡ written_field f s v p
-  pub limit : (l : ℕ × ℕ) (u n : ℕ) → field_limits f l s u v p n ≡ Within → field_limits f l w u v q n ≡ Within
+  pub limit : (l : ℕ × ℕ) (u n : ℕ) → field_limits f l s u v p n ≡ Ok tt → field_limits f l w u v q n ≡ Ok tt
   pub content : held f w v q ≡ held f s v p
 
-limit-move : (t : Bool) (p q : ℕ) → cond t Within (Outside p) ≡ Within → cond t Within (Outside q) ≡ Within
+limit-move : (t : Bool) (p q : ℕ) → ◌≡◌ {A = Result Unit ℕ} (cond t (Ok tt) (Err p)) (Ok tt) → ◌≡◌ {A = Result Unit ℕ} (cond t (Ok tt) (Err q)) (Ok tt)
 limit-move true p q h = refl
 limit-move false p q h = absurd (let z : ◌≡◌ {A = ℕ} 0 1 = cc in omega arith)
 
-limit-both : (a b c : Bool) (p q : ℕ) → (b ≡ true → c ≡ true) → cond (a && b) Within (Outside p) ≡ Within → cond (a && c) Within (Outside q) ≡ Within
+limit-both : (a b c : Bool) (p q : ℕ) → (b ≡ true → c ≡ true) → ◌≡◌ {A = Result Unit ℕ} (cond (a && b) (Ok tt) (Err p)) (Ok tt) → ◌≡◌ {A = Result Unit ℕ} (cond (a && c) (Ok tt) (Err q)) (Ok tt)
 limit-both true true c p q k h = rw (k refl)
 limit-both true false c p q k h = absurd (let z : ◌≡◌ {A = ℕ} 0 1 = cc in omega arith)
 limit-both false b c p q k h = absurd (let z : ◌≡◌ {A = ℕ} 0 1 = cc in omega arith)
@@ -186,7 +186,7 @@ star-cased true = refl
 star-cased false = refl
 
 -- ---- a quoted text, in capitals or as it is
-module _ (b : Bool) (s : List ℕ) (at v e : ℕ) (h : text_at s at ≡ Is v e) (pre rest : List ℕ) where
+module _ (b : Bool) (s : List ℕ) (at v e : ℕ) (h : text_at s at ≡ Ok (v, e)) (pre rest : List ℕ) where
   inner : List ℕ
   inner = cased b (text-fits s at v e h).text
 
@@ -215,7 +215,7 @@ module _ (b : Bool) (s : List ℕ) (at v e : ℕ) (h : text_at s at ≡ Is v e) 
   unfolding line
   line-is = rw (outer-is, append_assoc inner (code "\"" ∷ []) rest)
 
-  text-moved : text_at line (length pre) ≡ Is v (length pre + length outer)
+  text-moved : text_at line (length pre) ≡ Ok (v, length pre + length outer)
   text-moved =
       let q = text-fits s at v e h in
       let k : length pre + 1 + v + 1 ≡ length pre + length outer = (let z = outer-length in omega arith) in
@@ -280,7 +280,7 @@ kept-three s p a b c i j k x y z =
     let f : drop (suc (suc p)) s ≡ c ∷ drop (suc (suc (suc p))) s = drop-cons s (suc (suc p)) 0 (omega arith) ∙ rw z' in
     rw (d, e, f)
 
-pub type-fits : (s : List ℕ) (at v e : ℕ) → type_at s at ≡ Is v e → TypeFits s at v
+pub type-fits : (s : List ℕ) (at v e : ℕ) → type_at s at ≡ Ok (v, e) → TypeFits s at v
 type-fits s at v e h =
     go (eqb (get_or s at 0) (code "1")) (eqb (get_or s at 0) (code "2")) (eqb (get_or s at 0) (code "3")) (eqb (get_or s at 0) (code "E")) (eqb (get_or s (at + 1) 0) (code "3"))
     (eqb (get_or s (at + 2) 0) (code "0"))
@@ -295,13 +295,13 @@ type-fits s at v e h =
     go : (a b c d f g : Bool) → eqb (get_or s at 0) (code "1") ≡ a → eqb (get_or s at 0) (code "2") ≡ b → eqb (get_or s at 0) (code "3") ≡ c → eqb (get_or s at 0) (code "E") ≡ d
         → eqb (get_or s (at + 1) 0) (code "3") ≡ f
         → eqb (get_or s (at + 2) 0) (code "0") ≡ g
-        → cond a (Is 1 (at + 1)) (cond b (Is 2 (at + 1)) (cond c (Is 3 (at + 1)) (cond (d && (f && g)) (Is 30 (at + 3)) (Not at)))) ≡ Is v e
+        → cond {A = Result (ℕ × ℕ) ℕ} a (Ok (1, at + 1)) (cond b (Ok (2, at + 1)) (cond c (Ok (3, at + 1)) (cond (d && (f && g)) (Ok (30, at + 3)) (Err at)))) ≡ Ok (v, e)
         → TypeFits s at v
-    go true b c d f g p q r t u w k = let x : 1 ≡ v = cc in rw (← x) (one (kept-one s at (code "1") (omega arith) (eqb-true (get_or s at 0) (code "1") p)))
-    go false true c d f g p q r t u w k = let x : 2 ≡ v = cc in rw (← x) (two (kept-one s at (code "2") (omega arith) (eqb-true (get_or s at 0) (code "2") q)))
-    go false false true d f g p q r t u w k = let x : 3 ≡ v = cc in rw (← x) (three (kept-one s at (code "3") (omega arith) (eqb-true (get_or s at 0) (code "3") r)))
+    go true b c d f g p q r t u w k = let x : 1 ≡ v = ok_first k in rw (← x) (one (kept-one s at (code "1") (omega arith) (eqb-true (get_or s at 0) (code "1") p)))
+    go false true c d f g p q r t u w k = let x : 2 ≡ v = ok_first k in rw (← x) (two (kept-one s at (code "2") (omega arith) (eqb-true (get_or s at 0) (code "2") q)))
+    go false false true d f g p q r t u w k = let x : 3 ≡ v = ok_first k in rw (← x) (three (kept-one s at (code "3") (omega arith) (eqb-true (get_or s at 0) (code "3") r)))
     go false false false true true true p q r t u w k =
-        let x : 30 ≡ v = cc in
+        let x : 30 ≡ v = ok_first k in
         rw (← x)
         (ean (kept-three s at (code "E") (code "3") (code "0") (omega arith) (omega arith) (omega arith) (eqb-true (get_or s at 0) (code "E") t) (eqb-true (get_or s (at + 1) 0) (code "3") u) (eqb-true (get_or s (at + 2) 0) (code "0") w)))
     go false false false true true false p q r t u w k = absurd (let z : ◌≡◌ {A = ℕ} 0 1 = cc in omega arith)
@@ -313,13 +313,13 @@ data TypeOne : ℕ → ℕ → Type 0 where
   is-two : TypeOne (code "2") 2
   is-three : TypeOne (code "3") 3
 
-type-one : (pre rest : List ℕ) (b v : ℕ) → TypeOne b v → get_or rest 0 0 ≡ code "," → type_at (pre ++ (b ∷ rest)) (length pre) ≡ Is v (length pre + 1)
+type-one : (pre rest : List ℕ) (b v : ℕ) → TypeOne b v → get_or rest 0 0 ≡ code "," → type_at (pre ++ (b ∷ rest)) (length pre) ≡ Ok (v, length pre + 1)
 unfolding type_at
 type-one pre rest b v is_one c = rw (get_or-append_seam pre (code "1") rest 0) (word_back pre rest b v c)
 type-one pre rest b v is-two c = rw (get_or-append_seam pre (code "2") rest 0) (word_back pre rest b v c)
 type-one pre rest b v is-three c = rw (get_or-append_seam pre (code "3") rest 0) (word_back pre rest b v c)
 
-type-ean : (pre rest : List ℕ) → get_or rest 0 0 ≡ code "," → type_at (pre ++ (code "E" ∷ (code "3" ∷ (code "0" ∷ rest)))) (length pre) ≡ Is 30 (length pre + 3)
+type-ean : (pre rest : List ℕ) → get_or rest 0 0 ≡ code "," → type_at (pre ++ (code "E" ∷ (code "3" ∷ (code "0" ∷ rest)))) (length pre) ≡ Ok (30, length pre + 3)
 unfolding type_at
 type-ean pre rest c =
     let w : List ℕ = code "E" ∷ (code "3" ∷ (code "0" ∷ rest)) in
@@ -405,7 +405,7 @@ module _ (s : List ℕ) (at : ℕ) where
       go (no c) (yes r) = rw r (unfold word_written in record { letter = right; ends = refl; stays = word (code "R") (omega arith) r })
       go (no c) (no r) = absurd (false≢true (rw (ne_eqb b (code "C") c, ne_eqb b (code "R") r) at h))
 
-  pub word_fits : (v e : ℕ) → under_at s at ≡ Is v e → WordFits s at v e
+  pub word_fits : (v e : ℕ) → under_at s at ≡ Ok (v, e) → WordFits s at v e
   word_fits v e h =
       go (eqb (get_or s at 0) (code "N")) (eqb (get_or s at 0) (code "B")) (eqb (get_or s (at + 1) 0) (code ",")) (is_place (get_or s (at + 2) 0)) (eqb (get_or s (at + 3) 0) (code ","))
       refl
@@ -414,20 +414,20 @@ module _ (s : List ℕ) (at : ℕ) where
       refl
       (under-found s at v e h)
     where
-      line : eqb (get_or s at 0) (code "B") ≡ true → Is (code "B") (at + 1) ≡ Is v e → WordFits s at v e
-      line p k = let x : code "B" ≡ v = cc in let y : at + 1 ≡ e = cc in rw (← x, ← y) (left-fits (eqb-true (get_or s at 0) (code "B") p))
+      line : eqb (get_or s at 0) (code "B") ≡ true → ◌≡◌ {A = Result (ℕ × ℕ) ℕ} (Ok (code "B", at + 1)) (Ok (v, e)) → WordFits s at v e
+      line p k = let x : code "B" ≡ v = ok_first k in let y : at + 1 ≡ e = ok_second k in rw (← x, ← y) (left-fits (eqb-true (get_or s at 0) (code "B") p))
 
       go : (a b c d g : Bool) → eqb (get_or s at 0) (code "N") ≡ a → eqb (get_or s at 0) (code "B") ≡ b → eqb (get_or s (at + 1) 0) (code ",") ≡ c
           → is_place (get_or s (at + 2) 0) ≡ d
-          → cond a (Is (code "N") (at + 1)) (cond b (cond (c && (d && g)) (Is (get_or s (at + 2) 0) (at + 3)) (Is (code "B") (at + 1))) (Not at)) ≡ Is v e
+          → cond {A = Result (ℕ × ℕ) ℕ} a (Ok (code "N", at + 1)) (cond b (cond (c && (d && g)) (Ok (get_or s (at + 2) 0, at + 3)) (Ok (code "B", at + 1))) (Err at)) ≡ Ok (v, e)
           → WordFits s at v e
       go true b c d g m n o p k =
-          let x : code "N" ≡ v = cc in
-          let y : at + 1 ≡ e = cc in
+          let x : code "N" ≡ v = ok_first k in
+          let y : at + 1 ≡ e = ok_second k in
           rw (← x, ← y) (nothing-fits (eqb-true (get_or s at 0) (code "N") m))
       go false true true true true m n o p k =
-          let x : get_or s (at + 2) 0 ≡ v = cc in
-          let y : at + 3 ≡ e = cc in
+          let x : get_or s (at + 2) 0 ≡ v = ok_first k in
+          let y : at + 3 ≡ e = ok_second k in
           rw (← x, ← y)
           (placed-fits (get_or s (at + 2) 0) (eqb-true (get_or s at 0) (code "B") n) (eqb-true (get_or s (at + 1) 0) (code ",") o) refl p)
       go false true true true false m n o p k = line n k
@@ -445,7 +445,7 @@ eqb-offset a b m n d p q = go (ℕ_discrete m n)
 
 -- what is said under bars, written, is read back where a comma follows and no place between commas or at the end
 under_back : (pre rest : List ℕ) (v : ℕ) → Word v → After a_word rest
-    → under_at (pre ++ (word_written v ++ rest)) (length pre) ≡ Is v (length pre + length (word_written v))
+    → under_at (pre ++ (word_written v ++ rest)) (length pre) ≡ Ok (v, length pre + length (word_written v))
 unfolding under_at word_written
 under_back pre rest v nothing a = rw (get_or-append_seam pre (code "N") rest 0) (word_back pre rest (code "N") (code "N") a.0)
 under_back pre rest v left a =
@@ -472,7 +472,7 @@ module _ {f : ℕ} (p : Plain f) where
   unfolding written_field
   plain-written s v q = simp (p.no-n, p.no-w, p.no-y, p.no-s, p.no-t, p.no-u, p.no-a, p.no-z, p.no-m, p.no-j, p.no-k, p.no-h, p.no-d, p.no-f, p.no-g)
 
-  plain-limits : (l : ℕ × ℕ) (s : List ℕ) (u v q n : ℕ) → field_limits f l s u v q n ≡ Within
+  plain-limits : (l : ℕ × ℕ) (s : List ℕ) (u v q n : ℕ) → field_limits f l s u v q n ≡ Ok tt
   unfolding field_limits
   plain-limits l s u v q n = simp (p.no-n, p.no-w, p.no-y, p.no-s, p.no-t, p.no-a, p.no-z, p.no-d)
 
@@ -480,7 +480,7 @@ module _ {f : ℕ} (p : Plain f) where
   unfolding held
   plain-held s v q = simp (p.no-t, p.no-u, p.no-a, p.no-z, p.no-d)
 
-  plain_moved : (s : List ℕ) (at v e : ℕ) (pre rest : List ℕ) → field_at f s at ≡ Is v e
+  plain_moved : (s : List ℕ) (at v e : ℕ) (pre rest : List ℕ) → field_at f s at ≡ Ok (v, e)
       → Moved f s v at (pre ++ (written_field f s v at ++ rest)) (length pre)
   plain_moved s at v e pre rest h =
       let o : v ≡ f = byte_fits f s at v e (sym (plain-field s at) ∙ h) in
@@ -508,20 +508,20 @@ module _ (s : List ℕ) (at v e : ℕ) (pre rest : List ℕ) (a : rest ≡ []) w
   rest-again : cased false (drop (length pre) (pre ++ (cased false (drop at s) ++ rest))) ≡ cased false (drop at s)
   rest-again = rw (rest-stays, drop-append_seam pre (drop at s))
 
-  rest_read : (st : Stamp) → format_field st s at ≡ Is v e
-      → format_field st (pre ++ (cased false (drop at s) ++ rest)) (length pre) ≡ Is v (length pre + length (cased false (drop at s)))
+  rest_read : (st : Stamp) → format_field st s at ≡ Ok (v, e)
+      → format_field st (pre ++ (cased false (drop at s) ++ rest)) (length pre) ≡ Ok (v, length pre + length (cased false (drop at s)))
   rest_read st h =
       let q = (format-fits st s at v e h).within in
       rw (rest-stays, cased_kept (drop at s)) (format-moved st s pre at v e (omega arith) h)
 
-  rest-moved : (st : Stamp) → format_field st s at ≡ Is v e
+  rest-moved : (st : Stamp) → format_field st s at ≡ Ok (v, e)
       → Moved (format_letter st) s v at (pre ++ (written_field (format_letter st) s v at ++ rest)) (length pre)
   unfolding field_at written_field field_limits held
   rest-moved Date h = record { read = rest_read Date h; again = rest-again; limit = λ l u n k. refl; content = refl }
   rest-moved Time h = record { read = rest_read Time h; again = rest-again; limit = λ l u n k. refl; content = refl }
 
 -- ---- each letter
-pub field-moved : {f : ℕ} (x : Letter f) (s : List ℕ) (at v e : ℕ) (pre rest : List ℕ) → field_at f s at ≡ Is v e → After x rest
+pub field-moved : {f : ℕ} (x : Letter f) (s : List ℕ) (at v e : ℕ) (pre rest : List ℕ) → field_at f s at ≡ Ok (v, e) → After x rest
     → Moved f s v at (pre ++ (written_field f s v at ++ rest)) (length pre)
 unfolding field_at written_field field_limits meets held line outer
 field-moved a-number s at v e pre rest h a =

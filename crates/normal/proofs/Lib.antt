@@ -6,3 +6,4 @@ pub mod Starts
 pub mod Round
 pub mod Stays
 pub mod Short
+pub use Rattle.read.proofs.Rows

@@ -1,4 +1,5 @@
 -- Reading the normal form of a line gives the same command with the same contents, and its normal form is itself.
+use Rattle.std.proofs.Common.{Option, Some, None, Ok, Result, Err}
 use mathlib.Core.Path.{◌≡◌, ◌∙◌, refl, sym, ap}
 use mathlib.Core.Bool.{Bool, true, false, cond, ◌&&◌, ◌||◌, not, true≢false, false≢true}
 use mathlib.Core.List.{List, [], ◌∷◌, ◌++◌, append_assoc, append-nil}
@@ -14,20 +15,15 @@ use Rattle.classes.specs.Bytes.{in_class}
 use Rattle.classes.specs.declared.Class.TheVariants.{Digit}
 use Rattle.classes.proofs.Laws.{and_T}
 use Rattle.elements.specs.Elements.{elements}
-use Rattle.reader.specs.Letters.{field_at}
-use Rattle.data_field.specs.declared.Limits.{Limits}
-use Rattle.data_field.specs.declared.Limits.TheVariants.{Within, Outside}
+use Rattle.row_fields.specs.Letters.{field_at}
 use Rattle.grammar.specs.Forms.{Form, forms, none, row_of, bounds_of, free, is_number, spread, in_order, command_of}
 use Rattle.heads.specs.Heads.{head_of, head_by, find}
 use Rattle.row_fields.specs.Reading.{fields_from, Got, good, bad}
-use Rattle.row_limits.specs.Limits.{field_limits, first_of, limits_from}
+use Rattle.read.specs.Limits.{field_limits, first_of, limits_from}
 use Rattle.read.specs.Commands.{read_of, headed as head_read, judged, decided}
 use Rattle.grammar.specs.declared.Item.{Item}
 use Rattle.grammar.specs.declared.Command.{Command}
 use Rattle.grammar.specs.declared.Command.TheVariants.{Item as item, End, Page, Forms, Pictures, Values, Listing, Clock}
-use Rattle.read.specs.declared.Read.TheVariants.{Taken}
-use Rattle.heads.specs.declared.Head.{Head}
-use Rattle.heads.specs.declared.Head.TheVariants.{Row, Unknown}
 use Rattle.grammar.proofs.Rows.{◌&◌, Each, each_row}
 use Rattle.row_fields.proofs.Rows.{Split, fields_split}
 use Rattle.normal.specs.Written.{data_written, written_field, written_from, written_of, head_written, normal}
@@ -124,12 +120,12 @@ pub record Kept (fs s vs ps w : List ℕ) (q : ℕ) : Type 0 where
   pub places : List ℕ
   pub read : fields_from fs w q ≡ good vs places
   pub again : written_from fs w vs places ≡ written_from fs s vs ps
-  pub limit : (ls : List (ℕ × ℕ)) (u : ℕ) → limits_from fs ls s u vs ps ≡ Within → limits_from fs ls w u vs places ≡ Within
+  pub limit : (ls : List (ℕ × ℕ)) (u : ℕ) → limits_from fs ls s u vs ps ≡ Ok tt → limits_from fs ls w u vs places ≡ Ok tt
   pub content : held_by fs w vs places ≡ held_by fs s vs ps
 
-first-move : (a b c d : Limits) → (a ≡ Within → c ≡ Within) → (b ≡ Within → d ≡ Within) → first_of a b ≡ Within → first_of c d ≡ Within
-first-move Within b c d f g h = rw (f refl) (g h)
-first-move (Outside p) b c d f g h = absurd (let z : ◌≡◌ {A = ℕ} 0 1 = cc in omega arith)
+first-move : (a b c d : Result Unit ℕ) → (a ≡ Ok tt → c ≡ Ok tt) → (b ≡ Ok tt → d ≡ Ok tt) → first_of a b ≡ Ok tt → first_of c d ≡ Ok tt
+first-move (Ok u) b c d f g h = rw (f refl) (g h)
+first-move (Err p) b c d f g h = absurd (let z : ◌≡◌ {A = ℕ} 0 1 = cc in omega arith)
 
 kept-end : (s : List ℕ) (at : ℕ) (vs ps pre : List ℕ) → fields_from [] s at ≡ good vs ps → Kept [] s vs ps (pre ++ []) (length pre)
 unfolding fields_from written_from limits_from held_by
@@ -213,9 +209,9 @@ row-sound : (row : ℕ) → T (sound (row_of row).fields)
 unfolding sound_row sound starts between
 row-sound row = every-row sound_row forms 0 tt (λ k. tt) row
 
-abbrev is_row : Head → ℕ → Bool
-is_row (Row k) row = eqb k row
-is_row Unknown row = false
+abbrev is_row : Option ℕ → ℕ → Bool
+is_row (Some k) row = eqb k row
+is_row None row = false
 
 abbrev is_capital : ℕ → Bool
 is_capital b = between (code "A") (code "Z") b
@@ -264,15 +260,15 @@ capital-head a h = go (is_capital a) h
     go true k = tt
     go false k = absurd k
 
-row_is : (h : Head) (row : ℕ) → T (is_row h row) → h ≡ Row row
-row_is (Row k) row t = ap Row (eqb-true k row (T_true (eqb k row) t))
-row_is Unknown row t = absurd t
+row_is : (h : Option ℕ) (row : ℕ) → T (is_row h row) → h ≡ Some row
+row_is (Some k) row t = ap Some (eqb-true k row (T_true (eqb k row) t))
+row_is None row t = absurd t
 
 -- the second byte, and the third behind a second letter
 module _ (row a : ℕ) (s : List ℕ) where
   second-letter : (b : ℕ) (fs : List ℕ) (at : ℕ) (vs ps : List ℕ) → fields_from (b ∷ fs) s at ≡ good vs ps → T (is_capital b)
       → T (every (λ x. is_row (head_by a b x) row) (starts fs))
-      → head_by a (get_or (written_from (b ∷ fs) s vs ps) 0 0) (get_or (written_from (b ∷ fs) s vs ps) 1 0) ≡ Row row
+      → head_by a (get_or (written_from (b ∷ fs) s vs ps) 0 0) (get_or (written_from (b ∷ fs) s vs ps) 1 0) ≡ Some row
   second-letter b fs at vs ps k i h =
       let y = fields_split b fs s at vs ps k in
       let p = head_plain (letter-of b) (capital-head b i) in
@@ -282,31 +278,31 @@ module _ (row a : ℕ) (s : List ℕ) where
 
   second-other : (c : ℕ) (fs : List ℕ) (at : ℕ) (vs ps : List ℕ) → fields_from fs s at ≡ good vs ps
       → T (every (λ x. is_row (head_by a x c) row) (starts fs))
-      → head_by a (get_or (written_from fs s vs ps) 0 0) c ≡ Row row
+      → head_by a (get_or (written_from fs s vs ps) 0 0) c ≡ Some row
   second-other c fs at vs ps k h =
       let z : ℕ = get_or (written_from fs s vs ps) 0 0 in
       row_is (head_by a z c) row (every-among (λ x. is_row (head_by a x c) row) z (starts fs) h (start_of fs s at vs ps k))
 
   second_back : (fs : List ℕ) (at : ℕ) (vs ps : List ℕ) → T (behind (get_or (written_from fs s vs ps) 1 0) row a fs) → fields_from fs s at ≡ good vs ps
-      → head_by a (get_or (written_from fs s vs ps) 0 0) (get_or (written_from fs s vs ps) 1 0) ≡ Row row
+      → head_by a (get_or (written_from fs s vs ps) 0 0) (get_or (written_from fs s vs ps) 1 0) ≡ Some row
   second_back [] at vs ps h k = unfold written_from in row_is (head_by a 0 0) row h
   second_back (b ∷ fs) at vs ps h k = go (is_capital b) refl h
     where
       go : (t : Bool) → is_capital b ≡ t
           → T (cond t (every (λ x. is_row (head_by a b x) row) (starts fs)) (every (λ x. is_row (head_by a x (get_or (written_from (b ∷ fs) s vs ps) 1 0)) row) (starts (b ∷ fs))))
-          → head_by a (get_or (written_from (b ∷ fs) s vs ps) 0 0) (get_or (written_from (b ∷ fs) s vs ps) 1 0) ≡ Row row
+          → head_by a (get_or (written_from (b ∷ fs) s vs ps) 0 0) (get_or (written_from (b ∷ fs) s vs ps) 1 0) ≡ Some row
       go true e q = second-letter b fs at vs ps k (rw e tt) q
       go false e q = second-other (get_or (written_from (b ∷ fs) s vs ps) 1 0) (b ∷ fs) at vs ps k q
 
 head-split : (row a : ℕ) (fs s : List ℕ) (at : ℕ) (vs ps : List ℕ) (x : Split a fs s at vs ps) → Plain a
-    → head_by a (get_or (written_from fs s x.vs x.ps) 0 0) (get_or (written_from fs s x.vs x.ps) 1 0) ≡ Row row
-    → head_of (written_from (a ∷ fs) s vs ps) ≡ Row row
+    → head_by a (get_or (written_from fs s x.vs x.ps) 0 0) (get_or (written_from fs s x.vs x.ps) 1 0) ≡ Some row
+    → head_of (written_from (a ∷ fs) s vs ps) ≡ Some row
 unfolding head_of
 head-split row a fs s at vs ps x p h =
     rw (written-split a fs s vs ps x.v at x.vs x.ps x.values x.places, plain-written p s x.v at) h
 
 head-back : (row : ℕ) (fs s vs ps : List ℕ) → ((c : ℕ) → T (headed c row fs)) → 0 < length fs → fields_from fs s 0 ≡ good vs ps
-    → head_of (written_from fs s vs ps) ≡ Row row
+    → head_of (written_from fs s vs ps) ≡ Some row
 head-back row [] s vs ps h l k = absurd (omega arith)
 head-back row (a ∷ fs) s vs ps h l k =
     let x = fields_split a fs s 0 vs ps k in
@@ -317,7 +313,7 @@ head-back row (a ∷ fs) s vs ps h l k =
 
 -- ---- lines
 
-module _ (s : List ℕ) (row : ℕ) (vs ps : List ℕ) (h : head_of s ≡ Row row)
+module _ (s : List ℕ) (row : ℕ) (vs ps : List ℕ) (h : head_of s ≡ Some row)
     (k : fields_from (row_of row).fields s 0 ≡ good vs ps) where
   pub normal-is : normal s ≡ written_from (row_of row).fields s vs ps
   unfolding head_written written_of
@@ -331,7 +327,7 @@ module _ (s : List ℕ) (row : ℕ) (vs ps : List ℕ) (h : head_of s ≡ Row ro
   unfolding read_of head_read judged
   read_is rows = rw (h, k)
 
-empty-unknown : (row : ℕ) → head_of [] ≡ Row row → ⊥
+empty-unknown : (row : ℕ) → head_of [] ≡ Some row → ⊥
 unfolding head_of head_by find between
 empty-unknown row h = let z : ◌≡◌ {A = ℕ} 0 1 = cc in omega arith
 
@@ -344,11 +340,11 @@ some-unread x xs vs ps h =
     omega arith
 
 -- a line that is read is not empty
-row-some : (s : List ℕ) (row : ℕ) (vs ps : List ℕ) → head_of s ≡ Row row → fields_from (row_of row).fields s 0 ≡ good vs ps
+row-some : (s : List ℕ) (row : ℕ) (vs ps : List ℕ) → head_of s ≡ Some row → fields_from (row_of row).fields s 0 ≡ good vs ps
     → 0 < length (row_of row).fields
 row-some s row vs ps h k = go (row_of row).fields k
   where
-    none_read : (s : List ℕ) → head_of s ≡ Row row → fields_from [] s 0 ≡ good vs ps → ⊥
+    none_read : (s : List ℕ) → head_of s ≡ Some row → fields_from [] s 0 ≡ good vs ps → ⊥
     none_read [] h k = empty-unknown row h
     none_read (x ∷ xs) h k = some-unread x xs vs ps k
 
@@ -432,18 +428,18 @@ made_again row s w vs ps qs i h = go (command_of row w vs qs) refl (sym (each_ro
     go (Listing c) e k = absurd (let z : ◌≡◌ {A = ℕ} 0 1 = cc in omega arith)
     go (Clock c) e k = absurd (let z : ◌≡◌ {A = ℕ} 0 1 = cc in omega arith)
 
-normal-row : (rows : ℕ) (s : List ℕ) (i : Item) (row : ℕ) (vs ps : List ℕ) → head_of s ≡ Row row
-    → fields_from (row_of row).fields s 0 ≡ good vs ps → limits_from (row_of row).fields (bounds_of row rows) s 0 vs ps ≡ Within
+normal-row : (rows : ℕ) (s : List ℕ) (i : Item) (row : ℕ) (vs ps : List ℕ) → head_of s ≡ Some row
+    → fields_from (row_of row).fields s 0 ≡ good vs ps → limits_from (row_of row).fields (bounds_of row rows) s 0 vs ps ≡ Ok tt
     → command_of row s vs ps ≡ item i → Normal rows s i
 normal-row rows s i row vs ps h k l c =
     let fs : List ℕ = (row_of row).fields in
     let w : List ℕ = written_from fs s vs ps in
     let m : Kept fs s vs ps w 0 = fields-kept fs s 0 vs ps [] (row-sound row) k in
-    let b : head_of w ≡ Row row = head-back row fs s vs ps (λ c. row-headed c row) (row-some s row vs ps h k) k in
+    let b : head_of w ≡ Some row = head-back row fs s vs ps (λ c. row-headed c row) (row-some s row vs ps h k) k in
     let n : normal s ≡ w = normal-is s row vs ps h k in
     let o = made_again row s w vs ps m.places i c in
-    let r : read_of rows w ≡ Taken (item o.back) =
-    read_is w row vs m.places b m.read rows ∙ rw (m.limit (bounds_of row rows) 0 l) (ap Taken o.made) in
+    let r : read_of rows w ≡ Ok (item o.back) =
+    read_is w row vs m.places b m.read rows ∙ rw (m.limit (bounds_of row rows) 0 l) (ap Ok o.made) in
     let d : contents w ≡ contents s = contents-is w row vs m.places b m.read ∙ m.content ∙ sym (contents-is s row vs ps h k) in
     let a : normal w ≡ w = normal-is w row vs m.places b m.read ∙ m.again in
     record {
@@ -459,30 +455,30 @@ pub record Parted (rows : ℕ) (s : List ℕ) (i : Item) : Type 0 where
   pub row : ℕ
   pub vs : List ℕ
   pub ps : List ℕ
-  pub head : head_of s ≡ Row row
+  pub head : head_of s ≡ Some row
   pub read : fields_from (row_of row).fields s 0 ≡ good vs ps
-  pub within : limits_from (row_of row).fields (bounds_of row rows) s 0 vs ps ≡ Within
+  pub within : limits_from (row_of row).fields (bounds_of row rows) s 0 vs ps ≡ Ok tt
   pub command : command_of row s vs ps ≡ item i
 
-pub item-parted : (rows : ℕ) (s : List ℕ) (i : Item) → read_of rows s ≡ Taken (item i) → Parted rows s i
+pub item-parted : (rows : ℕ) (s : List ℕ) (i : Item) → read_of rows s ≡ Ok (item i) → Parted rows s i
 unfolding read_of head_read judged
 item-parted rows s i h = go (head_of s) refl h
   where
-    within : (row : ℕ) (vs ps : List ℕ) (l : Limits) → head_of s ≡ Row row → fields_from (row_of row).fields s 0 ≡ good vs ps
-        → limits_from (row_of row).fields (bounds_of row rows) s 0 vs ps ≡ l → decided l (command_of row s vs ps) ≡ Taken (item i) → Parted rows s i
-    within row vs ps Within a b c d = record { row = row; vs = vs; ps = ps; head = a; read = b; within = c; command = cc }
-    within row vs ps (Outside p) a b c d = absurd (let z : ◌≡◌ {A = ℕ} 0 1 = cc in omega arith)
+    within : (row : ℕ) (vs ps : List ℕ) (l : Result Unit ℕ) → head_of s ≡ Some row → fields_from (row_of row).fields s 0 ≡ good vs ps
+        → limits_from (row_of row).fields (bounds_of row rows) s 0 vs ps ≡ l → decided l (command_of row s vs ps) ≡ Ok (item i) → Parted rows s i
+    within row vs ps (Ok u) a b c d = record { row = row; vs = vs; ps = ps; head = a; read = b; within = c; command = cc }
+    within row vs ps (Err p) a b c d = absurd (let z : ◌≡◌ {A = ℕ} 0 1 = cc in omega arith)
 
-    fields : (row : ℕ) (g : Got) → head_of s ≡ Row row → fields_from (row_of row).fields s 0 ≡ g
-        → judged row rows s g ≡ Taken (item i) → Parted rows s i
+    fields : (row : ℕ) (g : Got) → head_of s ≡ Some row → fields_from (row_of row).fields s 0 ≡ g
+        → judged row rows s g ≡ Ok (item i) → Parted rows s i
     fields row (good vs ps) a b c = within row vs ps (limits_from (row_of row).fields (bounds_of row rows) s 0 vs ps) a b refl c
     fields row (bad vs ps p) a b c = absurd (let z : ◌≡◌ {A = ℕ} 0 1 = cc in omega arith)
 
-    go : (x : Head) → head_of s ≡ x → head_read x rows s ≡ Taken (item i) → Parted rows s i
-    go (Row row) a c = fields row (fields_from (row_of row).fields s 0) a refl c
-    go Unknown a c = absurd (let z : ◌≡◌ {A = ℕ} 0 1 = cc in omega arith)
+    go : (x : Option ℕ) → head_of s ≡ x → head_read x rows s ≡ Ok (item i) → Parted rows s i
+    go (Some row) a c = fields row (fields_from (row_of row).fields s 0) a refl c
+    go None a c = absurd (let z : ◌≡◌ {A = ℕ} 0 1 = cc in omega arith)
 
-pub normal-line : (rows : ℕ) (s : List ℕ) (i : Item) → read_of rows s ≡ Taken (item i) → Normal rows s i
+pub normal-line : (rows : ℕ) (s : List ℕ) (i : Item) → read_of rows s ≡ Ok (item i) → Normal rows s i
 normal-line rows s i h =
     let p = item-parted rows s i h in
     normal-row rows s i p.row p.vs p.ps p.head p.read p.within p.command
@@ -534,9 +530,9 @@ bounds-steady : (r r' row : ℕ) (s vs ps : List ℕ) (i : Item) → command_of 
 unfolding Rowless
 bounds-steady r r' row s vs ps i h = ap (spread (row_of row).fields) (each_row Rowless every-rowless row s (λ k. get_or (in_order (row_of row).fields 0 vs) k 0) (λ k. get_or (in_order (row_of row).fields 0 ps) k 0) i h r r')
 
-pub item-rows : (r r' : ℕ) (s : List ℕ) (i : Item) → read_of r s ≡ Taken (item i) → read_of r' s ≡ Taken (item i)
+pub item-rows : (r r' : ℕ) (s : List ℕ) (i : Item) → read_of r s ≡ Ok (item i) → read_of r' s ≡ Ok (item i)
 item-rows r r' s i h =
     let p = item-parted r s i h in
-    let l : limits_from (row_of p.row).fields (bounds_of p.row r') s 0 p.vs p.ps ≡ Within =
+    let l : limits_from (row_of p.row).fields (bounds_of p.row r') s 0 p.vs p.ps ≡ Ok tt =
     rw (bounds-steady r' r p.row s p.vs p.ps i p.command) p.within in
-    read_is s p.row p.vs p.ps p.head p.read r' ∙ rw l (ap Taken p.command)
+    read_is s p.row p.vs p.ps p.head p.read r' ∙ rw l (ap Ok p.command)

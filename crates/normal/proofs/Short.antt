@@ -1,5 +1,6 @@
 -- "A line is up to 255 bytes": the normal form of an item is such a line again. Nothing grows but a step, which is given its sign; and a line with a
 -- step is short by its limits.
+use Rattle.std.specs.Prelude.{Result, Ok, Err}
 use mathlib.Core.Path.{◌≡◌, ◌∙◌, refl, sym}
 use mathlib.Core.Bool.{Bool, true, false, cond, ◌&&◌, ◌||◌, not}
 use mathlib.Core.List.{List, [], ◌∷◌}
@@ -14,35 +15,27 @@ use borrow.Author.Tests.{lt-ltb, le-ltb, leb-true, eqb-true}
 use Rattle.kinds.specs.Bytes.{between}
 use Rattle.classes.specs.declared.Class.{Class}
 use Rattle.classes.specs.declared.Class.TheVariants.{Digit, Mode, Side}
-use Rattle.fields.specs.declared.Field.{Field}
-use Rattle.fields.specs.declared.Field.TheVariants.{Is, Not}
 use Rattle.elements.specs.declared.Part.TheVariants.{Whole}
-use Rattle.elements.specs.declared.Step.{Step}
-use Rattle.elements.specs.declared.Step.TheVariants.{Next, Stop}
-use Rattle.elements.specs.declared.Modifier.{Modifier}
-use Rattle.elements.specs.declared.Modifier.TheVariants.{Takes, Wrong}
-use Rattle.data_field.specs.declared.Limits.{Limits}
-use Rattle.data_field.specs.declared.Limits.TheVariants.{Within, Outside}
 use Rattle.classes.specs.Bytes.{in_class, part, run_at}
-use Rattle.numbers.specs.Number.{digit_of, value_from, number_at, signed_at, plus, minus, nought, Small}
+use Rattle.writing.specs.Number.{digit_of, value_from, number_at, signed_at, plus, minus, nought, Small}
 use Rattle.fields.specs.Field.{text_at, letter_at, type_at, byte_at, pointed}
 use Rattle.elements.specs.Elements.{first, last, middle, middle-dot, middle-n, modifier_at, quoted_from, modified, held_at, stamped_from, stamped_at, element_at, after, follow, elements_from, elements}
-use Rattle.data_field.specs.Data.{total, stopped, data_at}
-use Rattle.numbers.proofs.Laws.{digit-small, value-fits, number_small, signed-found}
+use Rattle.read.specs.Data.{total, stopped, data_at}
+use Rattle.writing.proofs.Laws.{digit-small, value-fits, number_small, signed-found}
+use Rattle.fields.proofs.Pairs.{ok_first, ok_second}
 use Rattle.fields.proofs.Laws.{letter-found, type-found}
 use Rattle.classes.proofs.Laws.{and_T}
 use Rattle.formats.specs.declared.Stamp.{Stamp}
 use Rattle.formats.specs.declared.Stamp.TheVariants.{Date, Time}
-use Rattle.format_field.specs.Reading.{format_field}
-use Rattle.format_field.proofs.Laws.{format_read}
+use Rattle.read.specs.Reading.{format_field}
+use Rattle.read.proofs.Laws.{format_read}
 use Rattle.grammar.specs.Forms.{Form, forms, none, row_of, bounds_of, spread, free, is_number}
-use Rattle.reader.specs.Letters.{field_at}
+use Rattle.row_fields.specs.Letters.{field_at}
 use Rattle.row_fields.specs.Reading.{fields_from, good, bad}
-use Rattle.row_limits.specs.Limits.{meets, field_limits, first_of, limits_from}
+use Rattle.read.specs.Limits.{meets, field_limits, first_of, limits_from}
 use Rattle.read.specs.Commands.{read_of}
 use Rattle.grammar.specs.declared.Item.{Item}
 use Rattle.grammar.specs.declared.Command.TheVariants.{Item as item}
-use Rattle.read.specs.declared.Read.TheVariants.{Taken}
 use Rattle.row_fields.proofs.Rows.{fields_split}
 use Rattle.writing.specs.Writing.{decimal, signed, kept, cased}
 use Rattle.normal.specs.Written.{part_written, what_written, element_written, data_written, written_field, written_from, normal}
@@ -50,6 +43,8 @@ use Rattle.writing.proofs.Writes.{digits_last}
 use Rattle.normal.proofs.Back.{T_true, digits-count, number_fits, signed-fits, text-fits, format-fits, cased-length}
 use Rattle.normal.proofs.Fields.{Letter, letter-of, a-number, a-wide, a-day, a-step, a-prompt, a-text, a-name, a-star, a-mode, a-side, a-type, a_word, some-data, a-date, a-time, itself, plain-field, plain-written, word_fits}
 use Rattle.normal.proofs.Round.{normal-is, item-parted}
+use Rattle.elements.specs.declared.Part.{Part}
+use Rattle.elements.specs.declared.Element.{Element}
 
 -- ---- a number
 
@@ -63,16 +58,16 @@ value-count (d ∷ ds) v k h =
     rw e (value-count ds (v * 10 + digit_of d) (suc k) n)
 
 -- what is written of a number takes no more bytes than were read
-abbrev Shorter : ℕ → Field → Type 0
-Shorter at (Is v e) = at + length (decimal v) ≤ e
-Shorter at (Not p) = Unit {0}
+abbrev Shorter : ℕ → Result (ℕ × ℕ) ℕ → Type 0
+Shorter at (Ok (v, e)) = at + length (decimal v) ≤ e
+Shorter at (Err p) = Unit {0}
 
 number-shorter : (s : List ℕ) (at : ℕ) → Shorter at (number_at s at)
 unfolding number_at
 number-shorter s at = go (leb 1 (run_at Digit s at)) (leb (run_at Digit s at) 9) refl
   where
     go : (a b : Bool) → leb 1 (run_at Digit s at) ≡ a
-        → Shorter at (cond (a && b) (Is (value_from 0 (part s at (run_at Digit s at))) (at + run_at Digit s at)) (Not at))
+        → Shorter at (cond (a && b) (Ok (value_from 0 (part s at (run_at Digit s at)), at + run_at Digit s at)) (Err at))
     go true true e =
         let k : ℕ = run_at Digit s at in
         let l = leb-true 1 k e in
@@ -84,49 +79,49 @@ number-shorter s at = go (leb 1 (run_at Digit s at)) (leb (run_at Digit s at) 9)
     go true false e = tt
     go false b e = tt
 
-number-length : (s : List ℕ) (at v e : ℕ) → number_at s at ≡ Is v e → at + length (decimal v) ≤ e
+number-length : (s : List ℕ) (at v e : ℕ) → number_at s at ≡ Ok (v, e) → at + length (decimal v) ≤ e
 number-length s at v e h = rw h at (number-shorter s at)
 
 -- ---- data: each element takes no more bytes than it did
 
-abbrev ModifierShorter : ℕ → Modifier → Type 0
-ModifierShorter at (Takes p e) = at + length (part_written p) ≤ e
-ModifierShorter at (Wrong q) = Unit {0}
+abbrev ModifierShorter : ℕ → Result (Part × ℕ) ℕ → Type 0
+ModifierShorter at (Ok (p, e)) = at + length (part_written p) ≤ e
+ModifierShorter at (Err q) = Unit {0}
 
 module _ (at : ℕ) where
-  first-shorter : (f : Field) → Shorter (at + 1) f → ModifierShorter at (first (at + 1) f)
+  first-shorter : (f : Result (ℕ × ℕ) ℕ) → Shorter (at + 1) f → ModifierShorter at (first (at + 1) f)
   unfolding part_written
-  first-shorter (Is n e) h = omega arith
-  first-shorter (Not p) h = tt
+  first-shorter (Ok (n, e)) h = omega arith
+  first-shorter (Err p) h = tt
 
-  last-shorter : (f : Field) → Shorter (at + 1) f → ModifierShorter at (last (at + 1) f)
+  last-shorter : (f : Result (ℕ × ℕ) ℕ) → Shorter (at + 1) f → ModifierShorter at (last (at + 1) f)
   unfolding part_written
-  last-shorter (Is n e) h = omega arith
-  last-shorter (Not p) h = tt
+  last-shorter (Ok (n, e)) h = omega arith
+  last-shorter (Err p) h = tt
 
-  middle-n-shorter : (p b : ℕ) (f : Field) → at + length (decimal p) + 2 ≤ b → Shorter b f → ModifierShorter at (middle-n p b f)
+  middle-n-shorter : (p b : ℕ) (f : Result (ℕ × ℕ) ℕ) → at + length (decimal p) + 2 ≤ b → Shorter b f → ModifierShorter at (middle-n p b f)
   unfolding part_written
-  middle-n-shorter p b (Is n e) k h = let z = length-append (decimal p) (code "." ∷ decimal n) in omega arith
-  middle-n-shorter p b (Not q) k h = tt
+  middle-n-shorter p b (Ok (n, e)) k h = let z = length-append (decimal p) (code "." ∷ decimal n) in omega arith
+  middle-n-shorter p b (Err q) k h = tt
 
-byte-end : (b : ℕ) (s : List ℕ) (at v e : ℕ) → byte_at b s at ≡ Is v e → e ≡ at + 1
+byte-end : (b : ℕ) (s : List ℕ) (at v e : ℕ) → byte_at b s at ≡ Ok (v, e) → e ≡ at + 1
 unfolding byte_at
 byte-end b s at v e h = go (ltb at (length s) && eqb (get_or s at 0) b) h
   where
-    go : (t : Bool) → cond t (Is b (at + 1)) (Not at) ≡ Is v e → e ≡ at + 1
-    go true k = cc
+    go : (t : Bool) → cond {A = Result (ℕ × ℕ) ℕ} t (Ok (b, at + 1)) (Err at) ≡ Ok (v, e) → e ≡ at + 1
+    go true k = sym (ok_second k)
     go false k = absurd (let z : ◌≡◌ {A = ℕ} 0 1 = cc in omega arith)
 
 module _ (s : List ℕ) (at : ℕ) where
-  middle-dot-shorter : (p d : ℕ) (f : Field) → byte_at (code ".") s d ≡ f → at + length (decimal p) + 1 ≤ d → ModifierShorter at (middle-dot p s d f)
-  middle-dot-shorter p d (Is b e) q k =
+  middle-dot-shorter : (p d : ℕ) (f : Result (ℕ × ℕ) ℕ) → byte_at (code ".") s d ≡ f → at + length (decimal p) + 1 ≤ d → ModifierShorter at (middle-dot p s d f)
+  middle-dot-shorter p d (Ok (b, e)) q k =
       let z = byte-end (code ".") s d b e q in
       middle-n-shorter at p e (number_at s e) (omega arith) (number-shorter s e)
-  middle-dot-shorter p d (Not b) q k = tt
+  middle-dot-shorter p d (Err b) q k = tt
 
-  middle-shorter : (f : Field) → Shorter (at + 1) f → ModifierShorter at (middle s (at + 1) f)
-  middle-shorter (Is p e) h = middle-dot-shorter p e (byte_at (code ".") s e) refl (omega arith)
-  middle-shorter (Not q) h = tt
+  middle-shorter : (f : Result (ℕ × ℕ) ℕ) → Shorter (at + 1) f → ModifierShorter at (middle s (at + 1) f)
+  middle-shorter (Ok (p, e)) h = middle-dot-shorter p e (byte_at (code ".") s e) refl (omega arith)
+  middle-shorter (Err q) h = tt
 
   modifier-shorter : ModifierShorter at (modifier_at s at)
   unfolding modifier_at
@@ -137,7 +132,7 @@ module _ (s : List ℕ) (at : ℕ) where
           (cond a (first (at + 1) (number_at s (at + 1)))
           (cond b (last (at + 1) (number_at s (at + 1)))
           (cond c (middle s (at + 1) (number_at s (at + 1)))
-          (Takes Whole at))))
+          (Ok (Whole, at)))))
       go true b c = first-shorter at (number_at s (at + 1)) (number-shorter s (at + 1))
       go false true c = last-shorter at (number_at s (at + 1)) (number-shorter s (at + 1))
       go false false true = middle-shorter (number_at s (at + 1)) (number-shorter s (at + 1))
@@ -147,28 +142,28 @@ module _ (s : List ℕ) (at : ℕ) where
 kept-length : (t : Bool) (s : List ℕ) (p n : ℕ) → length (cased t (kept s p n)) ≤ n
 kept-length t s p n = rw (cased-length t (kept s p n)) (simp length-take (omega arith))
 
-abbrev StepShorter : List ℕ → Step → Type 0
-StepShorter s (Next e) = length (element_written s e) ≤ e.length
-StepShorter s (Stop p) = Unit {0}
+abbrev StepShorter : List ℕ → Result Element ℕ → Type 0
+StepShorter s (Ok e) = length (element_written s e) ≤ e.length
+StepShorter s (Err p) = Unit {0}
 
 module _ (s : List ℕ) (at : ℕ) where
-  quoted-shorter : (f : Field) → StepShorter s (quoted_from at f)
+  quoted-shorter : (f : Result (ℕ × ℕ) ℕ) → StepShorter s (quoted_from at f)
   unfolding what_written
-  quoted-shorter (Is n e) = simp length-take (omega arith)
-  quoted-shorter (Not p) = tt
+  quoted-shorter (Ok (n, e)) = simp length-take (omega arith)
+  quoted-shorter (Err p) = tt
 
-  modified-shorter : (counter : Bool) (digit : ℕ) (m : Modifier) → ModifierShorter (at + 2) m → StepShorter s (modified counter digit s at m)
+  modified-shorter : (counter : Bool) (digit : ℕ) (m : Result (Part × ℕ) ℕ) → ModifierShorter (at + 2) m → StepShorter s (modified counter digit s at m)
   unfolding what_written
-  modified-shorter true digit (Takes p e) h = rw (digits_last 19 (digit_of digit) [] (let l = digit-small digit in omega arith)) (omega arith)
-  modified-shorter false digit (Takes p e) h = rw (digits_last 19 (digit_of digit) [] (let l = digit-small digit in omega arith)) (omega arith)
-  modified-shorter counter digit (Wrong q) h = tt
+  modified-shorter true digit (Ok (p, e)) h = rw (digits_last 19 (digit_of digit) [] (let l = digit-small digit in omega arith)) (omega arith)
+  modified-shorter false digit (Ok (p, e)) h = rw (digits_last 19 (digit_of digit) [] (let l = digit-small digit in omega arith)) (omega arith)
+  modified-shorter counter digit (Err q) h = tt
 
   held-shorter : (counter : Bool) → StepShorter s (held_at counter s at)
   unfolding held_at
   held-shorter counter = go (between (code "0") (code "9") (get_or s (at + 1) 0))
     where
       go : (t : Bool)
-          → StepShorter s (cond t (modified counter (get_or s (at + 1) 0) s at (modifier_at s (at + 2))) (Stop (pointed s at (at + 1))))
+          → StepShorter s (cond t (modified counter (get_or s (at + 1) 0) s at (modifier_at s (at + 2))) (Err (pointed s at (at + 1))))
       go true = modified-shorter counter (get_or s (at + 1) 0) (modifier_at s (at + 2)) (modifier-shorter s (at + 2))
       go false = tt
 
@@ -176,7 +171,7 @@ module _ (s : List ℕ) (at : ℕ) where
   unfolding stamped_at what_written
   stamped-shorter = go (eqb (get_or s (at + 1) 0) (code "D")) (eqb (get_or s (at + 1) 0) (code "T"))
     where
-      go : (a b : Bool) → StepShorter s (cond a (stamped_from at Date) (cond b (stamped_from at Time) (Stop (pointed s at (at + 1)))))
+      go : (a b : Bool) → StepShorter s (cond a (stamped_from at Date) (cond b (stamped_from at Time) (Err (pointed s at (at + 1)))))
       go true b = omega arith
       go false true = omega arith
       go false false = tt
@@ -186,7 +181,7 @@ module _ (s : List ℕ) (at : ℕ) where
   element-shorter = go (eqb (get_or s at 0) (code "\"")) (eqb (get_or s at 0) (code "V")) (eqb (get_or s at 0) (code "C")) (eqb (get_or s at 0) (code "T"))
     where
       go : (a b c d : Bool)
-          → StepShorter s (cond a (quoted_from at (text_at s at)) (cond b (held_at false s at) (cond c (held_at true s at) (cond d (stamped_at s at) (Stop at)))))
+          → StepShorter s (cond a (quoted_from at (text_at s at)) (cond b (held_at false s at) (cond c (held_at true s at) (cond d (stamped_at s at) (Err at)))))
       go true b c d = quoted-shorter (text_at s at)
       go false true c d = held-shorter false
       go false false true d = held-shorter true
@@ -198,61 +193,61 @@ unfolding elements_from data_written total
 elements-shorter zero s at = omega arith
 elements-shorter (suc n) s at = go (element_at s at) (element-shorter s at) (elements-shorter n s)
   where
-    go : (x : Step) → StepShorter s x → ((i : ℕ) → length (data_written s (elements_from n s i)) ≤ total (elements_from n s i))
+    go : (x : Result Element ℕ) → StepShorter s x → ((i : ℕ) → length (data_written s (elements_from n s i)) ≤ total (elements_from n s i))
         → length (data_written s (follow x (elements_from n s))) ≤ total (follow x (elements_from n s))
-    go (Next e) h r =
+    go (Ok e) h r =
         let z = length-append (element_written s e) (data_written s (elements_from n s (after e))) in
         let y = r (after e) in
         omega arith
-    go (Stop p) h r = omega arith
+    go (Err p) h r = omega arith
 
-data-shorter : (s : List ℕ) (at v e : ℕ) → data_at s at ≡ Is v e → at + length (data_written s (elements s at)) ≤ e
+data-shorter : (s : List ℕ) (at v e : ℕ) → data_at s at ≡ Ok (v, e) → at + length (data_written s (elements s at)) ≤ e
 unfolding data_at
 data-shorter s at v e h =
     go (ltb at (at + total (elements s at)) && eqb (at + total (elements s at)) (length s)) h
   where
     go : (t : Bool)
-        → cond t (Is 0 (at + total (elements s at))) (Not (stopped (at + total (elements s at)) (element_at s (at + total (elements s at))))) ≡ Is v e
+        → cond {A = Result (ℕ × ℕ) ℕ} t (Ok (0, at + total (elements s at))) (Err (stopped (at + total (elements s at)) (element_at s (at + total (elements s at))))) ≡ Ok (v, e)
         → at + length (data_written s (elements s at)) ≤ e
     go true k =
-        let q : at + total (elements s at) ≡ e = cc in
+        let q : at + total (elements s at) ≡ e = ok_second k in
         let r : length (data_written s (elements s at)) ≤ total (elements s at) = unfold elements in elements-shorter (length s - at) s at in
         omega arith
     go false k = absurd (let z : ◌≡◌ {A = ℕ} 0 1 = cc in omega arith)
 
 -- ---- a step takes one byte more where it had no sign
 
-plus-length : (at v e : ℕ) (f : Field) → Shorter at f → plus f ≡ Is v e → at + length (signed v) ≤ e + 1
+plus-length : (at v e : ℕ) (f : Result (ℕ × ℕ) ℕ) → Shorter at f → plus f ≡ Ok (v, e) → at + length (signed v) ≤ e + 1
 unfolding signed
-plus-length at v e (Is w d) h k =
-    let q : nought + w ≡ v = cc in
-    let r : d ≡ e = cc in
+plus-length at v e (Ok (w, d)) h k =
+    let q : nought + w ≡ v = ok_first k in
+    let r : d ≡ e = ok_second k in
     let n : v - nought ≡ w = omega arith in
     rw (le-ltb v nought (omega arith), n) (omega arith)
-plus-length at v e (Not p) h k = absurd (let z : ◌≡◌ {A = ℕ} 0 1 = cc in omega arith)
+plus-length at v e (Err p) h k = absurd (let z : ◌≡◌ {A = ℕ} 0 1 = cc in omega arith)
 
-minus-length : (at v e : ℕ) (f : Field) → Shorter at f → Small f → minus f ≡ Is v e → at + length (signed v) ≤ e + 1
+minus-length : (at v e : ℕ) (f : Result (ℕ × ℕ) ℕ) → Shorter at f → Small f → minus f ≡ Ok (v, e) → at + length (signed v) ≤ e + 1
 unfolding signed
-minus-length at v e (Is w d) h l k = go (dec_lt v nought)
+minus-length at v e (Ok (w, d)) h l k = go (dec_lt v nought)
   where
     go : Dec (v < nought) → at + length (cond (ltb v nought) (code "-" ∷ decimal (nought - v)) (code "+" ∷ decimal (v - nought))) ≤ e + 1
     go (yes m) =
-        let q : nought - w ≡ v = cc in
-        let r : d ≡ e = cc in
+        let q : nought - w ≡ v = ok_first k in
+        let r : d ≡ e = ok_second k in
         let n : nought - v ≡ w = omega arith in
         rw (lt-ltb v nought m, n) (omega arith)
     go (no m) =
-        let q : nought - w ≡ v = cc in
-        let r : d ≡ e = cc in
+        let q : nought - w ≡ v = ok_first k in
+        let r : d ≡ e = ok_second k in
         let n : v - nought ≡ w = omega arith in
         rw (le-ltb v nought (omega arith), n) (omega arith)
-minus-length at v e (Not p) h l k = absurd (let z : ◌≡◌ {A = ℕ} 0 1 = cc in omega arith)
+minus-length at v e (Err p) h l k = absurd (let z : ◌≡◌ {A = ℕ} 0 1 = cc in omega arith)
 
-signed-length : (s : List ℕ) (at v e : ℕ) → signed_at s at ≡ Is v e → at + length (signed v) ≤ e + 1
+signed-length : (s : List ℕ) (at v e : ℕ) → signed_at s at ≡ Ok (v, e) → at + length (signed v) ≤ e + 1
 signed-length s at v e h = go (eqb (get_or s at 0) (code "+")) (eqb (get_or s at 0) (code "-")) (signed-found s at v e h)
   where
     go : (a b : Bool)
-        → cond a (plus (number_at s (at + 1))) (cond b (minus (number_at s (at + 1))) (plus (number_at s at))) ≡ Is v e
+        → cond a (plus (number_at s (at + 1))) (cond b (minus (number_at s (at + 1))) (plus (number_at s at))) ≡ Ok (v, e)
         → at + length (signed v) ≤ e + 1
     go true b k = let l = plus-length (at + 1) v e (number_at s (at + 1)) (number-shorter s (at + 1)) k in omega arith
     go false true k = let l = minus-length (at + 1) v e (number_at s (at + 1)) (number-shorter s (at + 1)) (number_small s (at + 1)) k in omega arith
@@ -260,32 +255,32 @@ signed-length s at v e h = go (eqb (get_or s at 0) (code "+")) (eqb (get_or s at
 
 -- ---- each letter of the grammar
 
-letter-end : (k : Class) (s : List ℕ) (at v e : ℕ) → letter_at k s at ≡ Is v e → e ≡ at + 1
+letter-end : (k : Class) (s : List ℕ) (at v e : ℕ) → letter_at k s at ≡ Ok (v, e) → e ≡ at + 1
 letter-end c s at v e h = go (ltb at (length s) && in_class c (get_or s at 0)) (letter-found s at v e c h)
   where
-    go : (t : Bool) → cond t (Is (get_or s at 0) (at + 1)) (Not at) ≡ Is v e → e ≡ at + 1
-    go true k = cc
+    go : (t : Bool) → cond {A = Result (ℕ × ℕ) ℕ} t (Ok (get_or s at 0, at + 1)) (Err at) ≡ Ok (v, e) → e ≡ at + 1
+    go true k = sym (ok_second k)
     go false k = absurd (let z : ◌≡◌ {A = ℕ} 0 1 = cc in omega arith)
 
-type-end : (s : List ℕ) (at v e : ℕ) → type_at s at ≡ Is v e → e ≡ at + cond (eqb v 30) 3 1
+type-end : (s : List ℕ) (at v e : ℕ) → type_at s at ≡ Ok (v, e) → e ≡ at + cond (eqb v 30) 3 1
 type-end s at v e h =
     go (eqb (get_or s at 0) (code "1")) (eqb (get_or s at 0) (code "2")) (eqb (get_or s at 0) (code "3"))
     (eqb (get_or s at 0) (code "E") && (eqb (get_or s (at + 1) 0) (code "3") && eqb (get_or s (at + 2) 0) (code "0")))
     (type-found s at v e h)
   where
     go : (a b c d : Bool)
-        → cond a (Is 1 (at + 1)) (cond b (Is 2 (at + 1)) (cond c (Is 3 (at + 1)) (cond d (Is 30 (at + 3)) (Not at)))) ≡ Is v e
+        → cond {A = Result (ℕ × ℕ) ℕ} a (Ok (1, at + 1)) (cond b (Ok (2, at + 1)) (cond c (Ok (3, at + 1)) (cond d (Ok (30, at + 3)) (Err at)))) ≡ Ok (v, e)
         → e ≡ at + cond (eqb v 30) 3 1
-    go true b c d k = let x : 1 ≡ v = cc in let y : at + 1 ≡ e = cc in rw (← x) (sym y)
-    go false true c d k = let x : 2 ≡ v = cc in let y : at + 1 ≡ e = cc in rw (← x) (sym y)
-    go false false true d k = let x : 3 ≡ v = cc in let y : at + 1 ≡ e = cc in rw (← x) (sym y)
-    go false false false true k = let x : 30 ≡ v = cc in let y : at + 3 ≡ e = cc in rw (← x) (sym y)
+    go true b c d k = let x : 1 ≡ v = ok_first k in let y : at + 1 ≡ e = ok_second k in rw (← x) (sym y)
+    go false true c d k = let x : 2 ≡ v = ok_first k in let y : at + 1 ≡ e = ok_second k in rw (← x) (sym y)
+    go false false true d k = let x : 3 ≡ v = ok_first k in let y : at + 1 ≡ e = ok_second k in rw (← x) (sym y)
+    go false false false true k = let x : 30 ≡ v = ok_first k in let y : at + 3 ≡ e = ok_second k in rw (← x) (sym y)
     go false false false false k = absurd (let z : ◌≡◌ {A = ℕ} 0 1 = cc in omega arith)
 
-text-length : (t : Bool) (s : List ℕ) (at v e : ℕ) → text_at s at ≡ Is v e → at + length (cased t (kept s at (v + 2))) ≤ e + 0
+text-length : (t : Bool) (s : List ℕ) (at v e : ℕ) → text_at s at ≡ Ok (v, e) → at + length (cased t (kept s at (v + 2))) ≤ e + 0
 text-length t s at v e h = let q = (text-fits s at v e h).ends in let l = kept-length t s at (v + 2) in omega arith
 
-format-length : (st : Stamp) (s : List ℕ) (at v e : ℕ) → format_field st s at ≡ Is v e → at + length (cased false (drop at s)) ≤ e + 0
+format-length : (st : Stamp) (s : List ℕ) (at v e : ℕ) → format_field st s at ≡ Ok (v, e) → at + length (cased false (drop at s)) ≤ e + 0
 format-length st s at v e h =
     let i = (format-fits st s at v e h).within in
     let n = (format_read st s at v e h).ends in
@@ -296,7 +291,7 @@ format-length st s at v e h =
 abbrev grows : ℕ → ℕ
 grows f = cond (eqb f (code "s")) 1 0
 
-field-length : {f : ℕ} (x : Letter f) (s : List ℕ) (at v e : ℕ) → field_at f s at ≡ Is v e → at + length (written_field f s v at) ≤ e + grows f
+field-length : {f : ℕ} (x : Letter f) (s : List ℕ) (at v e : ℕ) → field_at f s at ≡ Ok (v, e) → at + length (written_field f s v at) ≤ e + grows f
 unfolding field_at written_field
 field-length a-number s at v e h = let l = number-length s at v e h in omega arith
 field-length a-wide s at v e h = let l = number-length s at v e h in omega arith
@@ -355,11 +350,11 @@ narrow f = not (eqb f (code "a") || (eqb f (code "z") || (eqb f (code "u") || (e
 abbrev widest : ℕ → ℕ × ℕ → ℕ
 widest f l = cond (is_number f) 9 (cond (eqb f (code "s")) 10 (cond (eqb f (code "t")) (l.1 + 2) 1))
 
-within-high : (lo hi v p : ℕ) (t : Bool) → cond (between lo hi v && t) Within (Outside p) ≡ Within → v ≤ hi
+within-high : (lo hi v p : ℕ) (t : Bool) → ◌≡◌ {A = Result Unit ℕ} (cond (between lo hi v && t) (Ok tt) (Err p)) (Ok tt) → v ≤ hi
 unfolding between
 within-high lo hi v p t h = go (leb lo v) (leb v hi) refl h
   where
-    go : (a b : Bool) → leb v hi ≡ b → cond ((a && b) && t) Within (Outside p) ≡ Within → v ≤ hi
+    go : (a b : Bool) → leb v hi ≡ b → ◌≡◌ {A = Result Unit ℕ} (cond ((a && b) && t) (Ok tt) (Err p)) (Ok tt) → v ≤ hi
     go true true q k = leb-true v hi q
     go true false q k = absurd (let z : ◌≡◌ {A = ℕ} 0 1 = cc in omega arith)
     go false b q k = absurd (let z : ◌≡◌ {A = ℕ} 0 1 = cc in omega arith)
@@ -375,8 +370,8 @@ signed-narrow v h k = go (dec_lt v nought)
     go (yes m) = rw (lt-ltb v nought m) (let l = decimal-narrow (nought - v) (omega arith) in omega arith)
     go (no m) = rw (le-ltb v nought (omega arith)) (let l = decimal-narrow (v - nought) (omega arith) in omega arith)
 
-field-narrow : {f : ℕ} (x : Letter f) (s : List ℕ) (at v e : ℕ) (l : ℕ × ℕ) (u n : ℕ) → T (narrow f) → field_at f s at ≡ Is v e
-    → field_limits f l s u v at n ≡ Within
+field-narrow : {f : ℕ} (x : Letter f) (s : List ℕ) (at v e : ℕ) (l : ℕ × ℕ) (u n : ℕ) → T (narrow f) → field_at f s at ≡ Ok (v, e)
+    → field_limits f l s u v at n ≡ Ok tt
     → length (written_field f s v at) ≤ widest f l
 unfolding field_at written_field field_limits meets
 field-narrow a-number s at v e l u n t h k = decimal-narrow v (number_fits s at v e h)
@@ -407,19 +402,19 @@ unfoldable room : List ℕ → List (ℕ × ℕ) → ℕ
 room [] ls = 0
 room (f ∷ fs) ls = widest f (get_or ls 0 free) + room fs (drop 1 ls)
 
-first-within : (a b : Limits) → first_of a b ≡ Within → (a ≡ Within) × (b ≡ Within)
-first-within Within b h = (refl, h)
-first-within (Outside p) b h = absurd (let z : ◌≡◌ {A = ℕ} 0 1 = cc in omega arith)
+first-within : (a b : Result Unit ℕ) → first_of a b ≡ Ok tt → (a ≡ Ok tt) × (b ≡ Ok tt)
+first-within (Ok u) b h = (refl, h)
+first-within (Err p) b h = absurd (let z : ◌≡◌ {A = ℕ} 0 1 = cc in omega arith)
 
 split-within : (f : ℕ) (fs s ws qs : List ℕ) (v at : ℕ) (vs ps : List ℕ) (ls : List (ℕ × ℕ)) (u : ℕ) → ws ≡ v ∷ vs → qs ≡ at ∷ ps
-    → limits_from (f ∷ fs) ls s u ws qs ≡ Within
-    → (field_limits f (get_or ls 0 free) s u v at (get_or vs 1 0) ≡ Within) × (limits_from fs (drop 1 ls) s (cond (is_number f) v u) vs ps ≡ Within)
+    → limits_from (f ∷ fs) ls s u ws qs ≡ Ok tt
+    → (field_limits f (get_or ls 0 free) s u v at (get_or vs 1 0) ≡ Ok tt) × (limits_from fs (drop 1 ls) s (cond (is_number f) v u) vs ps ≡ Ok tt)
 unfolding limits_from
 split-within f fs s ws qs v at vs ps ls u a b h =
     first-within (field_limits f (get_or ls 0 free) s u v at (get_or vs 1 0)) (limits_from fs (drop 1 ls) s (cond (is_number f) v u) vs ps) (rw (a, b) at h)
 
 fields-narrow : (fs s : List ℕ) (at : ℕ) (vs ps : List ℕ) (ls : List (ℕ × ℕ)) (u : ℕ) → T (all_narrow fs) → fields_from fs s at ≡ good vs ps
-    → limits_from fs ls s u vs ps ≡ Within
+    → limits_from fs ls s u vs ps ≡ Ok tt
     → length (written_from fs s vs ps) ≤ room fs ls
 unfolding room all_narrow
 fields-narrow [] s at vs ps ls u t h k = unfold written_from in omega arith
@@ -452,7 +447,7 @@ unfolding signs all_narrow room spread
 form-short rows row = every-form (short rows) forms tt tt row
 
 row-short : (row rows : ℕ) (s vs ps : List ℕ) → fields_from (row_of row).fields s 0 ≡ good vs ps
-    → limits_from (row_of row).fields (bounds_of row rows) s 0 vs ps ≡ Within → length s ≤ 255
+    → limits_from (row_of row).fields (bounds_of row rows) s 0 vs ps ≡ Ok tt → length s ≤ 255
     → length (written_from (row_of row).fields s vs ps) ≤ 255
 row-short row rows s vs ps h k l = go (eqb (signs (row_of row).fields) 0) refl (form-short rows row)
   where
@@ -470,7 +465,7 @@ row-short row rows s vs ps h k l = go (eqb (signs (row_of row).fields) 0) refl (
         omega arith
 
 -- THE NORMAL FORM IS A LINE: at most 255 bytes
-pub normal-short : (rows : ℕ) (s : List ℕ) (i : Item) → read_of rows s ≡ Taken (item i) → length s ≤ 255 → length (normal s) ≤ 255
+pub normal-short : (rows : ℕ) (s : List ℕ) (i : Item) → read_of rows s ≡ Ok (item i) → length s ≤ 255 → length (normal s) ≤ 255
 normal-short rows s i h l =
     let p = item-parted rows s i h in
     rw (normal-is s p.row p.vs p.ps p.head p.read) (row-short p.row rows s p.vs p.ps p.read p.within l)

@@ -1,4 +1,5 @@
 -- The first byte that each field of a row is written with. By it a field is told from what follows, and the letters of a written line name its row.
+use Rattle.std.specs.Prelude.{Ok}
 use mathlib.Core.Path.{◌≡◌, ◌∙◌, refl, ap}
 use mathlib.Core.Bool.{Bool, true, false, cond, ◌&&◌, ◌||◌, false≢true, and-false}
 use mathlib.Core.List.{List, [], ◌∷◌, ◌++◌}
@@ -15,15 +16,14 @@ use Rattle.kinds.specs.Text.{bytes}
 use Rattle.classes.specs.Bytes.{in_class}
 use Rattle.classes.specs.declared.Class.TheVariants.{Digit, Mode, Side}
 use Rattle.classes.proofs.Laws.{and_T}
-use Rattle.fields.specs.declared.Field.TheVariants.{Is}
 use Rattle.fields.specs.Field.{text_at}
-use Rattle.numbers.specs.Number.{nought}
+use Rattle.writing.specs.Number.{nought}
 use Rattle.elements.specs.Elements.{elements}
 use Rattle.elements.specs.declared.Element.{Element}
 use Rattle.formats.specs.declared.Stamp.TheVariants.{Date, Time}
 use Rattle.formats.specs.Formats.{unit, new_unit}
-use Rattle.format_field.specs.Reading.{letter, year_field, month_field, day_field, date_field, time_field}
-use Rattle.reader.specs.Letters.{field_at}
+use Rattle.read.specs.Reading.{letter, year_field, month_field, day_field, date_field, time_field}
+use Rattle.row_fields.specs.Letters.{field_at}
 use Rattle.row_fields.specs.Reading.{fields_from, good}
 use Rattle.row_fields.proofs.Rows.{fields_split}
 use Rattle.writing.specs.Writing.{digit_byte, decimal, signed, kept, cased}
@@ -105,7 +105,7 @@ step-starts v rest = go (ltb v nought)
     go true = tt
     go false = tt
 
-text-starts : (b : Bool) (s : List ℕ) (at v e : ℕ) (rest : List ℕ) → text_at s at ≡ Is v e
+text-starts : (b : Bool) (s : List ℕ) (at v e : ℕ) (rest : List ℕ) → text_at s at ≡ Ok (v, e)
     → T (among (get_or (cased b (kept s at (v + 2)) ++ rest) 0 0) (bytes "\""))
 text-starts b s at v e rest h = let q = text-fits s at v e h in rw (q.whole, cased-quotes b q.text) tt
 
@@ -211,7 +211,7 @@ plain-starts {f} p s v q rest next =
     simp (p.no-n, p.no-w, p.no-y, p.no-s, p.no-t, p.no-u, p.no-a, p.no-z, p.no-m, p.no-j, p.no-k, p.no-h, p.no-d, p.no-f, p.no-g) in
     rw (plain-written p s v q, e, eq-eqb f f refl) tt
 
-pub field-starts : {f : ℕ} (x : Letter f) (s : List ℕ) (at v e : ℕ) (rest next : List ℕ) → field_at f s at ≡ Is v e → T (among (get_or rest 0 0) next)
+pub field-starts : {f : ℕ} (x : Letter f) (s : List ℕ) (at v e : ℕ) (rest next : List ℕ) → field_at f s at ≡ Ok (v, e) → T (among (get_or rest 0 0) next)
     → T (among (get_or (written_field f s v at ++ rest) 0 0) (starts_of f next))
 unfolding field_at written_field
 field-starts a-number s at v e rest next h k = number-starts v rest (number_fits s at v e h)

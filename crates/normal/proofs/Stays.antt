@@ -1,4 +1,5 @@
 -- TD and TT: what such a line sets is a legal format, and the line is its own normal form, in whatever case its letters are.
+use Rattle.std.specs.Prelude.{Ok, Err, Result}
 use mathlib.Core.Path.{◌≡◌, ◌∙◌, refl, sym}
 use mathlib.Core.Bool.{Bool, true, false, cond, ◌&&◌}
 use mathlib.Core.List.{List, [], ◌∷◌, append-nil}
@@ -9,23 +10,22 @@ use lib.Dec.{ltb, eqb}
 use lib.ListN.{length, get_or, drop}
 use lib.Seq.{drop-cons}
 use borrow.Author.Tests.{ltb-true, eqb-true}
-use Rattle.fields.specs.declared.Field.TheVariants.{Is, Not}
+use Rattle.fields.proofs.Pairs.{ok_first, ok_second}
 use Rattle.fields.specs.Field.{byte_at}
 use Rattle.formats.specs.declared.Stamp.{Stamp}
 use Rattle.formats.specs.declared.Stamp.TheVariants.{Date, Time}
 use Rattle.formats.specs.Formats.{legal_format, unpacked}
-use Rattle.format_field.specs.Reading.{format_field}
-use Rattle.format_field.proofs.Laws.{value-legal}
+use Rattle.read.specs.Reading.{format_field}
+use Rattle.read.proofs.Laws.{value-legal}
 use Rattle.grammar.specs.Forms.{Form, forms, row_of, in_order}
 use Rattle.grammar.specs.declared.SetFormat.{SetFormat}
 use Rattle.grammar.specs.declared.Item.TheVariants.{Format}
 use Rattle.grammar.specs.declared.Command.TheVariants.{Item as item}
 use Rattle.grammar.proofs.Rows.{◌&◌, Each, each_row}
-use Rattle.reader.specs.Letters.{field_at}
+use Rattle.row_fields.specs.Letters.{field_at}
 use Rattle.row_fields.specs.Reading.{fields_from, good}
 use Rattle.row_fields.proofs.Rows.{Split, fields_split}
 use Rattle.read.specs.Commands.{read_of}
-use Rattle.read.specs.declared.Read.TheVariants.{Taken}
 use Rattle.writing.proofs.Writes.{cased_kept}
 use Rattle.normal.specs.Written.{written_field, written_from, normal}
 use Rattle.normal.proofs.Fields.{format_letter}
@@ -95,13 +95,13 @@ record Stands (b : ℕ) (s : List ℕ) (at e : ℕ) : Type 0 where
   behind : drop at s ≡ b ∷ drop (suc at) s
   ends : e ≡ suc at
 
-stands : (b : ℕ) (s : List ℕ) (at v e : ℕ) → byte_at b s at ≡ Is v e → Stands b s at e
+stands : (b : ℕ) (s : List ℕ) (at v e : ℕ) → byte_at b s at ≡ Ok (v, e) → Stands b s at e
 unfolding byte_at
 stands b s at v e h = go (ltb at (length s)) (eqb (get_or s at 0) b) refl refl h
   where
-    go : (x y : Bool) → ltb at (length s) ≡ x → eqb (get_or s at 0) b ≡ y → cond (x && y) (Is b (at + 1)) (Not at) ≡ Is v e → Stands b s at e
+    go : (x y : Bool) → ltb at (length s) ≡ x → eqb (get_or s at 0) b ≡ y → cond {A = Result (ℕ × ℕ) ℕ} (x && y) (Ok (b, at + 1)) (Err at) ≡ Ok (v, e) → Stands b s at e
     go true true p q k =
-        let i : at + 1 ≡ e = cc in
+        let i : at + 1 ≡ e = ok_second k in
         record { behind = drop-cons s at 0 (ltb-true at (length s) p) ∙ rw (eqb-true (get_or s at 0) b q); ends = omega arith }
     go true false p q k = absurd (let z : ◌≡◌ {A = ℕ} 0 1 = cc in omega arith)
     go false y p q k = absurd (let z : ◌≡◌ {A = ℕ} 0 1 = cc in omega arith)
@@ -167,7 +167,7 @@ set_line : (fs s vs ps : List ℕ) (n : ℕ) (x : SetFormat) → Sets fs n x →
     → (legal_format x.stamp x.format ≡ true) × (written_from fs s vs ps ≡ s)
 set_line fs s vs ps n x (by st v) e h = rw (e ∙ one_value st vs) (format-line st s vs ps h)
 
-module _ (rows : ℕ) (s : List ℕ) (x : SetFormat) (h : read_of rows s ≡ Taken (item (Format x))) where
+module _ (rows : ℕ) (s : List ℕ) (x : SetFormat) (h : read_of rows s ≡ Ok (item (Format x))) where
   line_set : (legal_format x.stamp x.format ≡ true) × (normal s ≡ s)
   unfolding Setting
   line_set =

@@ -1,4 +1,5 @@
 -- Laws on what is written of a row's fields.
+use Rattle.std.specs.Prelude.{Ok, Err}
 use mathlib.Core.Path.{◌≡◌, refl, sym, ap}
 use mathlib.Core.List.{List, [], ◌∷◌, ◌++◌}
 use Prim.Native.Nat.{ℕ, ◌+◌, ◌≤◌, ◌<◌}
@@ -9,17 +10,15 @@ use lib.ListN.{length, get_or, drop, length-drop, drop_of_length-le}
 use lib.Seq.{take_all, drop-cons, drop-drop, get_or-drop}
 use Rattle.elements.specs.Elements.{element_at, elements, after}
 use Rattle.elements.specs.declared.Element.{Element}
-use Rattle.elements.specs.declared.Step.TheVariants.{Next, Stop}
 use Rattle.elements.proofs.Steps.{elements-next, elements-stop}
 use Rattle.row_fields.specs.Reading.{Got, good, bad, fields_from, Filled}
 use Rattle.grammar.specs.Forms.{row_of}
-use Rattle.row_fields.specs.declared.Fields.{Fields}
-use Rattle.row_fields.specs.declared.Fields.TheVariants.{All, Bad}
 use Rattle.grammar.proofs.Rows.{row-short}
 use Rattle.grammar.proofs.Slots.{Same, same_drop, zeros, padded}
 use Rattle.row_fields.proofs.Rows.{fields-count}
 use Rattle.writing.specs.Writing.{kept}
 use Rattle.normal.specs.Written.{written_field, written_from, written_of, element_written, data_written}
+use Rattle.std.proofs.Common.{Result}
 
 pub kept-all : (s : List ℕ) (p n : ℕ) → length s ≤ n → kept s p (n + 2) ≡ drop p s
 kept-all s p n h = take_all (n + 2) (drop p s) (omega (arith, length-drop p s))
@@ -45,14 +44,14 @@ module _ (fs s vs ps : List ℕ) (i : ℕ) where
   written-done h = rw (drop_of_length-le fs h)
 
 -- what reading a row's fields leaves in two arrays is written as what was read
-pub written-bad : (row : ℕ) (s : List ℕ) (g : Got) (r : Fields) (vs₀ ps₀ vs ps : List ℕ) (p : ℕ) → Filled g vs₀ ps₀ r vs ps → r ≡ Bad p
+pub written-bad : (row : ℕ) (s : List ℕ) (g : Got) (r : Result Unit ℕ) (vs₀ ps₀ vs ps : List ℕ) (p : ℕ) → Filled g vs₀ ps₀ r vs ps → r ≡ Err p
     → written_of row s g ≡ []
 unfolding written_of
 written-bad row s (bad ws qs q) r vs₀ ps₀ vs ps p h e = refl
 written-bad row s (good ws qs) r vs₀ ps₀ vs ps p h e = absurd (let z : ◌≡◌ {A = ℕ} 0 1 = cc in omega arith)
 
-written-fields : (row : ℕ) (s : List ℕ) (g : Got) (r : Fields) (vs ps : List ℕ) → fields_from (row_of row).fields s 0 ≡ g
-    → Filled g zeros zeros r vs ps → r ≡ All → written_of row s g ≡ written_from (row_of row).fields s vs ps
+written-fields : (row : ℕ) (s : List ℕ) (g : Got) (r : Result Unit ℕ) (vs ps : List ℕ) → fields_from (row_of row).fields s 0 ≡ g
+    → Filled g zeros zeros r vs ps → r ≡ Ok tt → written_of row s g ≡ written_from (row_of row).fields s vs ps
 unfolding written_of
 written-fields row s (bad ws qs q) r vs ps k h e = absurd (let a = h.0 in let z : ◌≡◌ {A = ℕ} 0 1 = cc in omega arith)
 written-fields row s (good ws qs) r vs ps k h e =
@@ -62,15 +61,15 @@ written-fields row s (good ws qs) r vs ps k h e =
     let b : Same ps qs = rw h.2 (padded qs (omega arith)) in
     sym (written_same (row_of row).fields s vs ws ps qs a b)
 
-pub written-good : (row : ℕ) (s : List ℕ) (r : Fields) (vs ps : List ℕ) → Filled (fields_from (row_of row).fields s 0) zeros zeros r vs ps → r ≡ All
+pub written-good : (row : ℕ) (s : List ℕ) (r : Result Unit ℕ) (vs ps : List ℕ) → Filled (fields_from (row_of row).fields s 0) zeros zeros r vs ps → r ≡ Ok tt
     → written_of row s (fields_from (row_of row).fields s 0) ≡ written_from (row_of row).fields s vs ps
 written-good row s r vs ps h e = written-fields row s (fields_from (row_of row).fields s 0) r vs ps refl h e
 
-pub data-next : (s : List ℕ) (i : ℕ) (e : Element) → element_at s i ≡ Next e
+pub data-next : (s : List ℕ) (i : ℕ) (e : Element) → element_at s i ≡ Ok e
     → data_written s (elements s i) ≡ element_written s e ++ data_written s (elements s (after e))
 unfolding data_written
 data-next s i e h = rw (elements-next s i e h)
 
-pub data-stop : (s : List ℕ) (i p : ℕ) → element_at s i ≡ Stop p → data_written s (elements s i) ≡ []
+pub data-stop : (s : List ℕ) (i p : ℕ) → element_at s i ≡ Err p → data_written s (elements s i) ≡ []
 unfolding data_written
 data-stop s i p h = rw (elements-stop s i p h)

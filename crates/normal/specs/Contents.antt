@@ -1,6 +1,6 @@
 -- What a line says, apart from where its bytes stand.
 -- Assumes nothing.
-use Rattle.std.specs.Prelude.{ℕ, ◌+◌, true, false, cond, ◌||◌, List, [], ◌∷◌, ◌++◌, get_or, drop, eqb}
+use Rattle.std.specs.Prelude.{ℕ, ◌+◌, true, false, cond, ◌||◌, List, [], ◌∷◌, ◌++◌, get_or, drop, eqb, Option, Some, None}
 use Prim.Native.Char.{code}
 use Rattle.elements.specs.Elements.{elements}
 use Rattle.elements.specs.declared.What.{What}
@@ -9,8 +9,6 @@ use Rattle.elements.specs.declared.Element.{Element}
 use Rattle.row_fields.specs.Reading.{Got, good, bad, fields_from}
 use Rattle.grammar.specs.Forms.{row_of}
 use Rattle.heads.specs.Heads.{head_of}
-use Rattle.heads.specs.declared.Head.{Head}
-use Rattle.heads.specs.declared.Head.TheVariants.{Row, Unknown}
 use Rattle.grammar.specs.declared.Item.{Item}
 use Rattle.grammar.specs.declared.Item.TheVariants.{Origin, Variable, Counter, Text, Bars, Box, Frame, Slant, Picture, Format}
 use Rattle.writing.specs.Writing.{kept, cased}
@@ -50,9 +48,9 @@ unfoldable pub contents_of : ℕ → List ℕ → Got → List (What × List ℕ
 contents_of row s (good vs ps) = held_by (row_of row).fields s vs ps
 contents_of row s (bad vs ps p) = []
 
-unfoldable pub head_contents : Head → List ℕ → List (What × List ℕ)
-head_contents (Row row) s = contents_of row s (fields_from (row_of row).fields s 0)
-head_contents Unknown s = []
+unfoldable pub head_contents : Option ℕ → List ℕ → List (What × List ℕ)
+head_contents (Some row) s = contents_of row s (fields_from (row_of row).fields s 0)
+head_contents None s = []
 
 -- the contents of a line: its name, prompt, text or data
 abbrev pub contents : List ℕ → List (What × List ℕ)

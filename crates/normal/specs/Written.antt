@@ -1,8 +1,9 @@
 -- Paper 01, "Commands": "A recorded line is checked and kept, not run, with leading zeros dropped, names in capitals, signs written and minus
 -- zero as `+0`". The normal form of a line.
 -- Assumes nothing.
-use Rattle.std.specs.Prelude.{ℕ, ◌+◌, Bool, true, false, cond, ◌||◌, ◌&&◌, List, [], ◌∷◌, ◌++◌, length, get_or, drop, leb, eqb}
+use Rattle.std.specs.Prelude.{ℕ, ◌+◌, Bool, true, false, cond, ◌||◌, ◌&&◌, List, [], ◌∷◌, ◌++◌, length, get_or, drop, leb, eqb, Option, Some, None, Result, Ok, Err}
 use Prim.Native.Char.{code}
+use Rattle.read.specs.declared.Fault.{Fault}
 use Rattle.kinds.specs.Text.{bytes}
 use Rattle.formats.specs.declared.Stamp.{Stamp}
 use Rattle.formats.specs.declared.Stamp.TheVariants.{Date, Time}
@@ -19,10 +20,6 @@ use Rattle.writing.specs.Writing.{decimal, signed, kept, cased, equal}
 use Rattle.read.specs.Commands.{read_of}
 use Rattle.grammar.specs.declared.Command.{Command}
 use Rattle.grammar.specs.declared.Command.TheVariants.{Item as item, End, Page, Forms, Pictures, Values, Listing, Clock}
-use Rattle.read.specs.declared.Read.{Read}
-use Rattle.read.specs.declared.Read.TheVariants.{Taken, Refused}
-use Rattle.heads.specs.declared.Head.{Head}
-use Rattle.heads.specs.declared.Head.TheVariants.{Row, Unknown}
 
 -- a modifier
 unfoldable pub part_written : Part → List ℕ
@@ -83,9 +80,9 @@ unfoldable pub written_of : ℕ → List ℕ → Got → List ℕ
 written_of row s (good vs ps) = written_from (row_of row).fields s vs ps
 written_of row s (bad vs ps p) = []
 
-unfoldable pub head_written : Head → List ℕ → List ℕ
-head_written (Row row) s = written_of row s (fields_from (row_of row).fields s 0)
-head_written Unknown s = []
+unfoldable pub head_written : Option ℕ → List ℕ → List ℕ
+head_written (Some row) s = written_of row s (fields_from (row_of row).fields s 0)
+head_written None s = []
 
 abbrev pub normal : List ℕ → List ℕ
 normal s = head_written (head_of s) s
@@ -102,9 +99,9 @@ is_item (Values c) = false
 is_item (Listing c) = false
 is_item (Clock c) = false
 
-abbrev pub taken_item : Read → Bool
-taken_item (Taken c) = is_item c
-taken_item (Refused f) = false
+abbrev pub taken_item : Result Command Fault → Bool
+taken_item (Ok c) = is_item c
+taken_item (Err f) = false
 
 -- at most 255 bytes, one of the lines that may stand in a form, and its own normal form (no such line depends on the rows of the page)
 unfoldable pub is_normal : List ℕ → Bool

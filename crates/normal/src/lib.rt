@@ -11,13 +11,13 @@ ghost use Rattle.grammar.specs.Forms.{row_of, Form};
 ghost use Rattle.writing.specs.Writing.{Wrote, decimal, cased, kept};
 ghost use Rattle.normal.specs.Written.{part_written, stamp_written, what_written, data_written, placed_written, word_written, written_field, written_from, normal};
 
-use elements::{Part, Step, What, element_at};
+use elements::{Part, What, element_at};
 use fields::word;
 use formats::Stamp;
 use grammar::table::line_up;
-use heads::{Head, head_of};
+use heads::head_of;
 use parts::{first, rest};
-use row_fields::{Fields, read_fields};
+use row_fields::read_fields;
 use writing::{copy, put, put_decimal, put_signed};
 
 // Writes a modifier.
@@ -93,8 +93,9 @@ fn put_data(line: &[u8], p: usize, out: &mut [u8], at: usize) -> usize
 {
     let mut place = at;
     let mut i = p;
+    // A while: each element says how long it is, and so where the next begins.
     while i < line.len() {
-        let Step::Next(e) = element_at(line, i) else {
+        let Ok(e) = element_at(line, i) else {
             return place;
         };
         let what = e.what;
@@ -176,8 +177,7 @@ pub fn put_row(line: &[u8], row: usize, vs: &[usize; 18], ps: &[usize; 18], out:
 {
     let up = line_up(row);
     let mut place = 0;
-    let mut i = 0;
-    while i < 18 {
+    for i in 0..18usize {
         let f = up[i];
         if f == b' ' {
             return place;
@@ -185,7 +185,6 @@ pub fn put_row(line: &[u8], row: usize, vs: &[usize; 18], ps: &[usize; 18], out:
         let v = vs[i];
         let p = ps[i];
         place = put_field(line, f, v, p, out, place);
-        i += 1;
     }
     place
 }
@@ -194,12 +193,12 @@ pub fn put_row(line: &[u8], row: usize, vs: &[usize; 18], ps: &[usize; 18], out:
 pub fn write(line: &[u8], out: &mut [u8]) -> usize
     ensures { Wrote out.old 0 (normal line.now) result out.new }
 {
-    let Head::Row(row) = head_of(line) else {
+    let Some(row) = head_of(line) else {
         return 0;
     };
     let mut vs = [0usize; 18];
     let mut ps = [0usize; 18];
-    if let Fields::Bad(_) = read_fields(line, row, &mut vs, &mut ps) {
+    if read_fields(line, row, &mut vs, &mut ps).is_err() {
         return 0;
     }
     put_row(line, row, &vs, &ps, out)

@@ -1,4 +1,5 @@
 -- Laws on numbers, cited by the functions' proofs.
+use Rattle.std.specs.Prelude.{Result, Ok, Err}
 use mathlib.Core.Path.{◌≡◌, ◌∙◌, refl, sym, ap}
 use Prim.Native.Char.{code}
 use mathlib.Core.Bool.{Bool, true, false, cond, ◌&&◌, and-false}
@@ -11,12 +12,10 @@ use lib.Dec.{leb, eqb, lit<}
 use lib.ListN.{length, get_or, length-take}
 use lib.Seq.{drop-cons}
 use borrow.Author.Tests.{le-leb, lt-leb, leb-true}
-use Rattle.kinds.specs.Bytes.{between}
+use Rattle.classes.specs.KindsBytes.{between}
 use Rattle.classes.specs.Bytes.{part, run_at}
 use Rattle.classes.specs.declared.Class.TheVariants.{Digit}
 use Rattle.classes.proofs.Laws.{in-range-high, run_room}
-use Rattle.fields.specs.declared.Field.{Field}
-use Rattle.fields.specs.declared.Field.TheVariants.{Is, Not}
 use Rattle.fields.proofs.Laws.{Ends}
 use Rattle.numbers.specs.Number.{digit_of, value_from, number_at, signed_at, behind_sign, plus, minus, Small}
 
@@ -42,10 +41,11 @@ unfolding value_from
 value-end v s i e h = let n : e - i ≡ 0 = omega arith in rw n
 
 -- n digits write a number below 10 ^ n
+pub value-grows : (v d n : ℕ) → v < 10 ^ n → d ≤ 9 → v * 10 + d < 10 ^ (n + 1)
+value-grows v d n k l = rw (add-one, pow-suc 10 n) (omega arith)
+
 pub value-below : (v d at i : ℕ) → at ≤ i → v < 10 ^ (i - at) → d ≤ 9 → v * 10 + d < 10 ^ (i + 1 - at)
-value-below v d at i h k l =
-    let n : i + 1 - at ≡ suc (i - at) = omega arith in
-    rw (n, pow-suc 10 (i - at)) (omega arith)
+value-below v d at i h k l = let n : i + 1 - at ≡ i - at + 1 = omega arith in rw n (value-grows v d (i - at) k l)
 
 pub value_none : (at : ℕ) → 0 < 10 ^ (at - at)
 value_none at = let n : at - at ≡ 0 = omega arith in rw n (lit< tt)
@@ -54,20 +54,29 @@ pub value-fits : (m v n : ℕ) → v < 10 ^ n → n ≤ m → v < 10 ^ m
 value-fits m v n h k = let p : 10 ^ n ≤ 10 ^ m = pow-le-pow_right (lit< tt) k in omega arith
 
 module _ (s : List ℕ) (at e : ℕ) (h : e ≡ at + run_at Digit s at) where
-  pub number-none : e ≤ at → number_at s at ≡ Not at
+  pub number-none : e ≤ at → number_at s at ≡ Err at
   unfolding number_at
   number-none k = let n : run_at Digit s at ≡ 0 = omega arith in rw n
 
-  pub number-long : 9 < e - at → number_at s at ≡ Not at
+  pub number-long : 9 < e - at → number_at s at ≡ Err at
   unfolding number_at
   number-long k = simp (lt-leb (run_at Digit s at) 9 (omega arith), and-false)
 
-  pub number_is : at < e → e - at ≤ 9 → number_at s at ≡ Is (value_from 0 (part s at (e - at))) e
+  pub number_is : at < e → e - at ≤ 9 → number_at s at ≡ Ok (value_from 0 (part s at (e - at)), e)
   unfolding number_at
   number_is k l =
       let n : run_at Digit s at ≡ e - at = omega arith in
       let m : at + (e - at) ≡ e = omega arith in
       rw (n, le-leb 1 (e - at) (omega arith), le-leb (e - at) 9 l, m)
+
+-- where there is no number, its place is at fault
+pub number_fault : (s : List ℕ) (at p : ℕ) → number_at s at ≡ Err p → p ≡ at
+unfolding number_at
+number_fault s at p = go (leb 1 (run_at Digit s at) && leb (run_at Digit s at) 9)
+  where
+    go : (t : Bool) → ◌≡◌ {A = Result (ℕ × ℕ) ℕ} (cond t (Ok (value_from 0 (part s at (run_at Digit s at)), at + run_at Digit s at)) (Err at)) (Err p) → p ≡ at
+    go true e = absurd (let z : ◌≡◌ {A = ℕ} 0 1 = cc in omega arith)
+    go false e = cc
 
 -- n digits after v
 value-limit : (l : List ℕ) (v : ℕ) → value_from v l < (v + 1) * 10 ^ length l
@@ -87,7 +96,7 @@ unfolding number_at
 number_small s at = go (leb 1 (run_at Digit s at)) (leb (run_at Digit s at) 9) refl
   where
     go : (a b : Bool) → leb (run_at Digit s at) 9 ≡ b
-        → Small (cond (a && b) (Is (value_from 0 (part s at (run_at Digit s at))) (at + run_at Digit s at)) (Not at))
+        → Small (cond (a && b) (Ok (value_from 0 (part s at (run_at Digit s at)), at + run_at Digit s at)) (Err at))
     go true true e =
         let n : ℕ = run_at Digit s at in
         let l : length (part s at n) ≤ 9 = simp length-take (omega (arith, leb-true n 9 e)) in
@@ -102,7 +111,7 @@ unfolding number_at
 number-ends s at = go (leb 1 (run_at Digit s at)) (leb (run_at Digit s at) 9) refl
   where
     go : (a b : Bool) → leb 1 (run_at Digit s at) ≡ a
-        → Ends s at (cond (a && b) (Is (value_from 0 (part s at (run_at Digit s at))) (at + run_at Digit s at)) (Not at))
+        → Ends s at (cond (a && b) (Ok (value_from 0 (part s at (run_at Digit s at)), at + run_at Digit s at)) (Err at))
     go true true e = let l = leb-true 1 (run_at Digit s at) e in let r = run_room Digit s at in (omega arith, omega arith)
     go true false e = tt
     go false b e = tt
@@ -113,22 +122,22 @@ number-ends s at = go (leb 1 (run_at Digit s at)) (leb (run_at Digit s at) 9) re
 pub behind-small : (s : List ℕ) (at : ℕ) → Small (behind_sign s at (number_at s (at + 1)))
 behind-small s at = go (number_at s (at + 1)) (number_small s (at + 1))
   where
-    go : (f : Field) → Small f → Small (behind_sign s at f)
-    go (Is v e) h = h
-    go (Not p) h = tt
+    go : (f : Result (ℕ × ℕ) ℕ) → Small f → Small (behind_sign s at f)
+    go (Ok (v, e)) h = h
+    go (Err p) h = tt
 
 -- a number with a sign that is read is the number behind its sign
-pub signed-found : (s : List ℕ) (at v e : ℕ) → signed_at s at ≡ Is v e
+pub signed-found : (s : List ℕ) (at v e : ℕ) → signed_at s at ≡ Ok (v, e)
     → cond (eqb (get_or s at 0) (code "+")) (plus (number_at s (at + 1)))
     (cond (eqb (get_or s at 0) (code "-")) (minus (number_at s (at + 1)))
     (plus (number_at s at)))
-    ≡ Is v e
+    ≡ Ok (v, e)
 unfolding signed_at
 signed-found s at v e h = go (eqb (get_or s at 0) (code "+")) (eqb (get_or s at 0) (code "-")) (number_at s (at + 1)) h
   where
-    go : (a b : Bool) (f : Field) → cond a (plus (behind_sign s at f)) (cond b (minus (behind_sign s at f)) (plus (number_at s at))) ≡ Is v e
-        → cond a (plus f) (cond b (minus f) (plus (number_at s at))) ≡ Is v e
-    go a b (Is w d) k = k
-    go true b (Not p) k = absurd (let z : ◌≡◌ {A = ℕ} 0 1 = cc in omega arith)
-    go false true (Not p) k = absurd (let z : ◌≡◌ {A = ℕ} 0 1 = cc in omega arith)
-    go false false (Not p) k = k
+    go : (a b : Bool) (f : Result (ℕ × ℕ) ℕ) → cond a (plus (behind_sign s at f)) (cond b (minus (behind_sign s at f)) (plus (number_at s at))) ≡ Ok (v, e)
+        → cond a (plus f) (cond b (minus f) (plus (number_at s at))) ≡ Ok (v, e)
+    go a b (Ok (w, d)) k = k
+    go true b (Err p) k = absurd (let z : ◌≡◌ {A = ℕ} 0 1 = cc in omega arith)
+    go false true (Err p) k = absurd (let z : ◌≡◌ {A = ℕ} 0 1 = cc in omega arith)
+    go false false (Err p) k = k

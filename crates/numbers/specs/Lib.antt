@@ -1,2 +1,3 @@
 pub mod Number
 pub mod Samples
+pub use Rattle.classes.specs.Bytes

@@ -28,32 +28,32 @@ fn value(line: &[u8], at: usize, end: usize) -> usize
     ensures { result ≡ value_from 0 (part line.now at (end - at)) }
 {
     let mut v: usize = 0;
-    let mut i = at;
-    while i < end {
-        v = v * 10 + digit(line[i]);
-        i += 1;
+    for b in &line[at..end] {
+        v = v * 10 + digit(*b);
     }
     v
 }
 
 // A number of 1 to 9 digits.
+#[tactic(auto, unfolding(crate::specs::Number::number_at))]
 pub fn number(line: &[u8], at: usize) -> Field
     ensures { result ≡ number_at line.now at }
 {
     let end = run_end(line, Class::Digit, at);
     if end <= at {
-        return Field::Not(at);
+        return Err(at);
     }
     if 9 < end - at {
-        return Field::Not(at);
+        return Err(at);
     }
-    Field::Is(value(line, at, end), end)
+    Ok((value(line, at, end), end))
 }
 
 // Nought as the value of a number with or without sign, which is counted from -1,000,000,000, so that minus zero is plus zero.
 pub const NOUGHT: usize = 1000000000;
 
 // A number with or without sign.
+#[tactic(auto, unfolding(crate::specs::Number::signed_at))]
 pub fn signed(line: &[u8], at: usize) -> Field
     ensures { result ≡ signed_at line.now at }
 {
@@ -69,28 +69,21 @@ pub fn signed(line: &[u8], at: usize) -> Field
 fn behind_sign(line: &[u8], at: usize, found: Field) -> Field
     ensures { result ≡ behind_sign line.now at found }
 {
-    match found {
-        Field::Is(v, end) => Field::Is(v, end),
-        Field::Not(fault) => Field::Not(point(line, at, fault)),
-    }
+    found.map_err(|fault| point(line, at, fault))
 }
 
 fn above(found: Field) -> Field
     requires { Small found }
     ensures { result ≡ plus found }
 {
-    let Field::Is(v, end) = found else {
-        return found;
-    };
-    Field::Is(NOUGHT + v, end)
+    let (v, end) = found?;
+    Ok((NOUGHT + v, end))
 }
 
 fn below(found: Field) -> Field
     requires { Small found }
     ensures { result ≡ minus found }
 {
-    let Field::Is(v, end) = found else {
-        return found;
-    };
-    Field::Is(NOUGHT - v, end)
+    let (v, end) = found?;
+    Ok((NOUGHT - v, end))
 }

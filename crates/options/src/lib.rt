@@ -12,7 +12,7 @@ use writing::same;
 // The minutes of a day but one.
 const MOST_MINUTES: usize = 1439;
 
-#[derive(Clone, Copy)]
+#[derive(Clone, Copy, PartialEq, Eq)]
 pub enum Word {
     Rows,
     Font,
@@ -26,22 +26,15 @@ pub enum Word {
     File,
 }
 
-// What a text is as a number.
-#[derive(Clone, Copy)]
-pub enum Number {
-    Of(usize),
-    Nothing,
-}
-
 // What may be asked for.
-#[derive(Clone, Copy)]
+#[derive(Clone, Copy, PartialEq, Eq)]
 pub enum Kind {
     Form,
     Picture,
-    Neither,
 }
 
-// What a word of the command line is.
+// What a word of the command line is. A chain of tests: of a pattern that is a byte string a proof learns the length alone.
+#[tactic(auto, unfolding(crate::specs::Options::word_of))]
 pub fn word_of(text: &[u8]) -> Word
     ensures { result ≡ word_of text.now }
 {
@@ -76,6 +69,7 @@ pub fn word_of(text: &[u8]) -> Word
 }
 
 // Whether a word asks for the repair of a store. Who knows of repairs asks this before `word_of`, to which the word is no option.
+#[tactic(auto, unfolding(crate::specs::Options::asks_repair))]
 pub fn asks_repair(text: &[u8]) -> bool
     ensures { result ≡ asks_repair text.now }
 {
@@ -83,60 +77,60 @@ pub fn asks_repair(text: &[u8]) -> bool
 }
 
 // A number that was found at the front of a text, where it fills it.
-fn filling(text: &[u8], found: Field) -> Number
+fn filling(text: &[u8], found: Field) -> Option<usize>
     ensures { result ≡ whole_from text.now found }
 {
-    let Field::Is(n, end) = found else {
-        return Number::Nothing;
+    let Ok((n, end)) = found else {
+        return None;
     };
     if end < text.len() {
-        return Number::Nothing;
+        return None;
     }
-    Number::Of(n)
+    Some(n)
 }
 
 // A number of 1 to 9 digits that fills the text.
-pub fn whole_number(text: &[u8]) -> Number
+#[tactic(auto, unfolding(crate::specs::Options::whole_number))]
+pub fn whole_number(text: &[u8]) -> Option<usize>
     ensures { result ≡ whole_number text.now }
 {
     filling(text, numbers::number(text, 0))
 }
 
-// A number of rows, 1 to 4,000, written in decimal; 0 where the text is none.
-pub fn rows(text: &[u8]) -> usize
+// A number of rows, 1 to 4,000, written in decimal.
+#[tactic(auto, unfolding(crate::specs::Options::rows_of))]
+pub fn rows(text: &[u8]) -> Option<usize>
     ensures { result ≡ rows_of text.now }
 {
-    let Number::Of(n) = whole_number(text) else {
-        return 0;
-    };
-    if 4000 < n {
-        return 0;
+    let n = whole_number(text)?;
+    if both(0 < n, n <= 4000) {
+        return Some(n);
     }
-    n
+    None
 }
 
-// A zone in minutes ahead of UTC, with or without sign and less than a day, as a number with a sign counts; 0 where the text is none.
-pub fn zone(text: &[u8]) -> usize
+// A zone in minutes ahead of UTC, with or without sign and less than a day, as a number with a sign counts.
+#[tactic(auto, unfolding(crate::specs::Options::zone_of))]
+pub fn zone(text: &[u8]) -> Option<usize>
     ensures { result ≡ zone_of text.now }
 {
-    let Number::Of(v) = filling(text, numbers::signed(text, 0)) else {
-        return 0;
-    };
+    let v = filling(text, numbers::signed(text, 0))?;
     if both(NOUGHT - MOST_MINUTES <= v, v <= NOUGHT + MOST_MINUTES) {
-        return v;
+        return Some(v);
     }
-    0
+    None
 }
 
 // What the word behind -fits asks for.
-pub fn kind_of(text: &[u8]) -> Kind
+#[tactic(auto, unfolding(crate::specs::Options::kind_of))]
+pub fn kind_of(text: &[u8]) -> Option<Kind>
     ensures { result ≡ kind_of text.now }
 {
     if same(text, b"form") {
-        return Kind::Form;
+        return Some(Kind::Form);
     }
     if same(text, b"picture") {
-        return Kind::Picture;
+        return Some(Kind::Picture);
     }
-    Kind::Neither
+    None
 }

@@ -8,20 +8,16 @@ ghost use Rattle.dots.specs.Dots.{bytes_a_row, byte_of};
 ghost use Rattle.outside.specs.Outside.{outside, white_byte, white_from, white_outside};
 
 use dots::{BYTES_A_ROW, span_mask};
-use ground::least;
 
 // The byte whose dots are those that lie outside width by length, of the dots of byte i of a page.
 fn outside_mask(i: usize, width: usize, length: usize) -> u8
     ensures { result ≡ byte_of (λ k. outside width length (i % bytes_a_row * 8 + k) (i / bytes_a_row)) }
 {
     let x = i % BYTES_A_ROW * 8;
-    if length <= i / BYTES_A_ROW {
+    if length <= i / BYTES_A_ROW || width <= x {
         return 255;
     }
-    if width <= x {
-        return 255;
-    }
-    span_mask(least(width - x, 8), 8)
+    span_mask((width - x).min(8), 8)
 }
 
 // Whether byte i of a page, which is b, has no black dot outside width by length. Most bytes that are looked at have no black dot, and no place is
@@ -29,10 +25,7 @@ fn outside_mask(i: usize, width: usize, length: usize) -> u8
 fn white_byte(i: usize, b: u8, width: usize, length: usize) -> bool
     ensures { result ≡ white_byte width length i b }
 {
-    if b == 0 {
-        return true;
-    }
-    b & outside_mask(i, width, length) == 0
+    b == 0 || b & outside_mask(i, width, length) == 0
 }
 
 // Whether bytes that stand at byte `at` of a page have no black dot outside width by length.
@@ -40,12 +33,10 @@ fn white_bytes(bytes: &[u8], at: usize, width: usize, length: usize) -> bool
     requires { at + length_of bytes.now < 2 ^ 64 }
     ensures { result ≡ white_from width length at bytes.now }
 {
-    let mut i = 0;
-    while i < bytes.len() {
-        if !white_byte(at + i, bytes[i], width, length) {
+    for (i, b) in bytes.iter().enumerate() {
+        if !white_byte(at + i, *b, width, length) {
             return false;
         }
-        i += 1;
     }
     true
 }
@@ -55,7 +46,7 @@ fn first_outside(y: usize, width: usize, length: usize) -> usize
     ensures { (result ≡ cond (ltb y length) (min (width / 8) bytes_a_row) 0) × (result ≤ bytes_a_row) }
 {
     if y < length {
-        least(width / 8, BYTES_A_ROW)
+        (width / 8).min(BYTES_A_ROW)
     } else {
         0
     }
@@ -76,12 +67,10 @@ pub fn white_outside(page: &[u8], width: usize, length: usize) -> bool
     ensures { result ≡ white_outside width length page.now }
 {
     let rows = page.len() / BYTES_A_ROW;
-    let mut y = 0;
-    while y < rows {
+    for y in 0..rows {
         if !white_row(page, y, width, length) {
             return false;
         }
-        y += 1;
     }
     true
 }

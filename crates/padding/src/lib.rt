@@ -23,11 +23,8 @@ fn is_legal(b: u8) -> bool
 fn all_legal(text: &[u8]) -> bool
     ensures { result ≡ all_in legal text.now }
 {
-    let mut i = 0;
-    while i < text.len() {
-        if is_legal(text[i]) {
-            i += 1;
-        } else {
+    for b in text {
+        if !is_legal(*b) {
             return false;
         }
     }

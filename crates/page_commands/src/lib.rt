@@ -35,7 +35,7 @@ fn set_width(session: Session, w: Width, background: &mut [u8]) -> Done
 fn turn_of(half: bool) -> u8
     ensures { result ≡ cond half 1 0 }
 {
-    if half { 1 } else { 0 }
+    u8::from(half)
 }
 
 fn set_turn(session: Session, t: Turn) -> Done

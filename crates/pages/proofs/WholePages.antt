@@ -13,6 +13,8 @@ use lib.Count.{ones, ones_in}
 use lib.ListN.{length-append, length-drop, length, get_or, take, drop, set, length-take, length-replicate, drop_of_length-le}
 use lib.Seq.{ext_get_or, get_or-set_same, get_or-set_other, drop-cons, take_all, paste, paste-suc}
 use borrow.Author.Tests.{eqb-true}
+use Rattle.std.specs.List.{fold}
+use Rattle.ground.specs.Numbers.{capped}
 use Rattle.dots.specs.Dots.{bit_of, dot_at}
 use Rattle.pages.specs.Pages.{white, copied, black_in, black_dots}
 use Rattle.dots.proofs.Bits.{one-le, all_below, all-below}
@@ -112,6 +114,18 @@ count_next p i n m most h e = rw (drop-cons p i 0 h, add-one i) (sum (black_in (
 pub count-done : (p : List ℕ) (i n most : ℕ) → length p ≤ i → n ≤ most → min most (n + black_dots (drop i p)) ≡ n
 unfolding black_dots
 count-done p i n most h k = rw (drop_of_length-le p h) (let z : min most (n + 0) ≡ n = omega arith in z)
+
+-- byte after byte, capped at each as at the end
+pub count-fold : (p : List ℕ) (n : ℕ) → fold (λ m b. capped (m + black_in b)) (capped n) p ≡ capped (n + black_dots p)
+unfolding black_dots
+count-fold [] n = let z : n + 0 ≡ n = omega arith in rw z
+count-fold (b ∷ bs) n = ap (λ (m : ℕ). fold (λ m b. capped (m + black_in b)) m bs) (once (black_in b)) ∙ count-fold bs (n + black_in b) ∙ ap capped (all (black_in b) (black_dots bs))
+  where
+    once : (x : ℕ) → capped (capped n + x) ≡ capped (n + x)
+    once x = omega arith
+
+    all : (x r : ℕ) → n + x + r ≡ n + (x + r)
+    all x r = omega arith
 
 pub black-le : (p : List ℕ) → black_dots p ≤ 8 * length p
 unfolding black_dots

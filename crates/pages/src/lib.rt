@@ -6,47 +6,33 @@ ghost use Rattle.std.specs.Prelude.{◌≡◌, length};
 ghost use Rattle.ground.specs.Numbers.{capped};
 ghost use Rattle.pages.specs.Pages.{white, copied, black_in, black_dots};
 
-use ground::{capped_sum, least};
+use ground::capped_sum;
 
 // Makes every dot white.
 pub fn whiten(page: &mut [u8])
     ensures { page.new ≡ white (length page.old) }
 {
-    let mut i = 0;
-    while i < page.len() {
-        page[i] = 0;
-        i += 1;
-    }
+    page.fill(0);
 }
 
 // Copies the background to the page.
 pub fn copy(page: &mut [u8], background: &[u8])
     ensures { page.new ≡ copied page.old background.now }
 {
-    let end = least(page.len(), background.len());
-    let mut i = 0;
-    while i < end {
-        page[i] = background[i];
-        i += 1;
-    }
+    let end = page.len().min(background.len());
+    page[..end].copy_from_slice(&background[..end]);
 }
 
 // How many dots of a byte are black.
 fn black_in(b: u8) -> usize
     ensures { result ≡ black_in b }
 {
-    u8::count_ones(b) as usize
+    b.count_ones() as usize
 }
 
 // How many dots of a page are black, or the greatest number there is where they are more.
 pub fn black_dots(page: &[u8]) -> usize
     ensures { result ≡ capped (black_dots page.now) }
 {
-    let mut n: usize = 0;
-    let mut i = 0;
-    while i < page.len() {
-        n = capped_sum(n, black_in(page[i]));
-        i += 1;
-    }
-    n
+    page.iter().fold(0, |n, b| capped_sum(n, black_in(*b)))
 }

@@ -2,7 +2,7 @@
 -- Assumes nothing.
 use Rattle.std.specs.Prelude.{ℕ, ◌+◌, ◌-◌, cond, List, [], ◌∷◌, get_or, ltb}
 use Prim.Native.Char.{code}
-use Rattle.kinds.specs.Bytes.{between}
+use Rattle.classes.specs.KindsBytes.{between}
 
 -- "case is folded": only a to z
 unfoldable pub capital : ℕ → ℕ

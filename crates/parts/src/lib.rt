@@ -11,28 +11,21 @@ ghost use Rattle.parts.specs.Names.{capital, name_byte, packed_of};
 pub fn first<'a>(input: &'a [u8], n: usize) -> &'a [u8]
     ensures { result.now ≡ take n input.now }
 {
-    if n < input.len() { &input[..n] } else { input }
+    &input[..n.min(input.len())]
 }
 
 // The input after the n bytes that a call read; nothing past its end.
 pub fn rest<'a>(input: &'a [u8], n: usize) -> &'a [u8]
     ensures { result.now ≡ drop n input.now }
 {
-    if n < input.len() {
-        &input[n..]
-    } else {
-        &input[input.len()..]
-    }
+    &input[n.min(input.len())..]
 }
 
 // A byte in capitals.
 pub fn folded(b: u8) -> u8
     ensures { result ≡ capital b }
 {
-    match b {
-        b'a'..=b'z' => b - (b'a' - b'A'),
-        _ => b,
-    }
+    b.to_ascii_uppercase()
 }
 
 fn name_byte(line: &[u8], at: usize, length: usize, i: usize) -> u8

@@ -58,10 +58,8 @@ fn put_row(page: &[u8], width: u16, from: usize, out: &mut [u8], at: usize) -> u
 {
     let n = row_bytes(width);
     let mut place = at;
-    let mut j: usize = 0;
-    while j < n {
+    for j in 0..n {
         place = put_byte(page, width, from, j, out, place);
-        j += 1;
     }
     place
 }
@@ -72,10 +70,8 @@ fn put_rows(page: &[u8], width: u16, rows: u16, out: &mut [u8], at: usize) -> us
 {
     let n = rows as usize;
     let mut place = at;
-    let mut y: usize = 0;
-    while y < n {
+    for y in 0..n {
         place = put_row(page, width, 76 * y, out, place);
-        y += 1;
     }
     place
 }

@@ -2,11 +2,10 @@
 ghost use Rattle.std.specs.Prelude.{◌≡◌, ◌≤◌, length, drop};
 ghost use Rattle.pcx.specs.Rules.{header_bytes, times, next, empty_run, filled};
 
-use ground::both;
-
 // "From byte 128".
 pub const HEADER_BYTES: usize = 128;
 
+#[tactic(auto, unfolding(crate::specs::Rules::times))]
 pub fn times_of(n: usize, b: u8) -> usize
     ensures { result ≡ times n b }
 {
@@ -17,6 +16,7 @@ pub fn times_of(n: usize, b: u8) -> usize
     }
 }
 
+#[tactic(auto, unfolding(crate::specs::Rules::next))]
 pub fn next_of(n: usize, b: u8) -> usize
     ensures { result ≡ next n b }
 {
@@ -27,10 +27,11 @@ pub fn next_of(n: usize, b: u8) -> usize
     }
 }
 
+#[tactic(auto, unfolding(crate::specs::Rules::empty_run))]
 fn empty_run(n: usize, b: u8) -> bool
     ensures { result ≡ empty_run n b }
 {
-    both(n == 0, b == 192)
+    n == 0 && b == 192
 }
 
 // One pass, in which the bytes that the runs give are counted and not kept.
@@ -38,17 +39,15 @@ pub(crate) fn filled_ok(bytes: &[u8], total: usize) -> bool
     requires { length bytes.now ≤ 32768 }
     ensures { result ≡ filled (drop header_bytes bytes.now) total }
 {
-    let mut i: usize = HEADER_BYTES;
     let mut n: usize = 0;
     let mut count: usize = 0;
-    while i < bytes.len() {
+    for i in HEADER_BYTES..bytes.len() {
         let b = bytes[i];
         if empty_run(n, b) {
             return false;
         }
         count += times_of(n, b);
         n = next_of(n, b);
-        i += 1;
     }
-    both(n == 0, count == total)
+    n == 0 && count == total
 }

@@ -2,7 +2,7 @@
 ghost use Rattle.std.specs.Prelude.{◌≡◌, ◌≤◌, ◌<◌};
 ghost use Rattle.pcx.specs.Rules.{header_bytes, word, width, height, line_bytes, sized, ten, version, ones, ordered, measured, lined, headed};
 
-use ground::{both, byte_at, less};
+use ground::byte_at;
 
 fn word_at(bytes: &[u8], at: usize) -> usize
     requires { at < header_bytes }
@@ -14,13 +14,13 @@ fn word_at(bytes: &[u8], at: usize) -> usize
 pub fn width_of(bytes: &[u8]) -> usize
     ensures { (result ≡ width bytes.now) × (result ≤ 65536) }
 {
-    less(word_at(bytes, 8), word_at(bytes, 4)) + 1
+    word_at(bytes, 8).saturating_sub(word_at(bytes, 4)) + 1
 }
 
 pub fn height_of(bytes: &[u8]) -> usize
     ensures { (result ≡ height bytes.now) × (result ≤ 65536) }
 {
-    less(word_at(bytes, 10), word_at(bytes, 6)) + 1
+    word_at(bytes, 10).saturating_sub(word_at(bytes, 6)) + 1
 }
 
 pub fn line_bytes(bytes: &[u8]) -> usize
@@ -32,7 +32,7 @@ pub fn line_bytes(bytes: &[u8]) -> usize
 fn sized_ok(bytes: &[u8]) -> bool
     ensures { result ≡ sized bytes.now }
 {
-    both(129 <= bytes.len(), bytes.len() <= 32768)
+    129 <= bytes.len() && bytes.len() <= 32768
 }
 
 fn ten_ok(bytes: &[u8]) -> bool
@@ -45,52 +45,43 @@ fn version_ok(bytes: &[u8]) -> bool
     ensures { result ≡ version bytes.now }
 {
     let v = byte_at(bytes, 1);
-    both(v <= 5, v != 1)
+    v <= 5 && v != 1
 }
 
 fn ones_ok(bytes: &[u8]) -> bool
     ensures { result ≡ ones bytes.now }
 {
-    both(
-        byte_at(bytes, 2) == 1,
-        both(byte_at(bytes, 3) == 1, byte_at(bytes, 65) == 1),
-    )
+    byte_at(bytes, 2) == 1 && byte_at(bytes, 3) == 1 && byte_at(bytes, 65) == 1
 }
 
 fn ordered_ok(bytes: &[u8]) -> bool
     ensures { result ≡ ordered bytes.now }
 {
-    both(
-        word_at(bytes, 4) <= word_at(bytes, 8),
-        word_at(bytes, 6) <= word_at(bytes, 10),
-    )
+    word_at(bytes, 4) <= word_at(bytes, 8) && word_at(bytes, 6) <= word_at(bytes, 10)
 }
 
 fn measured_ok(bytes: &[u8]) -> bool
     ensures { result ≡ measured bytes.now }
 {
-    both(width_of(bytes) <= 2048, height_of(bytes) <= 4000)
+    width_of(bytes) <= 2048 && height_of(bytes) <= 4000
 }
 
 fn lined_ok(bytes: &[u8]) -> bool
     ensures { result ≡ lined bytes.now }
 {
     let line = line_bytes(bytes);
-    both(
-        line % 2 == 0,
-        both(line <= 256, width_of(bytes) <= line * 8),
-    )
+    line % 2 == 0 && line <= 256 && width_of(bytes) <= line * 8
 }
 
+#[tactic(auto, unfolding(crate::specs::Rules::headed))]
 pub(crate) fn headed_ok(bytes: &[u8]) -> bool
     ensures { result ≡ headed bytes.now }
 {
-    let lines = both(ordered_ok(bytes), both(measured_ok(bytes), lined_ok(bytes)));
-    both(
-        sized_ok(bytes),
-        both(
-            ten_ok(bytes),
-            both(version_ok(bytes), both(ones_ok(bytes), lines)),
-        ),
-    )
+    sized_ok(bytes)
+        && ten_ok(bytes)
+        && version_ok(bytes)
+        && ones_ok(bytes)
+        && ordered_ok(bytes)
+        && measured_ok(bytes)
+        && lined_ok(bytes)
 }

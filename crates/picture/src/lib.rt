@@ -13,7 +13,6 @@ ghost use Rattle.picture.specs.Steps.{dark_byte, part, Fits, spot_of};
 
 use dots::{BYTES_A_ROW, DOTS_A_ROW, Ink};
 use eights::ink_eight;
-use ground::{least, less};
 use pcx::{HEADER_BYTES, height_of, is_legal, line_bytes, next_of, times_of, width_of};
 
 // Where a picture stands on a page: its corner, the column and the row at which it ends or is cut, the bytes of its lines, and how many of its bytes
@@ -47,7 +46,7 @@ fn ink_given(page: &mut [u8], p: Spot, q: usize, v: u8)
     if p.right <= x {
         return;
     }
-    let n = least(8, p.right - x);
+    let n = (p.right - x).min(8);
     let y = p.y + q / line;
     ink_eight(page, Ink::Black, x, y, dark_byte(v, n));
 }
@@ -60,11 +59,8 @@ fn ink_run(page: &mut [u8], p: Spot, q: usize, end: usize, v: u8)
     if v == 255 {
         return;
     }
-    let stop = least(end, p.last);
-    let mut k = q;
-    while k < stop {
+    for k in q..end.min(p.last) {
         ink_given(page, p, k, v);
-        k += 1;
     }
 }
 
@@ -73,16 +69,14 @@ fn ink_runs(page: &mut [u8], p: Spot, bytes: &[u8])
     requires { Fits p (length (decoded bytes.now)) page.old }
     ensures { page.new ≡ drawn Black (part p (λ k. get_or (decoded bytes.now) k 0) 0 (length (decoded bytes.now))) page.old }
 {
-    let mut i: usize = HEADER_BYTES;
     let mut n: usize = 0;
     let mut q: usize = 0;
-    while i < bytes.len() {
+    for i in HEADER_BYTES..bytes.len() {
         let b = bytes[i];
         let end = q + times_of(n, b);
         ink_run(page, p, q, end, b);
         n = next_of(n, b);
         q = end;
-        i += 1;
     }
 }
 
@@ -91,10 +85,10 @@ fn spot_on(rows: usize, width: usize, length: usize, x: usize, y: usize, bytes: 
     requires { (x < dots_a_row) × (y < rows) × (rows < 2 ^ 60) }
     ensures { result ≡ spot_of rows width length x y bytes.now }
 {
-    let right = least(x + width_of(bytes), width);
-    let bottom = least(y + height_of(bytes), least(length, rows));
+    let right = (x + width_of(bytes)).min(width);
+    let bottom = (y + height_of(bytes)).min(length.min(rows));
     let line = line_bytes(bytes);
-    let last = less(bottom, y) * line;
+    let last = bottom.saturating_sub(y) * line;
     Spot {
         x,
         y,

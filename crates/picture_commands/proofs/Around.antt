@@ -4,8 +4,7 @@ use mathlib.Core.Path.{◌≡◌}
 use mathlib.Core.Bool.{Bool, true, false, cond}
 use mathlib.Core.List.{List, [], ◌∷◌}
 use Prim.Native.Nat.{ℕ}
-use Rattle.finding.specs.declared.Found.{Found}
-use Rattle.finding.specs.declared.Found.TheVariants.{At, Nothing}
+use Rattle.std.specs.Prelude.{None, Option, Some}
 use Rattle.grammar.specs.declared.PictureCommand.{PictureCommand}
 use Rattle.grammar.specs.declared.PictureCommand.TheVariants.{Store, Erase}
 use Rattle.session.specs.declared.Session.{Session}
@@ -21,15 +20,15 @@ use Rattle.picture_commands.specs.Pictures.{picture_rows, picture_runs, picture_
 
 -- an erasure in a memory is that in the lists around it
 erase-in :
-    (a : Answer) (p : Bool) (f : Found) (s : Session) (b st l d v o : List ℕ) →
+    (a : Answer) (p : Bool) (f : Option ℕ) (s : Session) (b st l d v o : List ℕ) →
     on_memory b v o
     (ran_by a s (world [] st l d []) []
     (cond p (erased_every s (world [] st l d []) true) (erased_named s (world [] st l d []) f)) [])
     ≡ ran_by a s (world b st l d v) o
     (cond p (erased_every s (world b st l d v) true) (erased_named s (world b st l d v) f)) []
 erase-in a true f s b st l d v o = ran-in (on_memory b v o) a s (world [] st l d []) (erased_every s (world [] st l d []) true)
-erase-in a false (At i) s b st l d v o = ran-in (on_memory b v o) a s (world [] st l d []) (erased_named s (world [] st l d []) (At i))
-erase-in a false Nothing s b st l d v o = ran-in (on_memory b v o) a s (world [] st l d []) (state s (world [] st l d []))
+erase-in a false (Some i) s b st l d v o = ran-in (on_memory b v o) a s (world [] st l d []) (erased_named s (world [] st l d []) (Some i))
+erase-in a false None s b st l d v o = ran-in (on_memory b v o) a s (world [] st l d []) (state s (world [] st l d []))
 
 pub picture-around :
     (c : PictureCommand) (s : Session) (line more b st l d v o : List ℕ) →

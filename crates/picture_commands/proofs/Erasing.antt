@@ -4,10 +4,9 @@ use mathlib.Core.Path.{◌≡◌, sym, ap, ◌∙◌}
 use mathlib.Core.Bool.{Bool, true, false, not, ◌&&◌, cond}
 use mathlib.Core.List.{List, []}
 use Prim.Native.Nat.{ℕ}
-use Rattle.finding.specs.declared.Found.{Found}
+use Rattle.std.specs.Prelude.{Option, is_some}
 use Rattle.grammar.specs.declared.Named.{Named}
 use Rattle.grammar.specs.declared.PictureCommand.TheVariants.{Erase}
-use Rattle.finding.specs.Find.{is_at}
 use Rattle.session.specs.declared.Session.{Session}
 use Rattle.answers.specs.declared.Answer.TheVariants.{Taken, Missing}
 use Rattle.lent.specs.Lent.{World}
@@ -20,12 +19,12 @@ use Rattle.results.proofs.Erasing.{erase-taken, erase-refused}
 use Rattle.picture_commands.specs.Pictures.{picture_runs, picture_by}
 
 pub none-erased :
-    (s : Session) (line : List ℕ) (n : Named) (w : World) (found : Found) (missing : Bool) (r : Done) → found ≡ named w true line n →
-    missing ≡ (not n.all && not (is_at found)) → missing ≡ true → r ≡ done Missing s 0 → ran r w [] ≡ picture_by w s line [] (Erase n)
+    (s : Session) (line : List ℕ) (n : Named) (w : World) (found : Option ℕ) (missing : Bool) (r : Done) → found ≡ named w true line n →
+    missing ≡ (not n.all && not (is_some found)) → missing ≡ true → r ≡ done Missing s 0 → ran r w [] ≡ picture_by w s line [] (Erase n)
 none-erased s line n w found missing r = erase-refused s w true line n found missing (picture_runs w s line [] (Erase n)) r
 
-module _ (s after : Session) (line : List ℕ) (n : Named) (w w' : World) (found : Found) (missing : Bool)
-    (looked : found ≡ named w true line n) (asked : missing ≡ (not n.all && not (is_at found))) (there : missing ≡ false)
+module _ (s after : Session) (line : List ℕ) (n : Named) (w w' : World) (found : Option ℕ) (missing : Bool)
+    (looked : found ≡ named w true line n) (asked : missing ≡ (not n.all && not (is_some found))) (there : missing ≡ false)
     (r : Done) (taken : r ≡ done Taken after 0) where
   erased-leaves : (x : State) → state after w' ≡ x → picture_runs w s line [] (Erase n) ≡ x → ran r w' [] ≡ picture_by w s line [] (Erase n)
   erased-leaves x e f =

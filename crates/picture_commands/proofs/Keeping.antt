@@ -8,8 +8,8 @@ use lib.ListN.{length}
 use Rattle.pcx.specs.Rules.{legal as legal_picture}
 use Rattle.growing.specs.Keep.{kept}
 use Rattle.free_number.specs.After.{after_stored}
-use Rattle.finding.specs.declared.Found.{Found}
-use Rattle.finding.specs.Find.{is_at, titled_at}
+use Rattle.std.specs.Prelude.{Option, is_some}
+use Rattle.finding.specs.Find.{titled_at}
 use Rattle.grammar.specs.declared.StorePicture.{StorePicture}
 use Rattle.grammar.specs.declared.PictureCommand.TheVariants.{Store}
 use Rattle.parts.specs.Names.{packed_of}
@@ -27,15 +27,15 @@ use Rattle.results.specs.Named.{lookup}
 use Rattle.results.proofs.Parts.{in_memory, in_state, refused-by, taken-by}
 use Rattle.picture_commands.specs.Pictures.{picture_rows, picture_runs, picture_by}
 
-module _ (s : Session) (line more : List ℕ) (p : StorePicture) (w : World) (title : List ℕ) (found : Found) (used : Bool)
-    (titled : title ≡ packed_of line p.at p.length) (looked : found ≡ titled_at w.directory true title) (asked : used ≡ is_at found) where
+module _ (s : Session) (line more : List ℕ) (p : StorePicture) (w : World) (title : List ℕ) (found : Option ℕ) (used : Bool)
+    (titled : title ≡ packed_of line p.at p.length) (looked : found ≡ titled_at w.directory true title) (asked : used ≡ is_some found) where
   by_rows :
       (a : Answer) (x : Ran) → x ≡ ran_by a s w [] (picture_runs w s line more (Store p)) [] → answer_of (picture_rows w s line more (Store p)) ≡ a →
       x ≡ picture_by w s line more (Store p)
   by_rows a x e f = e ∙ ap (λ (k : Answer). ran_by k s w [] (picture_runs w s line more (Store p)) []) (sym f)
 
-  as-asked : is_at (lookup w true line p.at p.length) ≡ used
-  as-asked = ap (λ (t : List ℕ). is_at (titled_at w.directory true t)) (sym titled) ∙ ap is_at (sym looked) ∙ sym asked
+  as-asked : is_some (lookup w true line p.at p.length) ≡ used
+  as-asked = ap (λ (t : List ℕ). is_some (titled_at w.directory true t)) (sym titled) ∙ ap is_some (sym looked) ∙ sym asked
 
   pub keep-in-use : (r : Done) → used ≡ true → r ≡ done InUse s 0 → ran r w [] ≡ picture_by w s line more (Store p)
   unfolding is_taken number_of

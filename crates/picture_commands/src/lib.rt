@@ -12,7 +12,6 @@ ghost use Rattle.results.specs.Result.{ran};
 ghost use Rattle.picture_commands.specs.Pictures.{picture_by};
 
 use answers::{Answer, is_taken};
-use finding::is_at;
 use free_number::after_stored;
 use full::full_answer;
 use grammar::{Named, PictureCommand, StorePicture};
@@ -35,7 +34,7 @@ fn keep_picture(
     let at = p.at;
     let length = p.length;
     let title = packed(line, at, length);
-    if is_at(finding::find(directory, true, title)) {
+    if finding::find(directory, true, title).is_some() {
         return answered(Answer::InUse, session);
     }
     if !pcx::is_legal(more) {

@@ -5,7 +5,7 @@ use Rattle.std.specs.Prelude.{◌≡◌, refl, true, false}
 use Rattle.kinds.specs.Bytes.{between}
 use Rattle.kinds.specs.Text.{bytes}
 use Rattle.classes.specs.Bytes.{run}
-use Rattle.numbers.specs.Number.{value_from, number_at}
+use Rattle.elements.specs.Number.{value_from, number_at}
 use Rattle.fields.specs.Field.{text_at, byte_at}
 use Rattle.calendar.specs.declared.Clock.{Clock}
 use Rattle.calendar.specs.Clock.{clock}

@@ -1,1 +1,2 @@
 pub mod Data
+pub use Rattle.elements.specs.Elements

@@ -12,7 +12,7 @@ ghost use Rattle.pieces.specs.Data.{part_of, piece_of, piece_at, data_of, values
 use calendar::Clock;
 use counters::{Counters, digits_of};
 use declarations::Declared;
-use elements::{Element, Part, Step, What};
+use elements::{Element, Part, What};
 use ground::{back, front, least, less, put};
 use stamps::stamp_text;
 use stored_values::variable_at;
@@ -96,8 +96,9 @@ pub fn assemble<'a>(
 {
     let mut n: usize = 0;
     let mut i = at;
+    // A while: where the next element begins is known once this one is read.
     while i < line.len() {
-        let Step::Next(e) = elements::element_at(line, i) else {
+        let Ok(e) = elements::element_at(line, i) else {
             return n;
         };
         n = lay_element(line, d, values, c, clock, e, out, n);

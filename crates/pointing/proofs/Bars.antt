@@ -1,4 +1,5 @@
 -- What stands under bars, with the data behind it, which ends a row.
+use Rattle.std.specs.Prelude.{Result, Ok, Err}
 use mathlib.Core.Path.{◌≡◌, ◌∙◌, refl, sym}
 use mathlib.Core.Bool.{false}
 use mathlib.Core.List.{List, [], ◌∷◌, ◌++◌, append-nil}
@@ -11,10 +12,9 @@ use lib.Seq.{get_or-append_seam, get_or-append-add}
 use borrow.Author.Tests.{lt-leb, le-leb}
 use Rattle.classes.proofs.Laws.{past}
 use Rattle.fields.specs.Field.{stop_of, is_place, word_to, byte_at, under_at}
-use Rattle.fields.specs.declared.Field.{Field}
-use Rattle.fields.specs.declared.Field.TheVariants.{Is, Not}
 use Rattle.reader.specs.Letters.{field_at}
 use Rattle.row_fields.specs.Reading.{fields_from}
+use Rattle.fields.proofs.Pairs.{ok_second}
 use Rattle.pointing.proofs.Pieces.{Sits, comma}
 use Rattle.pointing.proofs.Texts.{byte-here}
 use Rattle.pointing.proofs.Words.{word-sits, word-firm, word-is, word-not, word-ended, word-behind}
@@ -43,7 +43,7 @@ points-behind : Points behind (code "," ∷ quotes)
 points-behind = points-byte (code ",") (code "d" ∷ []) quotes is-comma points-data
 
 -- a comma that is there
-comma-read : (t : List ℕ) (at : ℕ) → at < length t → get_or t at 0 ≡ code "," → field_at (code ",") t at ≡ Is (code ",") (at + 1)
+comma-read : (t : List ℕ) (at : ℕ) → at < length t → get_or t at 0 ≡ code "," → field_at (code ",") t at ≡ Ok ((code ","), at + 1)
 comma-read t at l e = is-comma t at ∙ byte-here (code ",") t at l ∙ rw e
 
 -- what stands there now
@@ -51,18 +51,18 @@ module _ (s : List ℕ) (at : ℕ) where
   now-word : (v : ℕ) → ((m : List ℕ) → under_at (s ++ m) at ≡ word_to (s ++ m) at v (at + 1)) → under_at s at ≡ word_to s at v (at + 1)
   now-word v f = rw append-nil at (f [])
 
-  now : (x : Field) → ((m : List ℕ) → under_at (s ++ m) at ≡ x) → under_at s at ≡ x
+  now : (x : Result (ℕ × ℕ) ℕ) → ((m : List ℕ) → under_at (s ++ m) at ≡ x) → under_at s at ≡ x
   now x f = rw append-nil at (f [])
 
   begun-now : at < length s → length s ≤ at + 2 → (length s ≡ at + 2 → get_or s (at + 1) 0 ≡ code ",")
       → ((m : List ℕ) → is_place (get_or (s ++ m) (at + 2) 0) ≡ false → under_at (s ++ m) at ≡ word_to (s ++ m) at (code "B") (at + 1))
-      → under_at s at ≡ Is (code "B") (at + 1)
+      → under_at s at ≡ Ok (code "B", at + 1)
   begun-now l i c f =
       let a : is_place (get_or (s ++ []) (at + 2) 0) ≡ false = rw (append-nil s, past s (at + 2) i) refl in
       let b : under_at s at ≡ word_to s at (code "B") (at + 1) = rw append-nil at (f [] a) in
       b ∙ go (dec_lt (at + 1) (length s))
     where
-      go : Dec (at + 1 < length s) → word_to s at (code "B") (at + 1) ≡ Is (code "B") (at + 1)
+      go : Dec (at + 1 < length s) → word_to s at (code "B") (at + 1) ≡ Ok (code "B", at + 1)
       go (yes k) = rw (lt-leb (length s) (at + 1) k, c (omega arith))
       go (no k) = rw (le-leb (length s) (at + 1) (omega arith))
 
@@ -72,8 +72,8 @@ module _ (s : List ℕ) (at : ℕ) where
     where
       go : Below s at → Sits s at (under_at s at)
       go (letter v l f) = rw (now-word v f) (word-sits s at v (at + 1) (omega arith) (omega arith))
-      go (place v l f) = rw (now (Is v (at + 3)) f) (omega arith, omega arith)
-      go (none l f) = rw (now (Not at) f) (omega arith, h)
+      go (place v l f) = rw (now (Ok (v, at + 3)) f) (omega arith, omega arith)
+      go (none l f) = rw (now (Err at) f) (omega arith, h)
       go (absent l e) = rw e (omega arith, h)
       go (cut v l e f) = rw e (h, omega arith)
       go (begun l i c f) = rw (begun-now l i c f) (omega arith, omega arith)
@@ -94,7 +94,7 @@ begun-fault s at p l i c k j = go (where-of (code ",") (code "d" ∷ []) s (at +
     go (later v e q r) =
         let x = low in
         let y = comma-read s (at + 1) (omega arith) (c (omega arith)) in
-        let z : e ≡ at + 1 + 1 = cc in
+        let z : e ≡ at + 1 + 1 = ok_second (sym q ∙ y) in
         let w = points-data.within s e p (omega arith) r in
         omega arith
 
@@ -110,8 +110,8 @@ word-firm-row s m at p h k l = go (below s at)
 
     go : Below s at → Faulty (fields_from word (s ++ m) at) p
     go (letter v i f) = let n = now-word s at v f in by (λ j. f m ∙ word-firm s at v (at + 1) m (omega arith) (rw n at j) ∙ sym n)
-    go (place v i f) = by (λ j. f m ∙ sym (now s at (Is v (at + 3)) f))
-    go (none i f) = by (λ j. f m ∙ sym (now s at (Not at) f))
+    go (place v i f) = by (λ j. f m ∙ sym (now s at (Ok (v, at + 3)) f))
+    go (none i f) = by (λ j. f m ∙ sym (now s at (Err at) f))
     go (absent i e) = by (λ j. absurd (let z = rw e at j in omega arith))
     go (cut v i e f) = by (λ j. absurd (let z = rw e at j in omega arith))
     go (begun i j c f) = absurd (find (where-of (code "h") behind s at p k))
@@ -121,7 +121,7 @@ word-firm-row s m at p h k l = go (below s at)
         find (later v e q r) =
             let y = sym (is-under s at) ∙ q in
             let x = begun-now s at i j c f in
-            let z : e ≡ at + 1 = cc in
+            let z : e ≡ at + 1 = ok_second (sym y ∙ x) in
             begun-fault s at p i j c (rw z at r) l
 
 -- the fillers behind s
@@ -136,7 +136,7 @@ word_blank s =
 
 module _ (s : List ℕ) (at : ℕ) where
   -- the word ends with the line
-  word-ends : (v e : ℕ) → length s ≡ e → under_at (s ++ (code "," ∷ quotes)) at ≡ Is v e → Finished word s at
+  word-ends : (v e : ℕ) → length s ≡ e → under_at (s ++ (code "," ∷ quotes)) at ≡ Ok (v, e) → Finished word s at
   word-ends v e n q =
       let t : List ℕ = s ++ (code "," ∷ quotes) in
       record { more = code "," ∷ quotes; whole = good-later (code "h") behind t at v e (is-under t at ∙ q) (rw (← n) (points-behind.fills s)) }
@@ -154,7 +154,7 @@ module _ (s : List ℕ) (at : ℕ) where
           let a : is_place (get_or t (at + 2) 0) ≡ false = rw (← n, get_or-append_seam s (code "\"") (code "\"" ∷ []) 0) refl in
           let b : get_or t (at + 1) 0 ≡ code "," = get_or-append s quotes 0 (at + 1) k ∙ c n in
           let j : at + 1 < length t = simp length-append (omega arith) in
-          let d : under_at t at ≡ Is (code "B") (at + 1) = f quotes a ∙ rw (lt-leb (length t) (at + 1) j, b) in
+          let d : under_at t at ≡ Ok (code "B", at + 1) = f quotes a ∙ rw (lt-leb (length t) (at + 1) j, b) in
           let e : at + 1 + 1 ≡ length s = omega arith in
           let g = good-later (code ",") (code "d" ∷ []) t (at + 1) (code ",") (at + 1 + 1) (comma-read t (at + 1) j b) (rw e (points-data.fills s)) in
           record { more = quotes; whole = good-later (code "h") behind t at (code "B") (at + 1) (is-under t at ∙ d) g }
@@ -167,10 +167,10 @@ module _ (s : List ℕ) (at : ℕ) where
   word-soon : at ≤ length s → Faulty (fields_from word s at) (length s) → Finished word s at
   word-soon h k = go (below s at) (where-of (code "h") behind s at (length s) k)
     where
-      kept : (v e : ℕ) → e ≤ length s → Faulty (fields_from behind s e) (length s) → ((m : List ℕ) → under_at (s ++ m) at ≡ Is v e) → Finished word s at
+      kept : (v e : ℕ) → e ≤ length s → Faulty (fields_from behind s e) (length s) → ((m : List ℕ) → under_at (s ++ m) at ≡ Ok (v, e)) → Finished word s at
       kept v e i r f = go_on (code "h") behind (code "," ∷ quotes) points-behind s at v e i r (λ m. is-under (s ++ m) at ∙ f m)
 
-      end : (v : ℕ) → at < length s → ((m : List ℕ) → under_at (s ++ m) at ≡ word_to (s ++ m) at v (at + 1)) → under_at s at ≡ Is v (at + 1)
+      end : (v : ℕ) → at < length s → ((m : List ℕ) → under_at (s ++ m) at ≡ word_to (s ++ m) at v (at + 1)) → under_at s at ≡ Ok (v, at + 1)
           → Faulty (fields_from behind s (at + 1)) (length s) → Dec (at + 1 < length s) → Finished word s at
       end v l f q r (yes j) =
           let n = now-word s at v f in
@@ -185,14 +185,14 @@ module _ (s : List ℕ) (at : ℕ) where
           let y = sym (is-under s at) ∙ q in
           let z = word-is s at v (at + 1) u e (sym (now-word s at v f) ∙ y) in
           end v l f (y ∙ rw (z.0, z.1)) (rw z.1 at r) (dec_lt (at + 1) (length s))
-      go (place v l f) (here e) = absurd (let y = sym (is-under s at) ∙ e in let x = now s at (Is v (at + 3)) f in let z : ◌≡◌ {A = ℕ} 0 1 = cc in omega arith)
+      go (place v l f) (here e) = absurd (let y = sym (is-under s at) ∙ e in let x = now s at (Ok (v, at + 3)) f in let z : ◌≡◌ {A = ℕ} 0 1 = cc in omega arith)
       go (place v l f) (later u e q r) =
           let y = sym (is-under s at) ∙ q in
-          let x = now s at (Is v (at + 3)) f in
-          let z : e ≡ at + 3 = cc in
+          let x = now s at (Ok (v, at + 3)) f in
+          let z : e ≡ at + 3 = ok_second (sym y ∙ x) in
           kept v (at + 3) (omega arith) (rw z at r) f
-      go (none l f) (here e) = absurd (let y = sym (is-under s at) ∙ e in let x = now s at (Not at) f in let z : at ≡ length s = cc in omega arith)
-      go (none l f) (later u e q r) = absurd (let y = sym (is-under s at) ∙ q in let x = now s at (Not at) f in let z : ◌≡◌ {A = ℕ} 0 1 = cc in omega arith)
+      go (none l f) (here e) = absurd (let y = sym (is-under s at) ∙ e in let x = now s at (Err at) f in let z : at ≡ length s = cc in omega arith)
+      go (none l f) (later u e q r) = absurd (let y = sym (is-under s at) ∙ q in let x = now s at (Err at) f in let z : ◌≡◌ {A = ℕ} 0 1 = cc in omega arith)
       go (absent l x) (here e) = let z : at ≡ length s = omega arith in record { more = code "N" ∷ (code "," ∷ quotes); whole = rw z (word_blank s) }
       go (absent l x) (later u e q r) = absurd (let y = sym (is-under s at) ∙ q in let z : ◌≡◌ {A = ℕ} 0 1 = cc in omega arith)
       go (cut v l x f) w = word-ends v (at + 3) l (f quotes)

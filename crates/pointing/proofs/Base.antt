@@ -1,4 +1,5 @@
 -- What was taken before refusals pointed is taken as before, and so is what was refused: only the places of answer 6 are others.
+use Rattle.std.proofs.Common.{Option, Some, None}
 use mathlib.Core.Path.{◌≡◌, refl}
 use mathlib.Core.Bool.{Bool, true, false, cond, ◌&&◌, ◌||◌, not}
 use mathlib.Core.List.{List, [], ◌∷◌}
@@ -12,8 +13,6 @@ use Rattle.classes.proofs.Laws.{and_T}
 use Rattle.reader.specs.Letters.{field_at}
 use Rattle.grammar.specs.Forms.{row_of, is_field}
 use Rattle.heads.specs.Heads.{head_of}
-use Rattle.heads.specs.declared.Head.{Head}
-use Rattle.heads.specs.declared.Head.TheVariants.{Row, Unknown}
 use Rattle.row_fields.specs.Reading.{Got, good, bad, fields_from}
 use Rattle.read.specs.Commands.{judged, headed, read_of}
 use Rattle.pointing.specs.Base.{plain_field_at, plain_fields_from, plain_headed, plain_read_of, placeless}
@@ -95,7 +94,7 @@ pub reads-as-before : (rows : ℕ) (s : List ℕ) → placeless (read_of rows s)
 unfolding read_of headed plain_read_of plain_headed
 reads-as-before rows s = go (head_of s)
   where
-    go : (x : Head) → placeless (headed x rows s) ≡ placeless (plain_headed x rows s)
-    go Unknown = refl
-    go (Row row) =
+    go : (x : Option ℕ) → placeless (headed x rows s) ≡ placeless (plain_headed x rows s)
+    go None = refl
+    go (Some row) =
         alike-judged row rows s (fields_from (row_of row).fields s 0) (plain_fields_from (row_of row).fields s 0) (fields-alike (row_of row).fields (every-fine row) s 0)

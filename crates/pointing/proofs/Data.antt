@@ -1,4 +1,5 @@
 -- Data, element by element, in a line to which more is added.
+use Rattle.std.specs.Prelude.{Result, Ok, Err}
 use mathlib.Core.Path.{◌≡◌, ◌∙◌, refl, sym, ap}
 use mathlib.Core.List.{List, [], ◌∷◌, ◌++◌}
 use Prim.Native.Nat.{ℕ, zero, suc, ◌+◌, ◌≤◌, ◌<◌}
@@ -8,12 +9,9 @@ use native.Mathlib.Decide.{dec_lt}
 use lib.ListN.{length, length-append}
 use lib.Seq.{get_or-append_seam}
 use Rattle.fields.specs.Field.{stop_of}
-use Rattle.fields.specs.declared.Field.TheVariants.{Is, Not}
 use Rattle.elements.specs.Elements.{element_at, elements, after}
 use Rattle.elements.specs.declared.What.TheVariants.{Text}
 use Rattle.elements.specs.declared.Element.{Element}
-use Rattle.elements.specs.declared.Step.{Step}
-use Rattle.elements.specs.declared.Step.TheVariants.{Next, Stop}
 use Rattle.elements.proofs.Steps.{Took, element-took, element-past}
 use Rattle.data_field.specs.Data.{total, data_at}
 use Rattle.data_field.proofs.Steps.{total-next, data-stop, data-end, data-past}
@@ -25,28 +23,28 @@ use Rattle.pointing.proofs.Elements.{step_stop, element-text, element-steps}
 -- elements side by side from a place to another
 data Walk (s : List ℕ) : ℕ → ℕ → Type 0 where
   here : {i : ℕ} → Walk s i i
-  on : {at i : ℕ} (e : Element) → element_at s at ≡ Next e → Walk s (after e) i → Walk s at i
+  on : {at i : ℕ} (e : Element) → element_at s at ≡ Ok e → Walk s (after e) i → Walk s at i
 
 -- as far as they go
 record Halt (s : List ℕ) (at : ℕ) : Type 0 where
   place : ℕ
   fault : ℕ
   walk : Walk s at place
-  stop : element_at s place ≡ Stop fault
+  stop : element_at s place ≡ Err fault
 
 halt : (n : ℕ) (s : List ℕ) (at : ℕ) → length s ≤ n + at → Halt s at
 halt zero s at h = record { place = at; fault = at; walk = here; stop = element-past s at (omega arith) }
 halt (suc n) s at h = go (element_at s at) refl (element-took s at) (λ i k. halt n s i k)
   where
-    go : (x : Step) → element_at s at ≡ x → Took s at x → ((i : ℕ) → length s ≤ n + i → Halt s i) → Halt s at
-    go (Next e) q t r = let x = r (after e) (omega arith) in record { place = x.place; fault = x.fault; walk = on e q x.walk; stop = x.stop }
-    go (Stop p) q t r = record { place = at; fault = p; walk = here; stop = q }
+    go : (x : Result Element ℕ) → element_at s at ≡ x → Took s at x → ((i : ℕ) → length s ≤ n + i → Halt s i) → Halt s at
+    go (Ok e) q t r = let x = r (after e) (omega arith) in record { place = x.place; fault = x.fault; walk = on e q x.walk; stop = x.stop }
+    go (Err p) q t r = record { place = at; fault = p; walk = here; stop = q }
 
 walk-total : {s : List ℕ} {at i : ℕ} → Walk s at i → at + total (elements s at) ≡ i + total (elements s i)
 walk-total here = refl
 walk-total {s} {at} (on e h w) = total-next s at e h ∙ walk-total w
 
-took : (s : List ℕ) (at : ℕ) (e : Element) → element_at s at ≡ Next e → Took s at (Next e)
+took : (s : List ℕ) (at : ℕ) (e : Element) → element_at s at ≡ Ok e → Took s at (Ok e)
 took s at e h = rw h at (element-took s at)
 
 walk-low : {s : List ℕ} {at i : ℕ} → Walk s at i → at ≤ i
@@ -67,9 +65,9 @@ walk-firm {s} {at} m l (on e h w) =
 
 -- data in a line: to its end, up to a piece that is no element, or not there
 data Elements (s : List ℕ) (at : ℕ) : Type 0 where
-  all : at < length s → data_at s at ≡ Is 0 (length s) → Elements s at
-  some : (i p : ℕ) → Walk s at i → i < length s → element_at s i ≡ Stop p → data_at s at ≡ Not p → Elements s at
-  none : length s ≤ at → data_at s at ≡ Not at → Elements s at
+  all : at < length s → data_at s at ≡ Ok (0, length s) → Elements s at
+  some : (i p : ℕ) → Walk s at i → i < length s → element_at s i ≡ Err p → data_at s at ≡ Err p → Elements s at
+  none : length s ≤ at → data_at s at ≡ Err at → Elements s at
 
 elements-of : (s : List ℕ) (at : ℕ) → Elements s at
 elements-of s at = go (dec_lt at (length s))
@@ -79,7 +77,7 @@ elements-of s at = go (dec_lt at (length s))
     more l x (no k) =
         let i = walk-high (let z : at ≤ length s = omega arith in z) x.walk in
         let e : x.place ≡ length s = omega arith in
-        all l (data-end s x.place at (walk-total x.walk) l e ∙ ap (Is 0) e)
+        all l (data-end s x.place at (walk-total x.walk) l e ∙ ap (λ e. Ok (0, e)) e)
 
     go : Dec (at < length s) → Elements s at
     go (yes l) = let x = halt (length s) s at (omega arith) in more l x (dec_lt x.place (length s))
@@ -110,24 +108,24 @@ data-firm s m at h k = go (elements-of s at)
     go (none l e) = absurd (let z : at < length s = rw e at k in omega arith)
 
 -- an element that ends with the line, behind others
-ended : (s : List ℕ) (at i : ℕ) (e : Element) → at < length s → Walk s at i → element_at s i ≡ Next e → after e ≡ length s → data_at s at ≡ Is 0 (length s)
-ended s at i e l w h k = data-end s (after e) at (walk-total w ∙ total-next s i e h) l k ∙ ap (Is 0) k
+ended : (s : List ℕ) (at i : ℕ) (e : Element) → at < length s → Walk s at i → element_at s i ≡ Ok e → after e ≡ length s → data_at s at ≡ Ok (0, length s)
+ended s at i e l w h k = data-end s (after e) at (walk-total w ∙ total-next s i e h) l k ∙ ap (λ e. Ok (0, e)) k
 
 -- an empty text
 abbrev pub quotes : List ℕ
 quotes = code "\"" ∷ (code "\"" ∷ [])
 
 -- as data behind s
-data-empty : (s : List ℕ) → data_at (s ++ quotes) (length s) ≡ Is 0 (length s + 2)
+data-empty : (s : List ℕ) → data_at (s ++ quotes) (length s) ≡ Ok (0, length s + 2)
 data-empty s =
     let t : List ℕ = s ++ quotes in
     let n : length t ≡ length s + 2 = simp length-append in
     let x : Element = record { what = Text; at = length s; length = 2 } in
-    let h : element_at t (length s) ≡ Next x = element-text t (length s) (get_or-append_seam s (code "\"") (code "\"" ∷ []) 0) ∙ rw (text-empty s []) in
-    ended t (length s) (length s) x (omega arith) here h (sym n) ∙ ap (Is 0) n
+    let h : element_at t (length s) ≡ Ok x = element-text t (length s) (get_or-append_seam s (code "\"") (code "\"" ∷ []) 0) ∙ rw (text-empty s []) in
+    ended t (length s) (length s) x (omega arith) here h (sym n) ∙ ap (λ e. Ok (0, e)) n
 
 -- data that the line cuts off can be made whole
-data-rest : (s : List ℕ) (at : ℕ) → at ≤ length s → data_at s at ≡ Not (length s) → LastRest data_at s at
+data-rest : (s : List ℕ) (at : ℕ) → at ≤ length s → data_at s at ≡ Err (length s) → LastRest data_at s at
 data-rest s at h k = go (elements-of s at)
   where
     go : Elements s at → LastRest data_at s at
@@ -141,7 +139,7 @@ data-rest s at h k = go (elements-of s at)
     go (none l e) =
         let j : at ≡ length s = omega arith in
         let n : length (s ++ quotes) ≡ length s + 2 = simp length-append in
-        record { tail = quotes; value = 0; whole = rw j (data-empty s ∙ ap (Is 0) (sym n)) }
+        record { tail = quotes; value = 0; whole = rw j (data-empty s ∙ ap (λ e. Ok (0, e)) (sym n)) }
 
 -- what is asked of a field that runs to the end of its line holds of data
 pub data-last : Last data_at quotes

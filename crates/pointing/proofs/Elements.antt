@@ -1,4 +1,5 @@
 -- The elements of data in a line to which more is added.
+use Rattle.std.specs.Prelude.{Result, Ok, Err}
 use mathlib.Core.Path.{◌≡◌, ◌∙◌, refl, sym, ap}
 use mathlib.Core.Bool.{Bool, true, false, false≢true}
 use mathlib.Core.List.{List, [], ◌∷◌, ◌++◌, append-nil}
@@ -12,8 +13,6 @@ use borrow.Author.Tests.{lt-ltb, le-ltb, ne_eqb}
 use Rattle.kinds.specs.Bytes.{between}
 use Rattle.classes.proofs.Laws.{past}
 use Rattle.fields.specs.Field.{pointed, text_at}
-use Rattle.fields.specs.declared.Field.{Field}
-use Rattle.fields.specs.declared.Field.TheVariants.{Is, Not}
 use Rattle.fields.proofs.Laws.{text-ends}
 use Rattle.elements.specs.Elements.{modifier_at, quoted_from, held_from, modified, held_at, stamped_from, stamped_at, element_at, after}
 use Rattle.elements.specs.declared.Part.TheVariants.{Whole}
@@ -21,38 +20,35 @@ use Rattle.elements.specs.declared.What.TheVariants.{Text, Stamped}
 use Rattle.formats.specs.declared.Stamp.{Stamp}
 use Rattle.formats.specs.declared.Stamp.TheVariants.{Date, Time}
 use Rattle.elements.specs.declared.Element.{Element}
-use Rattle.elements.specs.declared.Step.{Step}
-use Rattle.elements.specs.declared.Step.TheVariants.{Next, Stop}
-use Rattle.elements.specs.declared.Modifier.{Modifier}
-use Rattle.elements.specs.declared.Modifier.TheVariants.{Takes, Wrong}
 use Rattle.pointing.proofs.Runs.{longer, byte-kept, byte-other}
 use Rattle.pointing.proofs.Pieces.{Sits, nothing}
 use Rattle.pointing.proofs.Texts.{text-sits, text-firm, text-rest}
 use Rattle.pointing.proofs.Modifiers.{Modifies, modifier-modifies, modifier-none}
+use Rattle.elements.specs.declared.Part.{Part}
 
 -- ---- elements
 
 -- where an element ends, or goes wrong
-abbrev pub step_stop : Step → ℕ
-step_stop (Next e) = after e
-step_stop (Stop p) = p
+abbrev pub step_stop : Result Element ℕ → ℕ
+step_stop (Ok e) = after e
+step_stop (Err p) = p
 
 -- what makes an element whole that ends too soon
-pub record StepRest (F : List ℕ → Step) (s : List ℕ) : Type 0 where
+pub record StepRest (F : List ℕ → Result Element ℕ) (s : List ℕ) : Type 0 where
   pub tail : List ℕ
   pub element : Element
-  pub whole : F (s ++ tail) ≡ Next element
+  pub whole : F (s ++ tail) ≡ Ok element
   pub ends : after element ≡ length s + length tail
 
 -- an element in a line, as `Modifies` says of a modifier
-pub record Steps (s : List ℕ) (at : ℕ) (F : List ℕ → Step) : Type 0 where
+pub record Steps (s : List ℕ) (at : ℕ) (F : List ℕ → Result Element ℕ) : Type 0 where
   pub low : at ≤ step_stop (F s)
   pub high : step_stop (F s) ≤ length s
   pub firm : (m : List ℕ) → step_stop (F s) < length s → F (s ++ m) ≡ F s
-  pub rest : F s ≡ Stop (length s) → StepRest F s
+  pub rest : F s ≡ Err (length s) → StepRest F s
 
 -- what reads as another element, in this line and with more
-steps-as : (s : List ℕ) (at : ℕ) (F G : List ℕ → Step) → ((m : List ℕ) → F (s ++ m) ≡ G (s ++ m)) → Steps s at G → Steps s at F
+steps-as : (s : List ℕ) (at : ℕ) (F G : List ℕ → Result Element ℕ) → ((m : List ℕ) → F (s ++ m) ≡ G (s ++ m)) → Steps s at G → Steps s at F
 steps-as s at F G f g =
     let e : F s ≡ G s = rw append-nil at (f []) in
     record {
@@ -71,22 +67,22 @@ module _ (s : List ℕ) (at : ℕ) (h : at < length s) where
   quoted-steps : Steps s at (λ t. quoted_from at (text_at t at))
   quoted-steps = go (text_at s at) refl (text-sits s at (omega arith))
     where
-      go : (x : Field) → text_at s at ≡ x → Sits s at x → Steps s at (λ t. quoted_from at (text_at t at))
-      go (Is n e) q k =
+      go : (x : Result (ℕ × ℕ) ℕ) → text_at s at ≡ x → Sits s at x → Steps s at (λ t. quoted_from at (text_at t at))
+      go (Ok (n, e)) q k =
           let i = text-ends s at n e q in
           record {
             low = rw q (omega arith);
             high = rw q i.1;
             firm = λ m l. ap (quoted_from at) (text-firm s m at (omega arith) (let z : at + (n + 2) < length s = rw q at l in rw q (omega arith)));
-            rest = λ y. absurd (let z : Next (record { what = Text; at = at; length = n + 2 }) ≡ Stop (length s) = rw q at y in let w : ◌≡◌ {A = ℕ} 0 1 = cc in omega arith);
+            rest = λ y. absurd (let z : Ok (record { what = Text; at = at; length = n + 2 }) ≡ Err (length s) = rw q at y in let w : ◌≡◌ {A = ℕ} 0 1 = cc in omega arith);
           }
-      go (Not p) q k =
+      go (Err p) q k =
           record {
             low = rw q k.0;
             high = rw q k.1;
             firm = λ m l. ap (quoted_from at) (text-firm s m at (omega arith) (let z : p < length s = rw q at l in rw q z));
             rest = λ y.
-                let z : Stop p ≡ Stop (length s) = rw q at y in
+                let z : Err p ≡ Err (length s) = rw q at y in
                 let w : p ≡ length s = cc in
                 let r = text-rest s at h (rw w at q) in
                 let t = rw append-nil at (r.whole [] nothing) in
@@ -101,7 +97,7 @@ module _ (s : List ℕ) (at : ℕ) (h : at < length s) where
   held-digit counter t e = rw e
 
   -- no digit follows the letter
-  pub held-other : (counter : Bool) (t : List ℕ) → between (code "0") (code "9") (get_or t (at + 1) 0) ≡ false → held_at counter t at ≡ Stop (pointed t at (at + 1))
+  pub held-other : (counter : Bool) (t : List ℕ) → between (code "0") (code "9") (get_or t (at + 1) 0) ≡ false → held_at counter t at ≡ Err (pointed t at (at + 1))
   unfolding held_at
   held-other counter t e = rw e
 
@@ -115,8 +111,8 @@ module _ (s : List ℕ) (at : ℕ) (h : at < length s) where
       a : Modifies s (at + 2) (λ t. modifier_at t (at + 2))
       a = modifier-modifies s (at + 2) (omega arith)
 
-      go : (x : Modifier) → modifier_at s (at + 2) ≡ x → Steps s at (λ t. modified counter (get_or s (at + 1) 0) t at (modifier_at t (at + 2)))
-      go (Takes p e) q =
+      go : (x : Result (Part × ℕ) ℕ) → modifier_at s (at + 2) ≡ x → Steps s at (λ t. modified counter (get_or s (at + 1) 0) t at (modifier_at t (at + 2)))
+      go (Ok (p, e)) q =
           let l : at + 2 ≤ e = rw q at a.low in
           let k : e ≤ length s = rw q at a.high in
           record {
@@ -125,7 +121,7 @@ module _ (s : List ℕ) (at : ℕ) (h : at < length s) where
             firm = λ m z. let y = rw q at z in rw (a.firm m (rw q (omega arith)), q);
             rest = λ z. absurd (let y = rw q at z in let w : ◌≡◌ {A = ℕ} 0 1 = cc in omega arith);
           }
-      go (Wrong p) q = pick (dec_lt p (length s))
+      go (Err p) q = pick (dec_lt p (length s))
         where
           k : p ≤ length s
           k = rw q at a.high
@@ -136,7 +132,7 @@ module _ (s : List ℕ) (at : ℕ) (h : at < length s) where
                 low = rw (q, lt-ltb p (length s) l) (omega arith);
                 high = rw (q, lt-ltb p (length s) l) (omega arith);
                 firm = λ m z. rw (a.firm m (rw q l), q, lt-ltb p (length s) l, lt-ltb p (length (s ++ m)) (longer s m p l));
-                rest = λ z. absurd (let y : Stop at ≡ Stop (length s) = rw (q, lt-ltb p (length s) l) at z in let w : at ≡ length s = cc in omega arith);
+                rest = λ z. absurd (let y : Err at ≡ Err (length s) = rw (q, lt-ltb p (length s) l) at z in let w : at ≡ length s = cc in omega arith);
               }
           pick (no l) =
               record {
@@ -156,7 +152,7 @@ module _ (s : List ℕ) (at : ℕ) (h : at < length s) where
   held_steps : (counter : Bool) → Steps s at (λ t. held_at counter t at)
   held_steps counter = go (between (code "0") (code "9") (get_or s (at + 1) 0)) refl (dec_lt (at + 1) (length s))
     where
-      one : at + 1 ≡ length s → held_at counter (s ++ (code "1" ∷ [])) at ≡ Next (record { what = held_from counter (code "1") Whole; at = at; length = at + 2 - at })
+      one : at + 1 ≡ length s → held_at counter (s ++ (code "1" ∷ [])) at ≡ Ok (record { what = held_from counter (code "1") Whole; at = at; length = at + 2 - at })
       one l =
           let t : List ℕ = s ++ (code "1" ∷ []) in
           let g : get_or t (at + 1) 0 ≡ code "1" = rw l (get_or-append_seam s (code "1") [] 0) in
@@ -168,9 +164,9 @@ module _ (s : List ℕ) (at : ℕ) (h : at < length s) where
       go true e (yes l) = digit-steps counter l e
       go true e (no l) = absurd (no_digit (rw (past s (at + 1) (omega arith)) at e))
       go false e (yes l) =
-          let z : (m : List ℕ) → held_at counter (s ++ m) at ≡ Stop at =
+          let z : (m : List ℕ) → held_at counter (s ++ m) at ≡ Err at =
           (λ m. held-other counter (s ++ m) (rw (get_or-append s m 0 (at + 1) l) e) ∙ rw (lt-ltb (at + 1) (length (s ++ m)) (longer s m (at + 1) l))) in
-          let y : held_at counter s at ≡ Stop at = rw append-nil at (z []) in
+          let y : held_at counter s at ≡ Err at = rw append-nil at (z []) in
           record {
             low = rw y (omega arith);
             high = rw y (omega arith);
@@ -178,7 +174,7 @@ module _ (s : List ℕ) (at : ℕ) (h : at < length s) where
             rest = λ k. absurd (let w : at ≡ length s = cc in omega arith);
           }
       go false e (no l) =
-          let y : held_at counter s at ≡ Stop (at + 1) = held-other counter s e ∙ rw (le-ltb (at + 1) (length s) (omega arith)) in
+          let y : held_at counter s at ≡ Err (at + 1) = held-other counter s e ∙ rw (le-ltb (at + 1) (length s) (omega arith)) in
           record {
             low = rw y (omega arith);
             high = rw y (omega arith);
@@ -201,7 +197,7 @@ module _ (s : List ℕ) (at : ℕ) (h : at < length s) where
   unfolding stamped_at
   stamped-time t e = rw e
 
-  stamped-other : (t : List ℕ) → (get_or t (at + 1) 0 ≡ code "D" → ⊥) → (get_or t (at + 1) 0 ≡ code "T" → ⊥) → stamped_at t at ≡ Stop (pointed t at (at + 1))
+  stamped-other : (t : List ℕ) → (get_or t (at + 1) 0 ≡ code "D" → ⊥) → (get_or t (at + 1) 0 ≡ code "T" → ⊥) → stamped_at t at ≡ Err (pointed t at (at + 1))
   unfolding stamped_at
   stamped-other t a b = rw (ne_eqb (get_or t (at + 1) 0) (code "D") a, ne_eqb (get_or t (at + 1) 0) (code "T") b)
 
@@ -223,9 +219,9 @@ module _ (s : List ℕ) (at : ℕ) (h : at < length s) where
       go (yes l) (yes d) t = there Date l (λ m. stamped-date (s ++ m) (byte-kept s m (at + 1) l (code "D") d))
       go (yes l) (no d) (yes t) = there Time l (λ m. stamped-time (s ++ m) (byte-kept s m (at + 1) l (code "T") t))
       go (yes l) (no d) (no t) =
-          let z : (m : List ℕ) → stamped_at (s ++ m) at ≡ Stop at =
+          let z : (m : List ℕ) → stamped_at (s ++ m) at ≡ Err at =
           (λ m. stamped-other (s ++ m) (byte-other s m (at + 1) l (code "D") d) (byte-other s m (at + 1) l (code "T") t) ∙ rw (lt-ltb (at + 1) (length (s ++ m)) (longer s m (at + 1) l))) in
-          let y : stamped_at s at ≡ Stop at = rw append-nil at (z []) in
+          let y : stamped_at s at ≡ Err at = rw append-nil at (z []) in
           record {
             low = rw y (omega arith);
             high = rw y (omega arith);
@@ -234,7 +230,7 @@ module _ (s : List ℕ) (at : ℕ) (h : at < length s) where
           }
       go (no l) d t =
           let e = past s (at + 1) (omega arith) in
-          let y : stamped_at s at ≡ Stop (at + 1) = stamped-other s (λ q. omega arith) (λ q. omega arith) ∙ rw (le-ltb (at + 1) (length s) (omega arith)) in
+          let y : stamped_at s at ≡ Err (at + 1) = stamped-other s (λ q. omega arith) (λ q. omega arith) ∙ rw (le-ltb (at + 1) (length s) (omega arith)) in
           let n : at + 1 ≡ length s = omega arith in
           record {
             low = rw y (omega arith);
@@ -269,7 +265,7 @@ module _ (t : List ℕ) (at : ℕ) where
   element-stamped h = rw h
 
   -- no other byte starts an element
-  pub element-none : (get_or t at 0 ≡ code "\"" → ⊥) → (get_or t at 0 ≡ code "V" → ⊥) → (get_or t at 0 ≡ code "C" → ⊥) → (get_or t at 0 ≡ code "T" → ⊥) → element_at t at ≡ Stop at
+  pub element-none : (get_or t at 0 ≡ code "\"" → ⊥) → (get_or t at 0 ≡ code "V" → ⊥) → (get_or t at 0 ≡ code "C" → ⊥) → (get_or t at 0 ≡ code "T" → ⊥) → element_at t at ≡ Err at
   unfolding element_at
   element-none a b c d =
       rw (ne_eqb (get_or t at 0) (code "\"") a, ne_eqb (get_or t at 0) (code "V") b, ne_eqb (get_or t at 0) (code "C") c, ne_eqb (get_or t at 0) (code "T") d)
@@ -285,7 +281,7 @@ element-steps s at h =
     go (no a) (no b) (yes e) d = steps-as s at (λ t. element_at t at) (λ t. held_at true t at) (λ m. element-counter (s ++ m) at (byte-kept s m at h (code "C") e)) (held_steps s at h true)
     go (no a) (no b) (no c) (yes e) = steps-as s at (λ t. element_at t at) (λ t. stamped_at t at) (λ m. element-stamped (s ++ m) at (byte-kept s m at h (code "T") e)) (stamped-steps s at h)
     go (no a) (no b) (no c) (no d) =
-        let z : (m : List ℕ) → element_at (s ++ m) at ≡ Stop at =
+        let z : (m : List ℕ) → element_at (s ++ m) at ≡ Err at =
         (λ m. element-none (s ++ m) at (byte-other s m at h (code "\"") a) (byte-other s m at h (code "V") b) (byte-other s m at h (code "C") c) (byte-other s m at h (code "T") d)) in
         let y = element-none s at a b c d in
         record {

@@ -1,4 +1,5 @@
 -- The letters of a command, in a line to which more is added: three bytes decide, of two bytes LS alone may go on, and of one byte all is computed.
+use Rattle.std.proofs.Common.{None, Result, Ok, Err}
 use mathlib.Core.Path.{◌≡◌, refl}
 use mathlib.Core.Bool.{Bool, true, false, cond, ◌&&◌, not, and-false, and-eq-true_iff, true≢false}
 use mathlib.Core.List.{List, [], ◌∷◌, ◌++◌}
@@ -10,6 +11,8 @@ use native.Mathlib.Decide.{ℕ_discrete}
 use lib.Dec.{T, eqb, eqb→eq, eqb-zero-suc}
 use lib.ListN.{length, get_or}
 use borrow.Author.Tests.{eqb-true, ne_eqb}
+use Rattle.read.specs.declared.Fault.{Fault}
+use Rattle.grammar.specs.declared.Command.{Command}
 use Rattle.kinds.specs.Bytes.{between}
 use Rattle.kinds.specs.Text.{bytes}
 use Rattle.classes.specs.Bytes.{run}
@@ -23,13 +26,10 @@ use Rattle.grammar.specs.Forms.{Form, forms, spread, in_order}
 use Rattle.grammar.proofs.Rows.{every}
 use Rattle.heads.specs.Heads.{letters_of, begins, find, head_by, head_of, letters_cut, letters_fault}
 use Rattle.heads.proofs.Fault.{fault-first, fault-no-line, fault-no-slant}
-use Rattle.heads.specs.declared.Head.TheVariants.{Unknown}
 use Rattle.row_fields.specs.Reading.{fields_from}
 use Rattle.row_limits.specs.Limits.{meets, field_limits, limits_from}
 use Rattle.read.specs.Commands.{read_of, headed, judged}
 use Rattle.read.specs.declared.Fault.TheVariants.{Form as form, Limit}
-use Rattle.read.specs.declared.Read.{Read}
-use Rattle.read.specs.declared.Read.TheVariants.{Taken, Refused}
 use Rattle.pointing.specs.Soon.{is_written, EndsTooSoon}
 
 -- ---- two bytes and more
@@ -95,12 +95,12 @@ begins-none : (n a : ℕ) (l g : List ℕ) → eqb a (get_or g 0 0) ≡ false �
 begins-none n a l [] e = rw (eqb-zero-suc n)
 begins-none n a l (x ∷ xs) e = rw (e, and-false)
 
-find_none : (n a i : ℕ) (l : List ℕ) (fs : List Form) → T (unused a fs) → find (suc n) fs i (a ∷ l) ≡ Unknown
+find_none : (n a i : ℕ) (l : List ℕ) (fs : List Form) → T (unused a fs) → find (suc n) fs i (a ∷ l) ≡ None
 unfolding find
 find_none n a i l [] h = refl
 find_none n a i l (f ∷ fs) h = let x = unused-first a f fs h in rw (begins-none n a l f.fields x.0) (find_none n a (suc i) l fs x.1)
 
-head-none : (a : ℕ) (l : List ℕ) → T (unused a forms) → head_of (a ∷ l) ≡ Unknown
+head-none : (a : ℕ) (l : List ℕ) → T (unused a forms) → head_of (a ∷ l) ≡ None
 unfolding head_of head_by
 head-none a l h =
     let m : List ℕ = get_or l 0 0 ∷ (get_or l 1 0 ∷ []) in
@@ -138,10 +138,10 @@ rest_of [] a = []
 rest_of (x ∷ xs) a = cond (eqb a x.0) x.1 (rest_of xs a)
 
 -- where a line of one byte has not the written form, the byte behind it is at fault
-abbrev behind_one : Read → Bool
-behind_one (Taken c) = true
-behind_one (Refused (form p)) = eqb p 1
-behind_one (Refused (Limit p)) = true
+abbrev behind_one : Result Command Fault → Bool
+behind_one (Ok c) = true
+behind_one (Err (form p)) = eqb p 1
+behind_one (Err (Limit p)) = true
 
 -- a line of one byte with its rest, and without it
 abbrev starts : ℕ → ℕ → Bool
@@ -170,8 +170,8 @@ T_true false h = absurd h
 
 -- a line of one byte: some well-formed line starts with it and its LF is at fault, where it is refused; or nothing that starts with it is a command
 pub data One (rows a : ℕ) : Type 0 where
-  begun : EndsTooSoon rows (a ∷ []) → ((p : ℕ) → read_of rows (a ∷ []) ≡ Refused (form p) → p ≡ 1) → One rows a
-  never : letters_fault (a ∷ []) ≡ 0 → ((l : List ℕ) → head_of (a ∷ l) ≡ Unknown) → One rows a
+  begun : EndsTooSoon rows (a ∷ []) → ((p : ℕ) → read_of rows (a ∷ []) ≡ Err (form p) → p ≡ 1) → One rows a
+  never : letters_fault (a ∷ []) ≡ 0 → ((l : List ℕ) → head_of (a ∷ l) ≡ None) → One rows a
 
 -- every byte is one of the two
 pub one_byte : (rows a : ℕ) → One rows a

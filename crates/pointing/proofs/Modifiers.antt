@@ -1,4 +1,5 @@
 -- Modifiers in a line to which more is added.
+use Rattle.std.specs.Prelude.{Result, Ok, Err}
 use mathlib.Core.Path.{◌≡◌, ◌∙◌, refl, sym, ap}
 use mathlib.Core.List.{List, [], ◌∷◌, ◌++◌, append-nil, append_assoc}
 use Prim.Native.Nat.{ℕ, ◌+◌, ◌≤◌, ◌<◌}
@@ -10,14 +11,10 @@ use borrow.Author.Tests.{ne_eqb}
 use Rattle.kinds.specs.Bytes.{between}
 use Rattle.classes.proofs.Laws.{inside}
 use Rattle.fields.specs.Field.{byte_at}
-use Rattle.fields.specs.declared.Field.{Field}
-use Rattle.fields.specs.declared.Field.TheVariants.{Is, Not}
 use Rattle.numbers.specs.Number.{number_at}
 use Rattle.elements.specs.Elements.{first, last, middle, middle-dot, middle-n, modifier_at}
 use Rattle.elements.specs.declared.Part.{Part}
 use Rattle.elements.specs.declared.Part.TheVariants.{Whole, First, Last, Middle}
-use Rattle.elements.specs.declared.Modifier.{Modifier}
-use Rattle.elements.specs.declared.Modifier.TheVariants.{Takes, Wrong}
 use Rattle.pointing.proofs.Runs.{byte-kept, byte-other}
 use Rattle.pointing.proofs.Pieces.{Sits}
 use Rattle.pointing.proofs.Numbers.{number-sits, number-firm, number-not, number-over, number-one}
@@ -26,44 +23,44 @@ use Rattle.pointing.proofs.Texts.{byte-sits, byte-stays, byte_one}
 -- ---- `Ln`, `Rn` and `Mp.n`, behind the letter
 
 -- where a modifier ends, or goes wrong
-abbrev pub modifier_stop : Modifier → ℕ
-modifier_stop (Takes p e) = e
-modifier_stop (Wrong q) = q
+abbrev pub modifier_stop : Result (Part × ℕ) ℕ → ℕ
+modifier_stop (Ok (p, e)) = e
+modifier_stop (Err q) = q
 
 -- what makes a modifier whole that ends too soon
-pub record ModifierRest (F : List ℕ → Modifier) (s : List ℕ) : Type 0 where
+pub record ModifierRest (F : List ℕ → Result (Part × ℕ) ℕ) (s : List ℕ) : Type 0 where
   pub tail : List ℕ
   pub part : Part
-  pub whole : F (s ++ tail) ≡ Takes part (length s + length tail)
+  pub whole : F (s ++ tail) ≡ Ok (part, length s + length tail)
 
 -- what a modifier says of the number that it ends with
-data Ends (at : ℕ) (f : Field → Modifier) : Type 0 where
-  ends : (g : ℕ → Part) → ((n e : ℕ) → f (Is n e) ≡ Takes (g n) e) → ((p : ℕ) → f (Not p) ≡ Wrong at) → Ends at f
+data Ends (at : ℕ) (f : Result (ℕ × ℕ) ℕ → Result (Part × ℕ) ℕ) : Type 0 where
+  ends : (g : ℕ → Part) → ((n e : ℕ) → f (Ok (n, e)) ≡ Ok (g n, e)) → ((p : ℕ) → f (Err p) ≡ Err at) → Ends at f
 
 -- a modifier in a line: it stops within the line; stays, where it stops before the end; and can be made whole, where the line cuts it off
-pub record Modifies (s : List ℕ) (at : ℕ) (F : List ℕ → Modifier) : Type 0 where
+pub record Modifies (s : List ℕ) (at : ℕ) (F : List ℕ → Result (Part × ℕ) ℕ) : Type 0 where
   pub low : at ≤ modifier_stop (F s)
   pub high : modifier_stop (F s) ≤ length s
   pub firm : (m : List ℕ) → modifier_stop (F s) < length s → F (s ++ m) ≡ F s
-  pub rest : (q : ℕ) → F s ≡ Wrong q → q ≡ length s → ModifierRest F s
+  pub rest : (q : ℕ) → F s ≡ Err q → q ≡ length s → ModifierRest F s
 
 module _ (s : List ℕ) (at : ℕ) (h : at ≤ length s) where
   -- a number alone
-  number-modifies : (f : Field → Modifier) → Ends at f → Modifies s at (λ t. f (number_at t at))
+  number-modifies : (f : Result (ℕ × ℕ) ℕ → Result (Part × ℕ) ℕ) → Ends at f → Modifies s at (λ t. f (number_at t at))
   number-modifies f (ends g a b) = go (number_at s at) refl (number-sits s at h)
     where
-      go : (x : Field) → number_at s at ≡ x → Sits s at x → Modifies s at (λ t. f (number_at t at))
-      go (Is n e) q k =
-          let z : f (number_at s at) ≡ Takes (g n) e = rw q (a n e) in
+      go : (x : Result (ℕ × ℕ) ℕ) → number_at s at ≡ x → Sits s at x → Modifies s at (λ t. f (number_at t at))
+      go (Ok (n, e)) q k =
+          let z : f (number_at s at) ≡ Ok (g n, e) = rw q (a n e) in
           record {
             low = rw z (omega arith);
             high = rw z k.1;
             firm = λ m l. ap f (number-firm s m at h (let y = rw z at l in rw q y));
             rest = λ p y i. absurd (let w : ◌≡◌ {A = ℕ} 0 1 = cc in omega arith);
           }
-      go (Not p) q k =
+      go (Err p) q k =
           let i = number-not s at p q in
-          let z : f (number_at s at) ≡ Wrong at = rw q (b p) in
+          let z : f (number_at s at) ≡ Err at = rw q (b p) in
           record {
             low = rw z (omega arith);
             high = rw z h;
@@ -74,7 +71,7 @@ module _ (s : List ℕ) (at : ℕ) (h : at ≤ length s) where
           }
 
   -- what reads as another modifier, in this line and with more
-  modifies-as : (b : ℕ) (F G : List ℕ → Modifier) → at ≤ b → ((m : List ℕ) → F (s ++ m) ≡ G (s ++ m)) → Modifies s b G → Modifies s at F
+  modifies-as : (b : ℕ) (F G : List ℕ → Result (Part × ℕ) ℕ) → at ≤ b → ((m : List ℕ) → F (s ++ m) ≡ G (s ++ m)) → Modifies s b G → Modifies s at F
   modifies-as b F G l f g =
       let e : F s ≡ G s = rw append-nil at (f []) in
       record {
@@ -86,7 +83,7 @@ module _ (s : List ℕ) (at : ℕ) (h : at ≤ length s) where
 
 -- `.n` behind s, and `p.n`
 dot-one : (p : ℕ) (s : List ℕ) → middle-dot p (s ++ (code "." ∷ (code "1" ∷ []))) (length s) (byte_at (code ".") (s ++ (code "." ∷ (code "1" ∷ []))) (length s))
-    ≡ Takes (Middle p 1) (length s + 2)
+    ≡ Ok (Middle p 1, length s + 2)
 dot-one p s =
     let a = byte_one (code ".") s (code "1" ∷ []) in
     let l : length (s ++ (code "." ∷ [])) ≡ length s + 1 = simp length-append in
@@ -94,7 +91,7 @@ dot-one p s =
     let e : length s + 1 + 1 ≡ length s + 2 = omega arith in
     rw (a, b, e)
 
-middle-one : (s : List ℕ) → (let t : List ℕ = s ++ (code "1" ∷ (code "." ∷ (code "1" ∷ []))) in middle t (length s) (number_at t (length s)) ≡ Takes (Middle 1 1) (length s + 3))
+middle-one : (s : List ℕ) → (let t : List ℕ = s ++ (code "1" ∷ (code "." ∷ (code "1" ∷ []))) in middle t (length s) (number_at t (length s)) ≡ Ok (Middle 1 1, length s + 3))
 middle-one s =
     let a = number-one s (code "." ∷ (code "1" ∷ [])) (unfold between in refl) in
     let l : length (s ++ (code "1" ∷ [])) ≡ length s + 1 = simp length-append in
@@ -106,14 +103,14 @@ module _ (s : List ℕ) (at : ℕ) (h : at ≤ length s) where
   middle-modifies : Modifies s at (λ t. middle t at (number_at t at))
   middle-modifies = go (number_at s at) refl (number-sits s at h)
     where
-      dot : (p e : ℕ) → number_at s at ≡ Is p e → at < e → e ≤ length s → (y : Field) → byte_at (code ".") s e ≡ y → Sits s e y
+      dot : (p e : ℕ) → number_at s at ≡ Ok (p, e) → at < e → e ≤ length s → (y : Result (ℕ × ℕ) ℕ) → byte_at (code ".") s e ≡ y → Sits s e y
           → Modifies s at (λ t. middle t at (number_at t at))
-      dot p e q i j (Is d c) r k =
+      dot p e q i j (Ok (d, c)) r k =
           modifies-as s at h c (λ t. middle t at (number_at t at)) (λ t. middle-n p c (number_at t c)) (omega arith)
           (λ m. rw (number-firm s m at h (rw q (omega arith)), q, byte-stays (code ".") s m e (omega arith), r))
           (number-modifies s c k.1 (middle-n p c) (ends (Middle p) (λ n u. refl) (λ u. refl)))
-      dot p e q i j (Not c) r k =
-          let z : middle s at (number_at s at) ≡ Wrong e = rw (q, r) in
+      dot p e q i j (Err c) r k =
+          let z : middle s at (number_at s at) ≡ Err e = rw (q, r) in
           record {
             low = rw z (omega arith);
             high = rw z j;
@@ -129,11 +126,11 @@ module _ (s : List ℕ) (at : ℕ) (h : at ≤ length s) where
                 };
           }
 
-      go : (x : Field) → number_at s at ≡ x → Sits s at x → Modifies s at (λ t. middle t at (number_at t at))
-      go (Is p e) q k = dot p e q k.0 k.1 (byte_at (code ".") s e) refl (byte-sits (code ".") s e k.1)
-      go (Not p) q k =
+      go : (x : Result (ℕ × ℕ) ℕ) → number_at s at ≡ x → Sits s at x → Modifies s at (λ t. middle t at (number_at t at))
+      go (Ok (p, e)) q k = dot p e q k.0 k.1 (byte_at (code ".") s e) refl (byte-sits (code ".") s e k.1)
+      go (Err p) q k =
           let i = number-not s at p q in
-          let z : middle s at (number_at s at) ≡ Wrong at = rw q in
+          let z : middle s at (number_at s at) ≡ Err at = rw q in
           record {
             low = rw z (omega arith);
             high = rw z h;
@@ -157,7 +154,7 @@ module _ (t : List ℕ) (at : ℕ) where
   unfolding modifier_at
   modifier-middle h = rw h
 
-  pub modifier-none : (get_or t at 0 ≡ code "L" → ⊥) → (get_or t at 0 ≡ code "R" → ⊥) → (get_or t at 0 ≡ code "M" → ⊥) → modifier_at t at ≡ Takes Whole at
+  pub modifier-none : (get_or t at 0 ≡ code "L" → ⊥) → (get_or t at 0 ≡ code "R" → ⊥) → (get_or t at 0 ≡ code "M" → ⊥) → modifier_at t at ≡ Ok (Whole, at)
   unfolding modifier_at
   modifier-none a b c = rw (ne_eqb (get_or t at 0) (code "L") a, ne_eqb (get_or t at 0) (code "R") b, ne_eqb (get_or t at 0) (code "M") c)
 

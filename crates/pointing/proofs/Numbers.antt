@@ -1,4 +1,5 @@
 -- Numbers in a line to which more is added.
+use Rattle.std.specs.Prelude.{Ok, Err, Result}
 use mathlib.Core.Path.{◌≡◌, ◌∙◌, refl}
 use mathlib.Core.Bool.{Bool, true, false, cond, ◌&&◌}
 use mathlib.Core.List.{List, [], ◌∷◌, ◌++◌}
@@ -14,7 +15,6 @@ use Rattle.kinds.specs.Bytes.{between}
 use Rattle.classes.specs.Bytes.{in_class, run, part, run_at}
 use Rattle.classes.specs.declared.Class.TheVariants.{Digit}
 use Rattle.fields.specs.Field.{stop_of}
-use Rattle.fields.specs.declared.Field.TheVariants.{Is, Not}
 use Rattle.numbers.specs.Number.{value_from, number_at}
 use Rattle.numbers.proofs.Laws.{number-long}
 use Rattle.pointing.proofs.Runs.{run_none, over, stays, grows, room}
@@ -26,7 +26,7 @@ unfolding number_at
 number-sits s at h = go (leb 1 (run_at Digit s at)) (leb (run_at Digit s at) 9) refl
   where
     go : (a b : Bool) → leb 1 (run_at Digit s at) ≡ a
-        → Sits s at (cond (a && b) (Is (value_from 0 (part s at (run_at Digit s at))) (at + run_at Digit s at)) (Not at))
+        → Sits s at (cond (a && b) (Ok (value_from 0 (part s at (run_at Digit s at)), at + run_at Digit s at)) (Err at))
     go true true e = let l = leb-true 1 (run_at Digit s at) e in let r = room Digit s at h in (omega arith, omega arith)
     go true false e = (omega arith, h)
     go false b e = (omega arith, h)
@@ -49,8 +49,8 @@ unfolding number_at
 number-firm s m at h k = go (dec_lt (at + run_at Digit s at) (length s))
   where
     near : (a b : Bool) → leb 1 (run_at Digit s at) ≡ a → leb (run_at Digit s at) 9 ≡ b → length s ≤ at + run_at Digit s at
-        → stop_of (cond (a && b) (Is (value_from 0 (part s at (run_at Digit s at))) (at + run_at Digit s at)) (Not at)) < length s
-        → number_at (s ++ m) at ≡ cond (a && b) (Is (value_from 0 (part s at (run_at Digit s at))) (at + run_at Digit s at)) (Not at)
+        → stop_of (cond (a && b) (Ok (value_from 0 (part s at (run_at Digit s at)), at + run_at Digit s at)) (Err at)) < length s
+        → number_at (s ++ m) at ≡ cond (a && b) (Ok (value_from 0 (part s at (run_at Digit s at)), at + run_at Digit s at)) (Err at)
     near true true p q l k = absurd (omega arith)
     near true false p q l k =
         let n = leb-false (run_at Digit s at) 9 q in
@@ -63,16 +63,16 @@ number-firm s m at h k = go (dec_lt (at + run_at Digit s at) (length s))
     go (no l) = near (leb 1 (run_at Digit s at)) (leb (run_at Digit s at) 9) refl refl (omega arith) k
 
 -- where no number is its first byte is at fault
-pub number-not : (s : List ℕ) (at p : ℕ) → number_at s at ≡ Not p → p ≡ at
+pub number-not : (s : List ℕ) (at p : ℕ) → number_at s at ≡ Err p → p ≡ at
 unfolding number_at
 number-not s at p h = go (leb 1 (run_at Digit s at) && leb (run_at Digit s at) 9) h
   where
-    go : (t : Bool) → cond t (Is (value_from 0 (part s at (run_at Digit s at))) (at + run_at Digit s at)) (Not at) ≡ Not p → p ≡ at
+    go : (t : Bool) → cond {A = Result (ℕ × ℕ) ℕ} t (Ok (value_from 0 (part s at (run_at Digit s at)), at + run_at Digit s at)) (Err at) ≡ Err p → p ≡ at
     go true k = absurd (let z : ◌≡◌ {A = ℕ} 0 1 = cc in omega arith)
     go false k = cc
 
 -- a digit behind s, and no other
-pub number-one : (s m : List ℕ) → in_class Digit (get_or m 0 0) ≡ false → number_at (s ++ (code "1" ∷ m)) (length s) ≡ Is 1 (length s + 1)
+pub number-one : (s m : List ℕ) → in_class Digit (get_or m 0 0) ≡ false → number_at (s ++ (code "1" ∷ m)) (length s) ≡ Ok (1, length s + 1)
 unfolding number_at run between value_from
 number-one s m k = let n = run_none Digit m k in rw (drop-append_seam s (code "1" ∷ m), n)
 

@@ -1,4 +1,5 @@
 -- What is asked of the fields of a row, and that it holds of a row's first field and the others where it holds of the others.
+use Rattle.std.specs.Prelude.{Result, Ok, Err}
 use mathlib.Core.Path.{◌≡◌, ◌∙◌, refl, sym, ap}
 use mathlib.Core.Bool.{Bool, true, false, cond}
 use mathlib.Core.List.{List, [], ◌∷◌, ◌++◌, append_assoc, append-nil}
@@ -9,8 +10,6 @@ use lib.Dec.{eqb}
 use lib.ListN.{length, length-append}
 use borrow.Author.Tests.{eq-eqb, ne_eqb, eqb-false}
 use Rattle.fields.specs.Field.{stop_of, byte_at}
-use Rattle.fields.specs.declared.Field.{Field}
-use Rattle.fields.specs.declared.Field.TheVariants.{Is, Not}
 use Rattle.reader.specs.Letters.{field_at}
 use Rattle.row_fields.specs.Reading.{Got, good, bad, ahead, next, fields_from}
 use Rattle.pointing.proofs.Runs.{longer}
@@ -43,8 +42,8 @@ faulty-behind v at p (bad vs ps q) h = h
 
 -- the fault is the first field's, or lies behind it
 pub data Where (f : ℕ) (fs s : List ℕ) (at p : ℕ) : Type 0 where
-  here : field_at f s at ≡ Not p → Where f fs s at p
-  later : (v e : ℕ) → field_at f s at ≡ Is v e → Faulty (fields_from fs s e) p → Where f fs s at p
+  here : field_at f s at ≡ Err p → Where f fs s at p
+  later : (v e : ℕ) → field_at f s at ≡ Ok (v, e) → Faulty (fields_from fs s e) p → Where f fs s at p
 
 module _ (f : ℕ) (fs s : List ℕ) (at : ℕ) where
   -- a fault of a row is the first field's or lies behind it
@@ -52,20 +51,20 @@ module _ (f : ℕ) (fs s : List ℕ) (at : ℕ) where
   unfolding fields_from
   where-of p h = go (field_at f s at) refl h
     where
-      go : (x : Field) → field_at f s at ≡ x → Faulty (next x (λ v e. ahead v at (fields_from fs s e))) p → Where f fs s at p
-      go (Is v e) q k = later v e q (faulty-behind v at p (fields_from fs s e) k)
-      go (Not i) q k = here (q ∙ ap Not k)
+      go : (x : Result (ℕ × ℕ) ℕ) → field_at f s at ≡ x → Faulty (next x (λ v e. ahead v at (fields_from fs s e))) p → Where f fs s at p
+      go (Ok (v, e)) q k = later v e q (faulty-behind v at p (fields_from fs s e) k)
+      go (Err i) q k = here (q ∙ ap Err k)
 
-  faulty-here : (p : ℕ) → field_at f s at ≡ Not p → Faulty (fields_from (f ∷ fs) s at) p
+  faulty-here : (p : ℕ) → field_at f s at ≡ Err p → Faulty (fields_from (f ∷ fs) s at) p
   unfolding fields_from
   faulty-here p h = rw h refl
 
-  faulty-later : (v e p : ℕ) → field_at f s at ≡ Is v e → Faulty (fields_from fs s e) p → Faulty (fields_from (f ∷ fs) s at) p
+  faulty-later : (v e p : ℕ) → field_at f s at ≡ Ok (v, e) → Faulty (fields_from fs s e) p → Faulty (fields_from (f ∷ fs) s at) p
   unfolding fields_from
   faulty-later v e p h k = rw h (faulty-ahead v at p (fields_from fs s e) k)
 
   -- the first field is there, and the others are
-  pub good-later : (v e : ℕ) → field_at f s at ≡ Is v e → Good (fields_from fs s e) → Good (fields_from (f ∷ fs) s at)
+  pub good-later : (v e : ℕ) → field_at f s at ≡ Ok (v, e) → Good (fields_from fs s e) → Good (fields_from (f ∷ fs) s at)
   unfolding fields_from
   good-later v e h k = rw h (good-ahead v at (fields_from fs s e) k)
 
@@ -122,8 +121,8 @@ module _ (f : ℕ) (fs filler : List ℕ) (P : Points fs filler) where
   sits-within s at p h k = go (where-of f fs s at p k)
     where
       go : Where f fs s at p → (at ≤ p) × (p ≤ length s)
-      go (here e) = let z : Sits s at (Not p) = rw e at h in z
-      go (later v e q r) = let z : Sits s at (Is v e) = rw q at h in let y = P.within s e p z.1 r in (omega arith, y.1)
+      go (here e) = let z : Sits s at (Err p) = rw e at h in z
+      go (later v e q r) = let z : Sits s at (Ok (v, e)) = rw q at h in let y = P.within s e p z.1 r in (omega arith, y.1)
 
   -- a fault before the end is there whatever follows
   pub firm-within : (s m : List ℕ) (at p : ℕ) → Sits s at (field_at f s at) → (stop_of (field_at f s at) < length s → field_at f (s ++ m) at ≡ field_at f s at)
@@ -133,20 +132,20 @@ module _ (f : ℕ) (fs filler : List ℕ) (P : Points fs filler) where
       go : Where f fs s at p → Faulty (fields_from (f ∷ fs) (s ++ m) at) p
       go (here e) = faulty-here f fs (s ++ m) at p (c (rw e l) ∙ e)
       go (later v e q r) =
-          let z : Sits s at (Is v e) = rw q at h in
+          let z : Sits s at (Ok (v, e)) = rw q at h in
           let y = P.within s e p z.1 r in
           let i : e < length s = omega arith in
           faulty-later f fs (s ++ m) at v e p (c (rw q i) ∙ q) (P.firm s m e p z.1 r l)
 
   -- the field with a tail, and then the others' filler
-  pub filled : (s tail : List ℕ) (at v : ℕ) → field_at f (s ++ (tail ++ filler)) at ≡ Is v (length s + length tail)
+  pub filled : (s tail : List ℕ) (at v : ℕ) → field_at f (s ++ (tail ++ filler)) at ≡ Ok (v, length s + length tail)
       → Good (fields_from (f ∷ fs) (s ++ (tail ++ filler)) at)
   filled s tail at v h =
       let g = rw (append_assoc s tail filler, length-append s tail) at (P.fills (s ++ tail)) in
       good-later f fs (s ++ (tail ++ filler)) at v (length s + length tail) h g
 
   -- the field stays, and the others are made whole
-  pub go_on : (s : List ℕ) (at v e : ℕ) → e ≤ length s → Faulty (fields_from fs s e) (length s) → ((m : List ℕ) → field_at f (s ++ m) at ≡ Is v e) → Finished (f ∷ fs) s at
+  pub go_on : (s : List ℕ) (at v e : ℕ) → e ≤ length s → Faulty (fields_from fs s e) (length s) → ((m : List ℕ) → field_at f (s ++ m) at ≡ Ok (v, e)) → Finished (f ∷ fs) s at
   go_on s at v e h k c =
       let r = P.soon s e h k in
       record { more = r.more; whole = good-later f fs (s ++ r.more) at v e (c r.more) r.whole }
@@ -171,7 +170,7 @@ points-byte f fs filler same P =
         go : Where f fs s at (length s) → Finished (f ∷ fs) s at
         go (here e) = let z = byte-not f s at (length s) (sym (same s at) ∙ e) in record { more = f ∷ filler; whole = rw (← z) (blank s) }
         go (later v e q r) =
-            let z : Sits s at (Is v e) = rw (← same s at, q) at ((byte-piece f).sits s at h) in
+            let z : Sits s at (Ok (v, e)) = rw (← same s at, q) at ((byte-piece f).sits s at h) in
             let l : at < length s = omega arith in
             go_on f fs filler P s at v e z.1 r (λ m. same (s ++ m) at ∙ byte-stays f s m at l ∙ sym (same s at) ∙ q)
 
@@ -189,14 +188,14 @@ points-field f fs filler F P x =
     blank s = filled f fs filler P s F.blank (length s) F.value (F.empty s filler x)
 
     -- it ends with the line
-    ended : (s m : List ℕ) (at v : ℕ) → at ≤ length s → field_at f s at ≡ Is v (length s) → Ended m → field_at f (s ++ m) at ≡ Is v (length s)
+    ended : (s m : List ℕ) (at v : ℕ) → at ≤ length s → field_at f s at ≡ Ok (v, length s) → Ended m → field_at f (s ++ m) at ≡ Ok (v, length s)
     ended s m at v h e nothing = rw (append-nil s) e
     ended s m at v h e (comma l) = F.ends s l at v h e
 
     soon : (s : List ℕ) (at : ℕ) → at ≤ length s → Faulty (fields_from (f ∷ fs) s at) (length s) → Finished (f ∷ fs) s at
     soon s at h k = go (where-of f fs s at (length s) k) (dec_lt at (length s))
       where
-        on : (v e : ℕ) → field_at f s at ≡ Is v e → Faulty (fields_from fs s e) (length s) → e ≤ length s → Dec (e < length s) → Finished (f ∷ fs) s at
+        on : (v e : ℕ) → field_at f s at ≡ Ok (v, e) → Faulty (fields_from fs s e) (length s) → e ≤ length s → Dec (e < length s) → Finished (f ∷ fs) s at
         on v e q r i (yes l) = go_on f fs filler P s at v e i r (λ m. F.piece.firm s m at h (rw q l) ∙ q)
         on v e q r i (no l) =
             let n : e ≡ length s = omega arith in
@@ -208,7 +207,7 @@ points-field f fs filler F P x =
             let r = F.rest s at l e in
             record { more = r.tail ++ filler; whole = filled f fs filler P s r.tail at r.value (r.whole filler x) }
         go (here e) (no l) = let z : at ≡ length s = omega arith in record { more = F.blank ++ filler; whole = rw z (blank s) }
-        go (later v e q r) d = let z : Sits s at (Is v e) = rw q at (F.piece.sits s at h) in on v e q r z.1 (dec_lt e (length s))
+        go (later v e q r) d = let z : Sits s at (Ok (v, e)) = rw q at (F.piece.sits s at h) in on v e q r z.1 (dec_lt e (length s))
 
 -- a field that runs to the end of its line, at the end of a row
 pub points-last : (f : ℕ) (filler : List ℕ) → Last (field_at f) filler → Points (f ∷ []) filler

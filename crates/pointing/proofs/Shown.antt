@@ -1,11 +1,10 @@
 -- The format of the date or of the time, in a line to which more is added.
+use Rattle.std.specs.Prelude.{Result, Ok, Err}
 use mathlib.Core.Path.{◌≡◌, refl}
 use mathlib.Core.List.{List}
 use Prim.Native.Nat.{ℕ, ◌≤◌}
 use native.Mathlib.Omega.{arith}
 use lib.ListN.{length}
-use Rattle.fields.specs.declared.Field.{Field}
-use Rattle.fields.specs.declared.Field.TheVariants.{Is, Not}
 use Rattle.formats.specs.declared.Stamp.{Stamp}
 use Rattle.formats.specs.Formats.{packed}
 use Rattle.format_field.specs.Reading.{format_field}
@@ -15,9 +14,9 @@ use Rattle.pointing.proofs.Pieces.{Sits, Last}
 format-sits : (st : Stamp) (s : List ℕ) (at : ℕ) → at ≤ length s → Sits s at (format_field st s at)
 format-sits st s at h = go (format_field st s at) refl
   where
-    go : (x : Field) → format_field st s at ≡ x → Sits s at x
-    go (Is v e) q = let z = format-ends st s at h v e q in (z.0, omega arith)
-    go (Not p) q = format-fault st s at h p q
+    go : (x : Result (ℕ × ℕ) ℕ) → format_field st s at ≡ x → Sits s at x
+    go (Ok (v, e)) q = let z = format-ends st s at h v e q in (z.0, omega arith)
+    go (Err p) q = format-fault st s at h p q
 
 -- what is asked of a field that runs to the end of its line holds of a format
 pub format-last : (st : Stamp) → Last (format_field st) (blank st)

@@ -1,4 +1,5 @@
 -- Quoted texts and single bytes in a line to which more is added.
+use Rattle.std.specs.Prelude.{Ok, Err, Result}
 use mathlib.Core.Path.{◌≡◌, ◌∙◌, refl, sym}
 use mathlib.Core.Bool.{Bool, true, false, cond, ◌&&◌, and-false}
 use mathlib.Core.List.{List, [], ◌∷◌, ◌++◌}
@@ -15,7 +16,6 @@ use Rattle.classes.specs.Bytes.{in_class, run, run_at}
 use Rattle.classes.specs.declared.Class.TheVariants.{Quoted}
 use Rattle.classes.proofs.Laws.{inside}
 use Rattle.fields.specs.Field.{stop_of, text_at, byte_at}
-use Rattle.fields.specs.declared.Field.TheVariants.{Is, Not}
 use Rattle.fields.proofs.Laws.{text-open, text-short, text-close, text-is}
 use Rattle.pointing.proofs.Runs.{over, stays, room, longer}
 use Rattle.pointing.proofs.Pieces.{Sits, Rest, Piece, Full}
@@ -28,11 +28,11 @@ close s at = at + 1 + run_at Quoted s (at + 1)
 
 -- what a text comes to: no quote opens it, the line ends within it, or another byte ends it before the line does
 data Quotes (s : List ℕ) (at : ℕ) : Type 0 where
-  unopened : (get_or s at 0 ≡ code "\"" → ⊥) → text_at s at ≡ Not at → Quotes s at
-  cut : at < length s → get_or s at 0 ≡ code "\"" → close s at ≡ length s → text_at s at ≡ Not (length s) → Quotes s at
-  bad : at < length s → get_or s at 0 ≡ code "\"" → close s at < length s → text_at s at ≡ Not at → Quotes s at
+  unopened : (get_or s at 0 ≡ code "\"" → ⊥) → text_at s at ≡ Err at → Quotes s at
+  cut : at < length s → get_or s at 0 ≡ code "\"" → close s at ≡ length s → text_at s at ≡ Err (length s) → Quotes s at
+  bad : at < length s → get_or s at 0 ≡ code "\"" → close s at < length s → text_at s at ≡ Err at → Quotes s at
   whole : at < length s → get_or s at 0 ≡ code "\"" → close s at < length s
-      → text_at s at ≡ Is (close s at - (at + 1)) (close s at + 1) → Quotes s at
+      → text_at s at ≡ Ok (close s at - (at + 1), close s at + 1) → Quotes s at
 
 quotes : (s : List ℕ) (at : ℕ) → Quotes s at
 quotes s at = go (ℕ_discrete (get_or s at 0) (code "\""))
@@ -74,10 +74,10 @@ text-firm s m at h k = go (quotes s at)
     go (whole l o n e) = text_same s m at l n
 
 -- a text is whole whatever follows
-text-ends : (s m : List ℕ) (at v e : ℕ) → text_at s at ≡ Is v e → text_at (s ++ m) at ≡ Is v e
+text-ends : (s m : List ℕ) (at v e : ℕ) → text_at s at ≡ Ok (v, e) → text_at (s ++ m) at ≡ Ok (v, e)
 text-ends s m at v e h = go (quotes s at)
   where
-    go : Quotes s at → text_at (s ++ m) at ≡ Is v e
+    go : Quotes s at → text_at (s ++ m) at ≡ Ok (v, e)
     go (unopened o k) = absurd (let z : ◌≡◌ {A = ℕ} 0 1 = cc in omega arith)
     go (cut l o n k) = absurd (let z : ◌≡◌ {A = ℕ} 0 1 = cc in omega arith)
     go (bad l o n k) = text_same s m at l n ∙ h
@@ -88,7 +88,7 @@ unfolding between
 quote-closes = refl
 
 -- two quotes behind s are a text
-pub text-empty : (s m : List ℕ) → text_at (s ++ (code "\"" ∷ (code "\"" ∷ m))) (length s) ≡ Is 0 (length s + 2)
+pub text-empty : (s m : List ℕ) → text_at (s ++ (code "\"" ∷ (code "\"" ∷ m))) (length s) ≡ Ok (0, length s + 2)
 text-empty s m =
     let t : List ℕ = s ++ (code "\"" ∷ (code "\"" ∷ m)) in
     let n : run_at Quoted t (length s + 1) ≡ 0 = rw (drop-append-add s (code "\"" ∷ (code "\"" ∷ m)) 1) (unfold run in rw quote-closes) in
@@ -98,10 +98,10 @@ text-empty s m =
     text-is t (length s) (length s + 1) a (get_or-append_seam s (code "\"") (code "\"" ∷ m) 0) (get_or-append-add s (code "\"" ∷ (code "\"" ∷ m)) 1 0) ∙ rw (b, c)
 
 -- a text that the line cuts off is whole with a quote
-pub text-rest : (s : List ℕ) (at : ℕ) → at < length s → text_at s at ≡ Not (length s) → Rest text_at s at
+pub text-rest : (s : List ℕ) (at : ℕ) → at < length s → text_at s at ≡ Err (length s) → Rest text_at s at
 text-rest s at h e = go (quotes s at)
   where
-    closed : get_or s at 0 ≡ code "\"" → close s at ≡ length s → (m : List ℕ) → text_at (s ++ (code "\"" ∷ m)) at ≡ Is (length s - (at + 1)) (length s + 1)
+    closed : get_or s at 0 ≡ code "\"" → close s at ≡ length s → (m : List ℕ) → text_at (s ++ (code "\"" ∷ m)) at ≡ Ok (length s - (at + 1), length s + 1)
     closed o k m =
         let n : length s ≡ at + 1 + run_at Quoted (s ++ (code "\"" ∷ m)) (at + 1) =
         rw (over Quoted s (at + 1) (omega arith) (code "\"") m quote-closes) (sym k) in
@@ -128,11 +128,11 @@ text-full =
 -- ---- single bytes
 module _ (b : ℕ) where
   -- within the line the byte decides
-  pub byte-here : (t : List ℕ) (at : ℕ) → at < length t → byte_at b t at ≡ cond (eqb (get_or t at 0) b) (Is b (at + 1)) (Not at)
+  pub byte-here : (t : List ℕ) (at : ℕ) → at < length t → byte_at b t at ≡ cond (eqb (get_or t at 0) b) (Ok (b, at + 1)) (Err at)
   unfolding byte_at
   byte-here t at h = rw (lt-ltb at (length t) h)
 
-  byte_past : (t : List ℕ) (at : ℕ) → length t ≤ at → byte_at b t at ≡ Not at
+  byte_past : (t : List ℕ) (at : ℕ) → length t ≤ at → byte_at b t at ≡ Err at
   unfolding byte_at
   byte_past t at h = rw (le-ltb at (length t) h)
 
@@ -140,7 +140,7 @@ module _ (b : ℕ) where
   pub byte-sits : (s : List ℕ) (at : ℕ) → at ≤ length s → Sits s at (byte_at b s at)
   byte-sits s at h = go (dec_lt at (length s))
     where
-      pick : at < length s → (t : Bool) → Sits s at (cond t (Is b (at + 1)) (Not at))
+      pick : at < length s → (t : Bool) → Sits s at (cond t (Ok (b, at + 1)) (Err at))
       pick l true = (omega arith, omega arith)
       pick l false = (omega arith, h)
 
@@ -160,17 +160,17 @@ module _ (b : ℕ) where
       go (no l) = absurd (let z = rw (byte_past s at (omega arith)) at k in omega arith)
 
   -- the byte behind s is there
-  pub byte_one : (s m : List ℕ) → byte_at b (s ++ (b ∷ m)) (length s) ≡ Is b (length s + 1)
+  pub byte_one : (s m : List ℕ) → byte_at b (s ++ (b ∷ m)) (length s) ≡ Ok (b, length s + 1)
   byte_one s m =
       let l : length s < length (s ++ (b ∷ m)) = simp length-append (omega arith) in
       rw (byte-here (s ++ (b ∷ m)) (length s) l, get_or-append_seam s b m 0, eq-eqb b b refl)
 
   -- where another byte stands it is at fault
-  pub byte-not : (s : List ℕ) (at p : ℕ) → byte_at b s at ≡ Not p → p ≡ at
+  pub byte-not : (s : List ℕ) (at p : ℕ) → byte_at b s at ≡ Err p → p ≡ at
   unfolding byte_at
   byte-not s at p h = go (ltb at (length s) && eqb (get_or s at 0) b) h
     where
-      go : (t : Bool) → cond t (Is b (at + 1)) (Not at) ≡ Not p → p ≡ at
+      go : (t : Bool) → cond {A = Result (ℕ × ℕ) ℕ} t (Ok (b, at + 1)) (Err at) ≡ Err p → p ≡ at
       go true k = absurd (let z : ◌≡◌ {A = ℕ} 0 1 = cc in omega arith)
       go false k = cc
 

@@ -1,4 +1,5 @@
 -- Bar types in a line to which more is added.
+use Rattle.std.specs.Prelude.{Err}
 use mathlib.Core.Path.{◌≡◌, ◌∙◌, refl}
 use mathlib.Core.List.{List, [], ◌∷◌, ◌++◌}
 use Prim.Native.Nat.{ℕ, ◌+◌, ◌<◌}
@@ -10,7 +11,6 @@ use lib.Seq.{get_or-append_seam, get_or-append-add}
 use borrow.Author.Tests.{eq-eqb, ne_eqb}
 use Rattle.classes.proofs.Laws.{past}
 use Rattle.fields.specs.Field.{word_to, type_at}
-use Rattle.fields.specs.declared.Field.TheVariants.{Not}
 use Rattle.pointing.proofs.Runs.{longer, byte-kept, byte-other}
 use Rattle.pointing.proofs.Pieces.{Rest, Full}
 use Rattle.pointing.proofs.Words.{word-behind, Seen, word, none, absent, cut, seen-full}
@@ -31,27 +31,27 @@ module _ (t : List ℕ) (at : ℕ) where
   type-one b v three h = rw h
 
   type-none : (get_or t at 0 ≡ code "1" → ⊥) → (get_or t at 0 ≡ code "2" → ⊥) → (get_or t at 0 ≡ code "3" → ⊥) → (get_or t at 0 ≡ code "E" → ⊥)
-      → type_at t at ≡ Not at
+      → type_at t at ≡ Err at
   unfolding type_at
   type-none a b c d =
       rw (ne_eqb (get_or t at 0) (code "1") a, ne_eqb (get_or t at 0) (code "2") b, ne_eqb (get_or t at 0) (code "3") c, ne_eqb (get_or t at 0) (code "E") d)
 
   -- `E30`, and how it may fail
   module _ (h : get_or t at 0 ≡ code "E") where
-    ean-cut : length t ≡ at + 1 → type_at t at ≡ Not (length t)
+    ean-cut : length t ≡ at + 1 → type_at t at ≡ Err (length t)
     unfolding type_at
     ean-cut l = rw (h, past t (at + 1) (omega arith), eq-eqb (length t) (at + 1) l)
 
-    ean-wrong : at + 1 < length t → (get_or t (at + 1) 0 ≡ code "3" → ⊥) → type_at t at ≡ Not at
+    ean-wrong : at + 1 < length t → (get_or t (at + 1) 0 ≡ code "3" → ⊥) → type_at t at ≡ Err at
     unfolding type_at
     ean-wrong l b = rw (h, ne_eqb (get_or t (at + 1) 0) (code "3") b, ne_eqb (length t) (at + 1) (λ q. omega arith))
 
     module _ (k : get_or t (at + 1) 0 ≡ code "3") where
-      ean-short : length t ≡ at + 2 → type_at t at ≡ Not (length t)
+      ean-short : length t ≡ at + 2 → type_at t at ≡ Err (length t)
       unfolding type_at
       ean-short l = rw (h, k, past t (at + 2) (omega arith), ne_eqb (length t) (at + 1) (λ q. omega arith), eq-eqb (length t) (at + 2) l)
 
-      ean-other : at + 2 < length t → (get_or t (at + 2) 0 ≡ code "0" → ⊥) → type_at t at ≡ Not at
+      ean-other : at + 2 < length t → (get_or t (at + 2) 0 ≡ code "0" → ⊥) → type_at t at ≡ Err at
       unfolding type_at
       ean-other l b =
           rw (h, k, ne_eqb (get_or t (at + 2) 0) (code "0") b, ne_eqb (length t) (at + 1) (λ q. omega arith), ne_eqb (length t) (at + 2) (λ q. omega arith))

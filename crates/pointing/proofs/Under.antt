@@ -1,4 +1,5 @@
 -- What stands under bars, in a line to which more is added. `B,C` or `B,R` may still become a place or data, so up to three bytes behind the `B` count.
+use Rattle.std.specs.Prelude.{Ok, Err}
 use mathlib.Core.Path.{◌≡◌, ◌∙◌, refl}
 use mathlib.Core.Bool.{Bool, true, false, ◌&&◌, and-false}
 use mathlib.Core.List.{List, ◌∷◌, ◌++◌}
@@ -12,7 +13,6 @@ use lib.Seq.{get_or-append_seam}
 use borrow.Author.Tests.{eq-eqb, ne_eqb}
 use Rattle.classes.proofs.Laws.{past}
 use Rattle.fields.specs.Field.{is_place, word_to, under_at}
-use Rattle.fields.specs.declared.Field.TheVariants.{Is, Not}
 use Rattle.pointing.proofs.Runs.{longer, byte-kept, byte-other}
 
 and-out : (a b c : Bool) → (a && b) ≡ false → (a && (b && c)) ≡ false
@@ -27,7 +27,7 @@ module _ (t : List ℕ) (at : ℕ) where
   unfolding under_at
   under-nothing h = rw h
 
-  under_none : (get_or t at 0 ≡ code "N" → ⊥) → (get_or t at 0 ≡ code "B" → ⊥) → under_at t at ≡ Not at
+  under_none : (get_or t at 0 ≡ code "N" → ⊥) → (get_or t at 0 ≡ code "B" → ⊥) → under_at t at ≡ Err at
   unfolding under_at
   under_none a b = rw (ne_eqb (get_or t at 0) (code "N") a, ne_eqb (get_or t at 0) (code "B") b)
 
@@ -38,11 +38,11 @@ module _ (t : List ℕ) (at : ℕ) where
         rw (h, and-out (eqb (get_or t (at + 1) 0) (code ",")) (is_place (get_or t (at + 2) 0)) (eqb (get_or t (at + 3) 0) (code ",")) k, and-out (eqb (get_or t (at + 1) 0) (code ",")) (is_place (get_or t (at + 2) 0)) (eqb (length t) (at + 3)) k)
 
     module _ (k : get_or t (at + 1) 0 ≡ code ",") (r : is_place (get_or t (at + 2) 0) ≡ true) where
-      under-placed : get_or t (at + 3) 0 ≡ code "," → under_at t at ≡ Is (get_or t (at + 2) 0) (at + 3)
+      under-placed : get_or t (at + 3) 0 ≡ code "," → under_at t at ≡ Ok (get_or t (at + 2) 0, at + 3)
       unfolding under_at
       under-placed c = rw (h, k, r, c)
 
-      under-cut : length t ≡ at + 3 → under_at t at ≡ Not (length t)
+      under-cut : length t ≡ at + 3 → under_at t at ≡ Err (length t)
       unfolding under_at
       under-cut l = rw (h, k, r, past t (at + 3) (omega arith), eq-eqb (length t) (at + 3) l)
 
@@ -56,10 +56,10 @@ module _ (t : List ℕ) (at : ℕ) where
 -- the line
 pub data Below (s : List ℕ) (at : ℕ) : Type 0 where
   letter : (v : ℕ) → at < length s → ((m : List ℕ) → under_at (s ++ m) at ≡ word_to (s ++ m) at v (at + 1)) → Below s at
-  place : (v : ℕ) → at + 3 < length s → ((m : List ℕ) → under_at (s ++ m) at ≡ Is v (at + 3)) → Below s at
-  none : at < length s → ((m : List ℕ) → under_at (s ++ m) at ≡ Not at) → Below s at
-  absent : length s ≤ at → under_at s at ≡ Not at → Below s at
-  cut : (v : ℕ) → length s ≡ at + 3 → under_at s at ≡ Not (length s) → ((m : List ℕ) → under_at (s ++ (code "," ∷ m)) at ≡ Is v (at + 3)) → Below s at
+  place : (v : ℕ) → at + 3 < length s → ((m : List ℕ) → under_at (s ++ m) at ≡ Ok (v, at + 3)) → Below s at
+  none : at < length s → ((m : List ℕ) → under_at (s ++ m) at ≡ Err at) → Below s at
+  absent : length s ≤ at → under_at s at ≡ Err at → Below s at
+  cut : (v : ℕ) → length s ≡ at + 3 → under_at s at ≡ Err (length s) → ((m : List ℕ) → under_at (s ++ (code "," ∷ m)) at ≡ Ok (v, at + 3)) → Below s at
   begun : at < length s → length s ≤ at + 2 → (length s ≡ at + 2 → get_or s (at + 1) 0 ≡ code ",")
       → ((m : List ℕ) → is_place (get_or (s ++ m) (at + 2) 0) ≡ false → under_at (s ++ m) at ≡ word_to (s ++ m) at (code "B") (at + 1))
       → Below s at

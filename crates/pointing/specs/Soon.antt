@@ -1,17 +1,16 @@
 -- Paper 02, §2: "for a line that ends too soon, the place of its LF". A line ends too soon where some well-formed line starts with it.
 -- Assumes nothing.
-use Rattle.std.specs.Prelude.{ℕ, ◌≡◌, Bool, true, false, List, ◌++◌}
+use Rattle.std.specs.Prelude.{ℕ, ◌≡◌, Bool, true, false, List, ◌++◌, Result, Ok, Err}
+use Rattle.grammar.specs.declared.Command.{Command}
 use Rattle.read.specs.Commands.{read_of}
 use Rattle.read.specs.declared.Fault.{Fault}
 use Rattle.read.specs.declared.Fault.TheVariants.{Form as form, Limit}
-use Rattle.read.specs.declared.Read.{Read}
-use Rattle.read.specs.declared.Read.TheVariants.{Taken, Refused}
 
 -- a line has the written form: it is a command, or a command with something outside its limits
-abbrev pub is_written : Read → Bool
-is_written (Taken c) = true
-is_written (Refused (form p)) = false
-is_written (Refused (Limit p)) = true
+abbrev pub is_written : Result Command Fault → Bool
+is_written (Ok c) = true
+is_written (Err (form p)) = false
+is_written (Err (Limit p)) = true
 
 -- some well-formed line starts with s. It may be of any length, and s itself
 pub record EndsTooSoon (rows : ℕ) (s : List ℕ) : Type 0 where

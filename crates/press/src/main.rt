@@ -14,7 +14,9 @@ ghost use Rattle.std.specs.Prelude.{◌≡◌, length};
 use ground::front;
 use lasting::DIRECTORY_BYTES;
 use lent::BYTES_OF_VALUES;
-use press_settings::{Machine, Settings, saying};
+use press_input::Step;
+use press_settings::{Machine, Settings, Task, Told, saying};
+use press_store::rooms::Lent;
 use press_store::{Run, rooms};
 use store::MOST_PORTIONS;
 
@@ -30,139 +32,92 @@ fn window_room() -> [u8; 65536]
 fn turn(
     rt: &impl Machine,
     s: Settings,
-    run: Run,
+    run: &mut Run,
     font: &[u8],
-    background: &mut [u8],
-    store: &mut [u8],
-    links: &mut [u16],
-    directory: &mut [u8],
-    values: &mut [u8],
+    lent: &mut Lent,
     window: &mut [u8],
     file: &mut [u8],
-) -> Run {
-    let now = press_clock::tick(rt, s, run);
-    let owed = now.session.owed;
-    if 0 < owed {
-        return press_labels::one(
-            rt, s, now, font, background, store, links, directory, values, file,
-        );
+) -> Result<Step, Told> {
+    press_clock::tick(rt, s, run);
+    let session = run.session;
+    if 0 < session.owed {
+        press_labels::one(rt, s, run, font, lent, file)?;
+        return Ok(Step::Onward);
     }
-    let next = press_input::ahead(rt, s, now, window);
-    if !next.ready {
-        return next;
+    let step = press_input::ahead(rt, s, run, window)?;
+    if step == Step::Command {
+        press_input::command(rt, s, run, font, lent, window, file)?;
     }
-    press_input::command(
-        rt, s, next, font, background, store, links, directory, values, window, file,
-    )
+    Ok(step)
 }
 
-// Turns until the run is over.
+// Turns until all input is at its end.
 fn turns(
     rt: &impl Machine,
     s: Settings,
-    first: Run,
+    run: &mut Run,
     font: &[u8],
-    background: &mut [u8],
-    store: &mut [u8],
-    links: &mut [u16],
-    directory: &mut [u8],
-    values: &mut [u8],
+    lent: &mut Lent,
     file: &mut [u8],
-) -> Run {
+) -> Result<(), Told> {
     let mut window = window_room();
-    let mut run = first;
     for _ in 0..u64::MAX {
-        if run.over {
-            return run;
+        if turn(rt, s, run, font, lent, &mut window, file)? == Step::End {
+            break;
         }
-        run = turn(
-            rt,
-            s,
-            run,
-            font,
-            background,
-            store,
-            links,
-            directory,
-            values,
-            &mut window,
-            file,
-        );
     }
-    run
-}
-
-// The sum of a run that came to its end.
-fn finished(rt: &impl Machine, s: Settings, last: Run) {
-    if !last.failed {
-        saying::sum(rt, s, last.taken, last.refused, last.labels);
-    }
+    Ok(())
 }
 
 // A station opened or loaded, and run to its end, with pages of n bytes.
-fn work(rt: &impl Machine, s: Settings, n: usize, known: usize, font: &[u8], file: &mut [u8]) {
+fn work(
+    rt: &impl Machine,
+    s: Settings,
+    n: usize,
+    known: usize,
+    font: &[u8],
+    file: &mut [u8],
+) -> Result<(), Told> {
     let mut background = rooms::rows();
     let mut store = rooms::portions();
     let mut links = [0u16; MOST_PORTIONS];
     let mut directory = [0u8; DIRECTORY_BYTES];
     let mut values = [0u8; BYTES_OF_VALUES];
-    let first = press_store::begin(
-        rt,
-        s,
-        known,
-        rooms::cut(&mut background, n),
-        &mut store,
-        &mut links,
-        &mut directory,
-        &mut values,
-        file,
-    );
-    let last = turns(
-        rt,
-        s,
-        press_clock::start(rt, s, first),
-        font,
-        rooms::cut(&mut background, n),
-        &mut store,
-        &mut links,
-        &mut directory,
-        &mut values,
-        file,
-    );
-    finished(rt, s, last);
+    let mut lent = Lent {
+        background: rooms::cut(&mut background, n),
+        store: &mut store,
+        links: &mut links,
+        directory: &mut directory,
+        values: &mut values,
+    };
+    let mut run = press_store::begin(rt, s, known, &mut lent, file)?;
+    press_clock::start(rt, s, &mut run);
+    turns(rt, s, &mut run, font, &mut lent, file)?;
+    saying::sum(rt, s, run.taken, run.refused, run.labels);
+    Ok(())
 }
 
-// With the font at hand: the run of a store, or of none.
-fn begin(rt: &impl Machine, s: Settings, font: &[u8]) {
-    let mut file = rooms::file();
-    let sizes = press_store::find(rt, s, &mut file);
-    if sizes.page != 0 {
-        work(rt, s, sizes.page, sizes.known, font, &mut file);
-    }
-}
-
-// Commands read and labels drawn, once font and files are found good.
-fn run(rt: &impl Machine, s: Settings) {
+// Commands read and labels drawn, once font and files are found good, with a store or with none.
+fn draw(rt: &impl Machine, s: Settings) -> Result<(), Told> {
     let mut font = [0u8; 32768];
-    let n = press_settings::font(rt, s, &mut font);
-    if n == 0 {
-        return;
-    }
-    if press_settings::readable(rt, s) {
-        begin(rt, s, front(&font, n));
+    let n = press_settings::font(rt, s, &mut font)?;
+    press_settings::readable(rt, s)?;
+    let mut file = rooms::file();
+    let sizes = press_store::find(rt, s, &mut file)?;
+    work(rt, s, sizes.page, sizes.known, front(&font, n), &mut file)
+}
+
+// What the command line asks for.
+fn run(rt: &impl Machine) -> Result<(), Told> {
+    let s = press_settings::command_line(rt)?;
+    match s.task {
+        Task::Labels => draw(rt, s),
+        Task::Answer(question) => press_fits::ask(rt, s, question),
+        Task::Repair => press_repair::repair(rt, s),
     }
 }
 
+// What went wrong is told by then, and a run ends with 0 whatever it came to.
 fn main(rt: HostRuntime) {
-    let s = press_settings::command_line(&rt);
-    if !s.good {
-        return;
-    }
-    if s.repair {
-        press_repair::repair(&rt, s);
-    } else if s.asked.name == 0 {
-        run(&rt, s);
-    } else {
-        press_fits::ask(&rt, s);
-    }
+    let _ = run(&rt);
 }

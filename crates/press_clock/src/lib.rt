@@ -21,29 +21,23 @@ fn machine_seconds(rt: &impl Clock) -> usize {
     }
 }
 
-// The run with the clock set.
-pub fn start(rt: &impl Clock, s: Settings, run: Run) -> Run {
-    if !s.clock {
-        return run;
+// The clock set.
+pub fn start(rt: &impl Clock, s: Settings, run: &mut Run) {
+    if let Some(zone) = s.clock {
+        let now = machine_seconds(rt);
+        let before = run.session;
+        run.session = before.clocked(wall_clock::today(now, zone));
+        run.moment = now;
     }
-    let now = machine_seconds(rt);
-    let before = run.session;
-    let mut r = run;
-    r.session = before.clocked(wall_clock::today(now, s.zone));
-    r.moment = now;
-    r
 }
 
-// The run with the clock moved.
-pub fn tick(rt: &impl Clock, s: Settings, run: Run) -> Run {
-    if !s.clock {
-        return run;
+// The clock moved.
+pub fn tick(rt: &impl Clock, s: Settings, run: &mut Run) {
+    if s.clock.is_some() {
+        let now = machine_seconds(rt);
+        let before = run.session;
+        let clock = wall_clock::advance(before.clock, less(now, run.moment));
+        run.session = before.clocked(clock);
+        run.moment = now;
     }
-    let now = machine_seconds(rt);
-    let before = run.session;
-    let clock = before.clock;
-    let mut r = run;
-    r.session = before.clocked(wall_clock::advance(clock, less(now, r.moment)));
-    r.moment = now;
-    r
 }

@@ -12,16 +12,16 @@ use ground::front;
 use lasting::DIRECTORY_BYTES;
 use lent::BYTES_OF_VALUES;
 use press_settings::saying::{complain, say};
-use press_settings::system::{argument, name_room};
-use press_settings::{Machine, Question, Settings};
+use press_settings::{Machine, Name, Question, Settings, Told};
 use press_store::rooms;
+use press_store::rooms::Lent;
 use store::MOST_PORTIONS;
 
 // The answer in words: what fits among what is done, what does not among what is refused.
-fn tell(rt: &impl Machine, s: Settings, name: &[u8], answer: Answer) {
-    let q = s.asked;
+fn tell(rt: &impl Machine, s: Settings, q: Question, name: &[u8], answer: Answer) {
     let mut text = [0u8; 4352];
-    let n = words::fits(q.picture, name, q.size, answer, &mut text);
+    let size = q.size.unwrap_or(0);
+    let n = words::fits(q.size.is_some(), name, size, answer, &mut text);
     if is_taken(answer) {
         say(rt, s, front(&text, n));
     } else {
@@ -30,61 +30,64 @@ fn tell(rt: &impl Machine, s: Settings, name: &[u8], answer: Answer) {
 }
 
 // How much is left of portions and entries, where one of them ran out.
-fn left(
-    rt: &impl Machine,
-    q: Question,
-    name: &[u8],
-    answer: Answer,
-    links: &[u16],
-    directory: &[u8],
-) {
+fn left(rt: &impl Machine, q: Question, name: &[u8], answer: Answer, lent: &Lent) {
     if is_full(answer) {
         let mut text = [0u8; 4352];
-        let n = words::fits_left(q.picture, name, q.size, links, directory, &mut text);
+        let size = q.size.unwrap_or(0);
+        let n = words::fits_left(
+            q.size.is_some(),
+            name,
+            size,
+            lent.links,
+            lent.directory,
+            &mut text,
+        );
         complain(rt, front(&text, n));
     }
 }
 
-// The answer for so many labels owed, these links and this directory.
-fn answer(rt: &impl Machine, s: Settings, owed: u16, links: &[u16], directory: &[u8]) {
-    let q = s.asked;
-    let mut text = name_room();
-    let n = argument(rt, q.name, &mut text);
-    let name = front(&text, n);
-    let kind = if q.picture { PICTURE } else { FORM };
-    let a = fits::fit_answer(owed, links, directory, kind, name, q.size as u64);
-    tell(rt, s, name, a);
-    left(rt, q, name, a, links, directory);
+// The answer for so many labels owed, and what is lent.
+fn answer(rt: &impl Machine, s: Settings, q: Question, owed: u16, lent: &Lent) {
+    let name = Name::argument(rt, q.name);
+    let (kind, size) = match q.size {
+        Some(size) => (PICTURE, size),
+        None => (FORM, 0),
+    };
+    let a = fits::fit_answer(
+        owed,
+        lent.links,
+        lent.directory,
+        kind,
+        name.bytes(),
+        size as u64,
+    );
+    tell(rt, s, q, name.bytes(), a);
+    left(rt, q, name.bytes(), a, lent);
 }
 
 // A store looked at, with pages of n bytes.
-fn look(rt: &impl Machine, s: Settings, n: usize, file: &[u8]) {
+fn look(rt: &impl Machine, s: Settings, q: Question, n: usize, file: &[u8]) -> Result<(), Told> {
     let mut background = rooms::rows();
     let mut store = rooms::portions();
     let mut links = [0u16; MOST_PORTIONS];
     let mut directory = [0u8; DIRECTORY_BYTES];
     let mut values = [0u8; BYTES_OF_VALUES];
-    let start = press_store::load(
-        rt,
-        s,
-        rooms::cut(&mut background, n),
-        &mut store,
-        &mut links,
-        &mut directory,
-        &mut values,
-        file,
-    );
+    let mut lent = Lent {
+        background: rooms::cut(&mut background, n),
+        store: &mut store,
+        links: &mut links,
+        directory: &mut directory,
+        values: &mut values,
+    };
+    let start = press_store::load(rt, s, &mut lent, file)?;
     let session = start.session;
-    if start.good {
-        answer(rt, s, session.owed, &links, &directory);
-    }
+    answer(rt, s, q, session.owed, &lent);
+    Ok(())
 }
 
-// The question of the command line, answered; where the store is refused, that is told and there is no answer.
-pub fn ask(rt: &impl Machine, s: Settings) {
+// The question of the command line, answered; where the store is refused, there is no answer.
+pub fn ask(rt: &impl Machine, s: Settings, q: Question) -> Result<(), Told> {
     let mut file = rooms::file();
-    let sizes = press_store::find(rt, s, &mut file);
-    if sizes.page != 0 {
-        look(rt, s, sizes.page, front(&file, sizes.known));
-    }
+    let sizes = press_store::find(rt, s, &mut file)?;
+    look(rt, s, q, sizes.page, front(&file, sizes.known))
 }

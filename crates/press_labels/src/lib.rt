@@ -5,11 +5,12 @@
 #![tactic(auto)]
 
 use answers::is_taken;
-use ground::{capped_sum, either, front};
+use ground::{capped_sum, front};
 use press_settings::saying::{complain, failed};
-use press_settings::system::{create, name_room, remove, rename};
-use press_settings::{Machine, Settings, saying};
-use press_store::{LAST, Run, next_number, rooms, save_slot, stopped, sync_folder};
+use press_settings::system::{create, remove, rename};
+use press_settings::{Machine, Name, Settings, Told, saying};
+use press_store::rooms::Lent;
+use press_store::{LAST, Run, next_number, rooms, save_slot, sync_folder};
 use session::Session;
 use station::Labelled;
 use std::fs::File;
@@ -17,38 +18,33 @@ use std::io;
 use std::io::{Seek, SeekFrom, Write};
 
 // Room for a picture of n bytes, so that a full disk is met before the label is counted; its file, which is open.
-fn reserve(rt: &impl Machine, name: &[u8], n: usize) -> Option<File> {
+fn reserve(rt: &impl Machine, name: &[u8], n: usize) -> Result<File, Told> {
     match create(rt, name) {
         Ok(file) => blank(rt, file, name, n),
-        Err(why) => {
-            failed(rt, b"cannot make ", name, why);
-            None
-        }
+        Err(why) => Err(failed(rt, b"cannot make ", name, why)),
     }
 }
 
 // A file that is open, with n bytes written; where they cannot be, that is told and the file is removed.
-fn blank(rt: &impl Machine, file: File, name: &[u8], n: usize) -> Option<File> {
+fn blank(rt: &impl Machine, mut file: File, name: &[u8], n: usize) -> Result<File, Told> {
     let blank = rooms::rows();
-    let mut open = file;
-    match open.write_all(front(&blank, n)) {
-        Ok(()) => Some(open),
+    match file.write_all(front(&blank, n)) {
+        Ok(()) => Ok(file),
         Err(why) => {
-            failed(rt, b"cannot write ", name, why);
-            drop(open);
+            let told = failed(rt, b"cannot write ", name, why);
+            drop(file);
             let _ = remove(rt, name);
-            None
+            Err(told)
         }
     }
 }
 
 // The picture in its room, and on disk where it is to last.
-fn put_in_room(file: File, picture: &[u8], lasting: bool) -> io::Result<()> {
-    let mut open = file;
-    let _ = open.seek(SeekFrom::Start(0));
-    let written = open.write_all(picture);
+fn put_in_room(mut file: File, picture: &[u8], lasting: bool) -> io::Result<()> {
+    let _ = file.seek(SeekFrom::Start(0));
+    let written = file.write_all(picture);
     if lasting {
-        open.sync_all()?;
+        file.sync_all()?;
     }
     written
 }
@@ -70,104 +66,73 @@ fn fill(
     Ok(())
 }
 
-// The run with one label more, and whether it is saved where there is a store.
-fn counted(
+// One label more, counted and saved where there is a store.
+fn count(
     s: Settings,
-    run: Run,
+    run: &mut Run,
     after: Session,
     values: &[u8],
     file: &mut [u8],
-) -> (Run, io::Result<()>) {
-    let mut r = run;
-    r.session = after;
-    r.pictures = next_number(r.pictures);
-    if s.store == 0 {
-        return (r, Ok(()));
+) -> io::Result<()> {
+    run.session = after;
+    run.pictures = next_number(run.pictures);
+    if s.store.is_some() {
+        save_slot(run, values, file)?;
+        run.order = next_number(run.order);
     }
-    let saved = save_slot(&r, after, r.pictures, values, file);
-    r.order = next_number(r.order);
-    r.over = saved.is_err();
-    r.failed = saved.is_err();
-    (r, saved)
-}
-
-// A label that is counted, written.
-fn finish(
-    rt: &impl Machine,
-    s: Settings,
-    run: Run,
-    room: File,
-    part: &[u8],
-    name: &[u8],
-    page: &[u8],
-    picture: &[u8],
-) -> Run {
-    if let Err(why) = fill(rt, room, part, name, picture, s.store != 0) {
-        failed(
-            rt,
-            b"the label is counted and missing: cannot write ",
-            name,
-            why,
-        );
-        return stopped(run);
-    }
-    let mut r = run;
-    r.labels = capped_sum(r.labels, 1);
-    let after = r.session;
-    saying::label(rt, s, after, name, page);
-    r
+    Ok(())
 }
 
 // A label that is drawn: room for its picture, then counted and saved, and only then written.
 fn write(
     rt: &impl Machine,
     s: Settings,
-    run: Run,
+    run: &mut Run,
     after: Session,
     page: &[u8],
     picture: &[u8],
     values: &[u8],
     file: &mut [u8],
-) -> Run {
-    let mut start = name_room();
-    let k = press_settings::prefix(rt, s, &mut start);
-    let prefix = front(&start, k);
-    let mut first = name_room();
-    let p = sentences::joined(prefix, b".part", &mut first);
-    let part = front(&first, p);
-    let mut last = name_room();
-    let n = file_names::name(prefix, next_number(run.pictures) as usize, &mut last);
-    let name = front(&last, n);
-    let Some(room) = reserve(rt, part, picture.len()) else {
-        return stopped(run);
-    };
-    let (r, saved) = counted(s, run, after, values, file);
-    if let Err(why) = saved {
-        failed(
+) -> Result<(), Told> {
+    let prefix = press_settings::prefix(rt, s);
+    let part = Name::joined(prefix.bytes(), b".part");
+    let name = Name::picture(prefix.bytes(), next_number(run.pictures) as usize);
+    let room = reserve(rt, part.bytes(), picture.len())?;
+    if let Err(why) = count(s, run, after, values, file) {
+        return Err(failed(
             rt,
             b"the label is not counted: cannot save before ",
-            name,
+            name.bytes(),
             why,
-        );
-        return r;
+        ));
     }
-    finish(rt, s, r, room, part, name, page, picture)
+    let lasting = s.store.is_some();
+    if let Err(why) = fill(rt, room, part.bytes(), name.bytes(), picture, lasting) {
+        return Err(failed(
+            rt,
+            b"the label is counted and missing: cannot write ",
+            name.bytes(),
+            why,
+        ));
+    }
+    run.labels = capped_sum(run.labels, 1);
+    saying::label(rt, s, after, name.bytes(), page);
+    Ok(())
 }
 
 // A label that is drawn, as a picture.
 fn pictured(
     rt: &impl Machine,
     s: Settings,
-    run: Run,
+    run: &mut Run,
     after: Session,
     page: &[u8],
     values: &[u8],
     file: &mut [u8],
-) -> Run {
-    let width = run.session.width;
-    let length = run.session.length;
+) -> Result<(), Told> {
+    let before = run.session;
     let mut picture = rooms::portions();
-    let n = pbm::picture(page, width, length, &mut picture);
+    let n = pbm::picture(page, before.width, before.length, &mut picture);
     write(rt, s, run, after, page, front(&picture, n), values, file)
 }
 
@@ -175,16 +140,16 @@ fn pictured(
 fn answered(
     rt: &impl Machine,
     s: Settings,
-    run: Run,
+    run: &mut Run,
     l: Labelled,
     page: &[u8],
     values: &[u8],
     file: &mut [u8],
-) -> Run {
+) -> Result<(), Told> {
     let answer = l.answer;
     if !is_taken(answer) {
         saying::answer(rt, s, run.file, run.line, answer, b"a label");
-        return stopped(run);
+        return Err(Told);
     }
     let after = l.session;
     pictured(rt, s, run, after, page, values, file)
@@ -194,31 +159,26 @@ fn answered(
 pub fn one(
     rt: &impl Machine,
     s: Settings,
-    run: Run,
+    run: &mut Run,
     font: &[u8],
-    background: &[u8],
-    store: &[u8],
-    links: &[u16],
-    directory: &[u8],
-    values: &[u8],
+    lent: &Lent,
     file: &mut [u8],
-) -> Run {
-    if either(run.pictures == LAST, run.order == LAST) {
+) -> Result<(), Told> {
+    if run.pictures == LAST || run.order == LAST {
         complain(rt, b"press: no number is left for pictures or changes\n");
-        return stopped(run);
+        return Err(Told);
     }
     let mut page = rooms::rows();
-    let n = background.len();
-    let session = run.session;
+    let n = lent.background.len();
     let l = station::label(
-        session,
+        run.session,
         font,
         rooms::cut(&mut page, n),
-        background,
-        store,
-        links,
-        directory,
-        values,
+        lent.background,
+        lent.store,
+        lent.links,
+        lent.directory,
+        lent.values,
     );
-    answered(rt, s, run, l, front(&page, n), values, file)
+    answered(rt, s, run, l, front(&page, n), lent.values, file)
 }

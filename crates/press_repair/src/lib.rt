@@ -12,12 +12,13 @@ ghost use Rattle.std.specs.Prelude.{◌≡◌, length};
 use answers::is_taken;
 use dots::BYTES_A_ROW;
 use ground::{front, least};
-use lasting::{DIRECTORY_BYTES, MOST_ROWS, Verdict};
+use lasting::{DIRECTORY_BYTES, Fault, MOST_ROWS};
 use lent::BYTES_OF_VALUES;
 use press_settings::saying::{complain, failed, say, wrong};
-use press_settings::system::{argument, create_new, name_room};
-use press_settings::{Machine, Settings};
+use press_settings::system::create_new;
+use press_settings::{Machine, Name, Settings, Told};
 use press_store::rooms;
+use press_store::rooms::Lent;
 use session::Session;
 use std::io;
 use std::io::ErrorKind;
@@ -49,41 +50,29 @@ fn loads(file: &[u8]) -> bool {
     let mut directory = [0u8; DIRECTORY_BYTES];
     let mut values = [0u8; BYTES_OF_VALUES];
     let n = BYTES_A_ROW * least(lasting::rows(file), MOST_ROWS);
-    let start = press_store::loaded(
-        rooms::cut(&mut background, n),
-        &mut store,
-        &mut links,
-        &mut directory,
-        &mut values,
-        file,
-    );
-    start.good
+    let mut lent = Lent {
+        background: rooms::cut(&mut background, n),
+        store: &mut store,
+        links: &mut links,
+        directory: &mut directory,
+        values: &mut values,
+    };
+    press_store::loaded(&mut lent, file).is_some()
 }
 
-fn unlike(rt: &impl Machine, path: &[u8]) -> usize {
-    wrong(
-        rt,
-        path,
-        b" does not begin as a store of this station does; if it is one, say with -rows N how many rows its labels may have\n",
-    );
-    0
-}
-
-// How many rows the repaired store has: those that are asked for, else those of the head; 0 where the head is no store's, so that a file that was named by
+// How many rows the repaired store has: those that are asked for, else those of the head; none where the head is no store's, so that a file that was named by
 // mistake is not taken for a store.
-fn rows(rt: &impl Machine, s: Settings, path: &[u8], file: &[u8]) -> usize {
-    if s.rows != 0 {
-        return s.rows;
+fn rows(rt: &impl Machine, s: Settings, path: &[u8], file: &[u8]) -> Result<usize, Told> {
+    if let Some(rows) = s.rows {
+        return Ok(rows);
     }
-    let rows = lasting::rows(file);
     match lasting::judge(file) {
-        Verdict::Foreign => unlike(rt, path),
-        Verdict::Version => unlike(rt, path),
-        Verdict::Sizes => unlike(rt, path),
-        Verdict::Length => rows,
-        Verdict::Damaged => rows,
-        Verdict::Slots => rows,
-        Verdict::Good(k) => rows,
+        Err(Fault::Foreign | Fault::Version | Fault::Sizes) => Err(wrong(
+            rt,
+            path,
+            b" does not begin as a store of this station does; if it is one, say with -rows N how many rows its labels may have\n",
+        )),
+        _ => Ok(lasting::rows(file)),
     }
 }
 
@@ -166,34 +155,28 @@ fn pictures(file: &[u8]) -> u32 {
     if first < second { second } else { first }
 }
 
-// A new file of these bytes, on disk; whether it is made.
-fn made(rt: &impl Machine, name: &[u8], bytes: &[u8]) -> bool {
+// A new file of these bytes, on disk.
+fn make(rt: &impl Machine, name: &[u8], bytes: &[u8]) -> Result<(), Told> {
     match create_new(rt, name) {
         Ok(file) => {
-            if press_store::written(rt, file, name, bytes).is_none() {
-                return false;
-            }
+            press_store::written(rt, file, name, bytes)?;
             press_store::sync_folder(rt, name);
-            true
+            Ok(())
         }
-        Err(why) => {
-            tell_unmade(rt, name, why);
-            false
-        }
+        Err(why) => Err(tell_unmade(rt, name, why)),
     }
 }
 
 // Why a new file is not made.
-fn tell_unmade(rt: &impl Machine, name: &[u8], why: io::Error) {
+fn tell_unmade(rt: &impl Machine, name: &[u8], why: io::Error) -> Told {
     if why.kind() == ErrorKind::AlreadyExists {
-        wrong(
+        return wrong(
             rt,
             name,
             b" is there already, and is left as it is: nothing is repaired\n",
         );
-    } else {
-        failed(rt, b"cannot make ", name, why);
     }
+    failed(rt, b"cannot make ", name, why)
 }
 
 // The repaired store in its file, and what is said then.
@@ -205,18 +188,18 @@ fn finish(
     file: &[u8],
     free: u16,
     bytes: &[u8],
-) {
-    let mut name = name_room();
-    let k = sentences::joined(path, b".repaired", &mut name);
-    if made(rt, front(&name, k), bytes) {
-        tell(rt, s, file, free);
-        let mut text = line_room();
-        let n = repair_words::made(front(&name, k), rows, path, &mut text);
-        say(rt, s, front(&text, n));
-    }
+) -> Result<(), Told> {
+    let name = Name::joined(path, b".repaired");
+    make(rt, name.bytes(), bytes)?;
+    tell(rt, s, file, free);
+    let mut text = line_room();
+    let n = repair_words::made(name.bytes(), rows, path, &mut text);
+    say(rt, s, front(&text, n));
+    Ok(())
 }
 
-// What was repaired as a whole new store: with a white background, and with the session in the first slot.
+// What was repaired as a whole new store: with a white background, and with the session in the first slot. Four slices and no Lent, since nothing has a
+// background to lend here.
 fn save(
     rt: &impl Machine,
     s: Settings,
@@ -228,18 +211,18 @@ fn save(
     links: &[u16],
     directory: &[u8],
     values: &[u8],
-) {
+) -> Result<(), Told> {
     let mut white = rooms::rows();
     let background = rooms::cut(&mut white, BYTES_A_ROW * least(rows, MOST_ROWS));
     let mut next = rooms::file();
     let n = lasting::place(&mut next, background, store, links, directory);
     lasting::seal(&mut next);
     slots::put_slot(&mut next, 1, pictures(file), session, values);
-    finish(rt, s, path, rows, file, session.free, front(&next, n));
+    finish(rt, s, path, rows, file, session.free, front(&next, n))
 }
 
 // What the bytes of a file hold, repaired for labels of so many rows. Lengths and rows are right and the list has room, so that the repair is taken.
-fn mend(rt: &impl Machine, s: Settings, path: &[u8], rows: usize, file: &[u8]) {
+fn mend(rt: &impl Machine, s: Settings, path: &[u8], rows: usize, file: &[u8]) -> Result<(), Told> {
     let mut store = rooms::portions();
     let mut links = [0u16; MOST_PORTIONS];
     let mut directory = [0u8; DIRECTORY_BYTES];
@@ -255,35 +238,31 @@ fn mend(rt: &impl Machine, s: Settings, path: &[u8], rows: usize, file: &[u8]) {
         &mut values,
         &mut list,
     );
-    let answer = done.answer;
     let session = done.session;
-    if is_taken(answer) {
-        save(
-            rt, s, path, rows, file, session, &store, &links, &directory, &values,
-        );
+    if !is_taken(done.answer) {
+        return Ok(());
     }
+    save(
+        rt, s, path, rows, file, session, &store, &links, &directory, &values,
+    )
 }
 
 // The store of the command line: left alone where it loads, else repaired.
-pub fn repair(rt: &impl Machine, s: Settings) {
-    let mut text = name_room();
-    let k = argument(rt, s.store, &mut text);
-    let path = front(&text, k);
-    let mut file = rooms::file();
-    let known = press_store::found(rt, s, path, &mut file);
-    if known == 0 {
-        if press_store::missing(rt, path) {
-            wrong(rt, path, b" is not there: nothing is repaired\n");
-        }
-        return;
+pub fn repair(rt: &impl Machine, s: Settings) -> Result<(), Told> {
+    let name = press_store::name(rt, s);
+    let path = name.bytes();
+    let mut room = rooms::file();
+    let known = press_store::found(rt, s, path, &mut room);
+    let file = front(&room, known);
+    if file.is_empty() {
+        press_store::missing(rt, path)?;
+        return Err(wrong(rt, path, b" is not there: nothing is repaired\n"));
     }
-    if loads(front(&file, known)) {
+    if loads(file) {
         say(rt, s, path);
         say(rt, s, b" loads as it is; nothing is repaired\n");
-        return;
+        return Ok(());
     }
-    let rows = rows(rt, s, path, front(&file, known));
-    if rows != 0 {
-        mend(rt, s, path, rows, front(&file, known));
-    }
+    let rows = rows(rt, s, path, file)?;
+    mend(rt, s, path, rows, file)
 }

@@ -1,8 +1,7 @@
 // What is said: on standard output what was done, on standard error what was refused or failed.
 //
 // Where nobody takes it, what is said is lost, and the run goes on: the labels that it draws and the store that it keeps are worth more.
-use crate::system::{argument, name_room};
-use crate::{Machine, Settings};
+use crate::{Machine, Name, Settings, Told};
 use answers::{Answer, is_full, is_taken, points};
 use ground::front;
 use session::Session;
@@ -28,7 +27,7 @@ fn reason(text: &str) -> &str {
 }
 
 // `press: WHAT NAME: why`, where a call of the system failed.
-pub fn failed(rt: &impl Machine, what: &[u8], name: &[u8], why: io::Error) {
+pub fn failed(rt: &impl Machine, what: &[u8], name: &[u8], why: io::Error) -> Told {
     let text = InlineText::<128>::of(why);
     complain(rt, b"press: ");
     complain(rt, what);
@@ -36,38 +35,45 @@ pub fn failed(rt: &impl Machine, what: &[u8], name: &[u8], why: io::Error) {
     complain(rt, b": ");
     complain(rt, reason(text.as_str()).as_bytes());
     complain(rt, b"\n");
+    Told
 }
 
 // `press: NAME WHAT`
-pub fn wrong(rt: &impl Machine, name: &[u8], what: &[u8]) {
+pub fn wrong(rt: &impl Machine, name: &[u8], what: &[u8]) -> Told {
     complain(rt, b"press: ");
     complain(rt, name);
     complain(rt, what);
+    Told
 }
 
 // The name of the file at hand, where there are several.
-fn say_file(rt: &impl Machine, s: Settings, file: usize, taken: bool) {
-    if s.several {
-        let mut text = name_room();
-        let n = argument(rt, file, &mut text);
-        if taken {
-            say(rt, s, front(&text, n));
-            say(rt, s, b": ");
-        } else {
-            complain(rt, front(&text, n));
-            complain(rt, b": ");
-        }
+fn file_name(rt: &impl Machine, s: Settings, file: Option<usize>) -> Option<Name> {
+    match file {
+        Some(i) if s.are_several() => Some(Name::argument(rt, i)),
+        _ => None,
     }
 }
 
+// A line about what was taken, behind the name of its file.
+fn say_of(rt: &impl Machine, s: Settings, file: Option<usize>, text: &[u8]) {
+    if let Some(name) = file_name(rt, s, file) {
+        say(rt, s, name.bytes());
+        say(rt, s, b": ");
+    }
+    say(rt, s, text);
+}
+
 // A line about a refusal, behind the name of its file.
-fn complain_of(rt: &impl Machine, s: Settings, file: usize, text: &[u8]) {
-    say_file(rt, s, file, false);
+fn complain_of(rt: &impl Machine, s: Settings, file: Option<usize>, text: &[u8]) {
+    if let Some(name) = file_name(rt, s, file) {
+        complain(rt, name.bytes());
+        complain(rt, b": ");
+    }
     complain(rt, text);
 }
 
 // The mark under a refused line, where its answer points to a place.
-fn point(rt: &impl Machine, s: Settings, file: usize, k: usize, a: Answer) {
+fn point(rt: &impl Machine, s: Settings, file: Option<usize>, k: usize, a: Answer) {
     if points(a) {
         let mut text = [0u8; 512];
         let n = words::mark(k, a, &mut text);
@@ -79,7 +85,7 @@ fn point(rt: &impl Machine, s: Settings, file: usize, k: usize, a: Answer) {
 pub fn left(
     rt: &impl Machine,
     s: Settings,
-    file: usize,
+    file: Option<usize>,
     k: usize,
     a: Answer,
     links: &[u16],
@@ -93,12 +99,18 @@ pub fn left(
 }
 
 // The line of a call.
-pub fn answer(rt: &impl Machine, s: Settings, file: usize, k: usize, a: Answer, line: &[u8]) {
+pub fn answer(
+    rt: &impl Machine,
+    s: Settings,
+    file: Option<usize>,
+    k: usize,
+    a: Answer,
+    line: &[u8],
+) {
     let mut text = [0u8; 512];
     let n = words::said(k, a, front(line, 255), &mut text);
     if is_taken(a) {
-        say_file(rt, s, file, true);
-        say(rt, s, front(&text, n));
+        say_of(rt, s, file, front(&text, n));
     } else {
         complain_of(rt, s, file, front(&text, n));
         point(rt, s, file, k, a);

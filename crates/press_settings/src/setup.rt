@@ -1,14 +1,14 @@
 // The command line, the font, the files: each is found good before anything is done.
 use crate::saying::{complain, failed, wrong};
-use crate::system::{argument, argument_count, name_room, open_read, read_full};
-use crate::{Machine, Question, Settings};
-use ground::{both, capped_sum, front};
+use crate::system::{argument_count, open_read, read_full};
+use crate::{Machine, Name, Question, Settings, Task, Told};
+use ground::{capped_sum, front};
 use numbers::NOUGHT;
-use options::{Kind, Number, Word};
+use options::{Kind, Word};
 use std::fs::File;
 use std::io::Read;
 
-fn usage(rt: &impl Machine, s: Settings) -> Settings {
+fn usage(rt: &impl Machine) {
     complain(
         rt,
         b"usage: press [-rows N] [-font F] [-out PREFIX] [-store FILE] [-zone MINUTES] [-noclock] [-quiet] [FILE ..]\n",
@@ -18,341 +18,262 @@ fn usage(rt: &impl Machine, s: Settings) -> Settings {
         b"   or: press [-rows N] [-store FILE] [-quiet] -fits form NAME | picture NAME SIZE\n",
     );
     complain(rt, b"   or: press [-rows N] [-quiet] -repair -store FILE\n");
-    let mut bad = s;
-    bad.good = false;
-    bad.over = true;
-    bad
 }
 
 // An option that is not one, or lacks its value.
-fn refuse(rt: &impl Machine, s: Settings, text: &[u8], why: &[u8]) -> Settings {
-    wrong(rt, text, why);
-    usage(rt, s)
+fn refuse(rt: &impl Machine, text: &[u8], why: &[u8]) -> Told {
+    let told = wrong(rt, text, why);
+    usage(rt);
+    told
 }
 
-fn number_of_rows(rt: &impl Machine, s: Settings) -> Settings {
-    let mut text = name_room();
-    let n = argument(rt, capped_sum(s.at, 1), &mut text);
-    let rows = options::rows(front(&text, n));
-    if rows == 0 {
-        return refuse(rt, s, b"-rows", b" needs a number from 1 to 4000\n");
+fn rows(rt: &impl Machine, i: usize) -> Result<usize, Told> {
+    let text = Name::argument(rt, i);
+    match options::rows(text.bytes()) {
+        Some(rows) => Ok(rows),
+        None => Err(refuse(rt, b"-rows", b" needs a number from 1 to 4000\n")),
     }
-    let mut next = s;
-    next.rows = rows;
-    next.at = capped_sum(s.at, 2);
-    next
 }
 
-fn zone(rt: &impl Machine, s: Settings) -> Settings {
-    let mut text = name_room();
-    let n = argument(rt, capped_sum(s.at, 1), &mut text);
-    let zone = options::zone(front(&text, n));
-    if zone == 0 {
-        return refuse(
+fn zone(rt: &impl Machine, i: usize) -> Result<usize, Told> {
+    let text = Name::argument(rt, i);
+    match options::zone(text.bytes()) {
+        Some(zone) => Ok(zone),
+        None => Err(refuse(
             rt,
-            s,
             b"-zone",
             b" needs the minutes ahead of UTC, from -1439 to +1439\n",
-        );
+        )),
     }
-    let mut next = s;
-    next.zone = zone;
-    next.at = capped_sum(s.at, 2);
-    next
 }
 
-// An option with a name behind it: font, out or store.
-fn name(rt: &impl Machine, s: Settings, text: &[u8]) -> Settings {
-    if s.count <= capped_sum(s.at, 1) {
-        return refuse(rt, s, text, b" needs a name\n");
+// The argument behind an option that has a name there: font, out or store.
+fn named(rt: &impl Machine, s: Settings, i: usize, option: &[u8]) -> Result<usize, Told> {
+    if s.count <= i {
+        return Err(refuse(rt, option, b" needs a name\n"));
     }
-    let mut next = s;
-    next.at = capped_sum(s.at, 2);
-    next
+    Ok(i)
 }
 
-fn unasked(rt: &impl Machine, s: Settings) -> Settings {
+fn unasked(rt: &impl Machine) -> Told {
     refuse(
         rt,
-        s,
         b"-fits",
         b" needs form NAME, or picture NAME SIZE with SIZE in 1 to 9 digits\n",
     )
 }
 
-// What is asked for, where its name can be shown again; so many words tell it.
-fn asked(rt: &impl Machine, s: Settings, question: Question, words: usize) -> Settings {
-    let mut text = name_room();
-    if rt.arg(question.name, &mut text).is_err() {
-        return refuse(rt, s, b"a name", b" is too long\n");
+// What is asked for, where its name can be shown again.
+fn asked(rt: &impl Machine, question: Question) -> Result<Task, Told> {
+    match Name::found(rt, question.name) {
+        Some(_) => Ok(Task::Answer(question)),
+        None => Err(refuse(rt, b"a name", b" is too long\n")),
     }
-    let mut next = s;
-    next.asked = question;
-    next.at = capped_sum(s.at, words);
-    next
 }
 
-fn asked_form(rt: &impl Machine, s: Settings) -> Settings {
-    let name = capped_sum(s.at, 2);
+fn asked_form(rt: &impl Machine, s: Settings, name: usize) -> Result<Task, Told> {
     if s.count <= name {
-        return unasked(rt, s);
+        return Err(unasked(rt));
     }
-    let question = Question {
-        name: name,
-        picture: false,
-        size: 0,
-    };
-    asked(rt, s, question, 3)
+    asked(rt, Question { name, size: None })
 }
 
-fn asked_picture(rt: &impl Machine, s: Settings) -> Settings {
-    let mut text = name_room();
-    let n = argument(rt, capped_sum(s.at, 3), &mut text);
-    let Number::Of(size) = options::whole_number(front(&text, n)) else {
-        return unasked(rt, s);
-    };
-    let question = Question {
-        name: capped_sum(s.at, 2),
-        picture: true,
-        size: size,
-    };
-    asked(rt, s, question, 4)
+fn asked_picture(rt: &impl Machine, name: usize) -> Result<Task, Told> {
+    let text = Name::argument(rt, capped_sum(name, 1));
+    match options::whole_number(text.bytes()) {
+        None => Err(unasked(rt)),
+        size => asked(rt, Question { name, size }),
+    }
 }
 
 // One store cannot be asked as it is and be repaired.
-fn both_asked(rt: &impl Machine, s: Settings) -> Settings {
-    refuse(rt, s, b"-fits", b" and -repair do not go together\n")
+fn both_asked(rt: &impl Machine) -> Told {
+    refuse(rt, b"-fits", b" and -repair do not go together\n")
 }
 
-// -fits and what is asked for. Of two questions one would go without its answer.
-fn question(rt: &impl Machine, s: Settings) -> Settings {
-    if s.asked.name != 0 {
-        return refuse(
-            rt,
-            s,
-            b"-fits",
-            b" asks for one form or picture, not for two\n",
-        );
+// -fits and what is asked for; the place behind it. Of two questions one would go without its answer.
+fn question(rt: &impl Machine, s: &mut Settings, at: usize) -> Result<usize, Told> {
+    match s.task {
+        Task::Labels => {}
+        Task::Answer(_) => {
+            return Err(refuse(
+                rt,
+                b"-fits",
+                b" asks for one form or picture, not for two\n",
+            ));
+        }
+        Task::Repair => return Err(both_asked(rt)),
     }
-    if s.repair {
-        return both_asked(rt, s);
-    }
-    let mut text = name_room();
-    let n = argument(rt, capped_sum(s.at, 1), &mut text);
-    match options::kind_of(front(&text, n)) {
-        Kind::Form => asked_form(rt, s),
-        Kind::Picture => asked_picture(rt, s),
-        Kind::Neither => unasked(rt, s),
+    let text = Name::argument(rt, capped_sum(at, 1));
+    match options::kind_of(text.bytes()) {
+        Some(Kind::Form) => {
+            s.task = asked_form(rt, *s, capped_sum(at, 2))?;
+            Ok(capped_sum(at, 3))
+        }
+        Some(Kind::Picture) => {
+            s.task = asked_picture(rt, capped_sum(at, 2))?;
+            Ok(capped_sum(at, 4))
+        }
+        None => Err(unasked(rt)),
     }
 }
 
-fn repair(rt: &impl Machine, s: Settings) -> Settings {
-    if s.asked.name != 0 {
-        return both_asked(rt, s);
+fn repair(rt: &impl Machine, s: &mut Settings, at: usize) -> Result<usize, Told> {
+    if let Task::Answer(_) = s.task {
+        return Err(both_asked(rt));
     }
-    let mut next = s;
-    next.repair = true;
-    next.at = capped_sum(s.at, 1);
-    next
+    s.task = Task::Repair;
+    Ok(capped_sum(at, 1))
 }
 
 // The first file of commands, with which the options end. Who asks or repairs names none, so that nobody takes its commands for done.
-fn first_file(rt: &impl Machine, s: Settings, text: &[u8]) -> Settings {
-    if s.repair {
-        return refuse(
+fn first_file(rt: &impl Machine, s: &mut Settings, at: usize, text: &[u8]) -> Result<usize, Told> {
+    match s.task {
+        Task::Labels => {
+            s.files = Some(at);
+            Ok(at)
+        }
+        Task::Answer(_) => Err(refuse(
             rt,
-            s,
-            text,
-            b" is one word too many: -repair reads no commands, and takes no file\n",
-        );
-    }
-    if s.asked.name != 0 {
-        return refuse(
-            rt,
-            s,
             text,
             b" is one word too many: -fits reads no commands, and takes no file\n",
-        );
+        )),
+        Task::Repair => Err(refuse(
+            rt,
+            text,
+            b" is one word too many: -repair reads no commands, and takes no file\n",
+        )),
     }
-    let mut next = s;
-    next.files = s.at;
-    next.several = capped_sum(s.at, 1) < s.count;
-    next.over = true;
-    next
 }
 
-fn quiet(s: Settings) -> Settings {
-    let mut next = s;
-    next.quiet = true;
-    next.at = capped_sum(s.at, 1);
-    next
-}
-
-fn without_clock(s: Settings) -> Settings {
-    let mut next = s;
-    next.clock = false;
-    next.at = capped_sum(s.at, 1);
-    next
-}
-
-fn option(rt: &impl Machine, s: Settings) -> Settings {
-    let mut text = name_room();
-    let Ok(n) = rt.arg(s.at, &mut text) else {
-        return refuse(rt, s, b"an argument", b" is too long\n");
+// The option at a place, and the place behind it.
+fn option(rt: &impl Machine, s: &mut Settings, at: usize) -> Result<usize, Told> {
+    let Some(text) = Name::found(rt, at) else {
+        return Err(refuse(rt, b"an argument", b" is too long\n"));
     };
-    let word = front(&text, n);
+    let word = text.bytes();
     if options::asks_repair(word) {
-        return repair(rt, s);
+        return repair(rt, s, at);
     }
+    let next = capped_sum(at, 1);
     match options::word_of(word) {
-        Word::Rows => number_of_rows(rt, s),
-        Word::Font => {
-            let mut next = name(rt, s, word);
-            next.font = capped_sum(s.at, 1);
-            next
+        Word::Rows => s.rows = Some(rows(rt, next)?),
+        Word::Font => s.font = Some(named(rt, *s, next, word)?),
+        Word::Out => s.out = Some(named(rt, *s, next, word)?),
+        Word::Store => s.store = Some(named(rt, *s, next, word)?),
+        Word::Zone => s.clock = s.clock.and(Some(zone(rt, next)?)),
+        Word::NoClock => {
+            s.clock = None;
+            return Ok(next);
         }
-        Word::Out => {
-            let mut next = name(rt, s, word);
-            next.out = capped_sum(s.at, 1);
-            next
+        Word::Quiet => {
+            s.quiet = true;
+            return Ok(next);
         }
-        Word::Store => {
-            let mut next = name(rt, s, word);
-            next.store = capped_sum(s.at, 1);
-            next
-        }
-        Word::Quiet => quiet(s),
-        Word::Zone => zone(rt, s),
-        Word::NoClock => without_clock(s),
-        Word::Fits => question(rt, s),
-        Word::Unknown => refuse(rt, s, word, b" is no option\n"),
-        Word::File => first_file(rt, s, word),
+        Word::Fits => return question(rt, s, at),
+        Word::Unknown => return Err(refuse(rt, word, b" is no option\n")),
+        Word::File => return first_file(rt, s, at, word),
     }
+    Ok(capped_sum(at, 2))
 }
 
 // The words of the command line, one after the other, up to the first file.
-fn words_read(rt: &impl Machine) -> Settings {
+fn words_read(rt: &impl Machine) -> Result<Settings, Told> {
     let mut s = Settings {
-        rows: 0,
-        font: 0,
-        out: 0,
-        store: 0,
-        files: 0,
+        rows: None,
+        font: None,
+        out: None,
+        store: None,
+        files: None,
         count: argument_count(rt),
-        asked: Question {
-            name: 0,
-            picture: false,
-            size: 0,
-        },
-        zone: NOUGHT,
-        clock: true,
-        repair: false,
+        task: Task::Labels,
+        clock: Some(NOUGHT),
         quiet: false,
-        several: false,
-        good: true,
-        at: 1,
-        over: false,
     };
+    let mut at = 1;
     for _ in 0..65536u32 {
-        if s.over {
-            return s;
+        if s.files.is_some() || s.count <= at {
+            return Ok(s);
         }
-        if s.count <= s.at {
-            return s;
-        }
-        s = option(rt, s);
+        at = option(rt, &mut s, at)?;
     }
-    s
+    Ok(s)
 }
 
 // The command line. A store that is to be repaired must be named, before the word -repair or behind it.
-pub fn command_line(rt: &impl Machine) -> Settings {
-    let s = words_read(rt);
-    if both(both(s.good, s.repair), s.store == 0) {
-        return refuse(rt, s, b"-repair", b" needs -store FILE\n");
+pub fn command_line(rt: &impl Machine) -> Result<Settings, Told> {
+    let s = words_read(rt)?;
+    match s.task {
+        Task::Repair if s.store.is_none() => Err(refuse(rt, b"-repair", b" needs -store FILE\n")),
+        _ => Ok(s),
     }
-    s
 }
 
-// The font's bytes at the front of a buffer, how many they are; 0 where it is none.
-pub fn font(rt: &impl Machine, s: Settings, font: &mut [u8]) -> usize {
-    if s.font == 0 {
+// The font's bytes at the front of a buffer, and how many they are.
+pub fn font(rt: &impl Machine, s: Settings, font: &mut [u8]) -> Result<usize, Told> {
+    let Some(i) = s.font else {
         let plain = plainfont::bytes();
         ground::put(font, 0, &plain);
-        return 1908;
-    }
-    let mut text = name_room();
-    let n = argument(rt, s.font, &mut text);
-    let name = front(&text, n);
-    match open_read(rt, name) {
-        Ok(file) => read_font(rt, name, file, font),
-        Err(why) => {
-            failed(rt, b"cannot open the font ", name, why);
-            0
-        }
+        return Ok(plain.len());
+    };
+    let name = Name::argument(rt, i);
+    match open_read(rt, name.bytes()) {
+        Ok(file) => read_font(rt, name.bytes(), file, font),
+        Err(why) => Err(failed(rt, b"cannot open the font ", name.bytes(), why)),
     }
 }
 
 // The same of a font file that is open.
-fn read_font(rt: &impl Machine, name: &[u8], file: File, font: &mut [u8]) -> usize {
-    let mut open = file;
-    let k = read_full(&mut open, font);
-    if !font::is_legal(front(font, k)) {
-        wrong(
-            rt,
-            name,
-            b" is no font: it breaks the rules of a font file\n",
-        );
-        return 0;
+fn read_font(
+    rt: &impl Machine,
+    name: &[u8],
+    mut file: File,
+    font: &mut [u8],
+) -> Result<usize, Told> {
+    let k = read_full(&mut file, font);
+    if font::is_legal(front(font, k)) {
+        return Ok(k);
     }
-    k
+    Err(wrong(
+        rt,
+        name,
+        b" is no font: it breaks the rules of a font file\n",
+    ))
 }
 
-// Whether a file can be opened and read.
-fn readable_file(rt: &impl Machine, i: usize) -> bool {
-    let mut text = name_room();
-    let n = argument(rt, i, &mut text);
-    let name = front(&text, n);
-    match open_read(rt, name) {
-        Ok(file) => gives_a_byte(rt, name, file),
-        Err(why) => {
-            failed(rt, b"cannot open ", name, why);
-            false
-        }
+// A file that cannot be opened and read is told.
+fn readable_file(rt: &impl Machine, i: usize) -> Result<(), Told> {
+    let name = Name::argument(rt, i);
+    match open_read(rt, name.bytes()) {
+        Ok(file) => gives_a_byte(rt, name.bytes(), file),
+        Err(why) => Err(failed(rt, b"cannot open ", name.bytes(), why)),
     }
 }
 
-// Whether a file that is open can be read: its first byte is asked for.
-fn gives_a_byte(rt: &impl Machine, name: &[u8], file: File) -> bool {
-    let mut open = file;
+// The same of a file that is open: its first byte is asked for.
+fn gives_a_byte(rt: &impl Machine, name: &[u8], mut file: File) -> Result<(), Told> {
     let mut one = [0u8; 1];
-    match open.read(&mut one) {
-        Ok(_) => true,
-        Err(why) => {
-            failed(rt, b"cannot read ", name, why);
-            false
-        }
+    match file.read(&mut one) {
+        Ok(_) => Ok(()),
+        Err(why) => Err(failed(rt, b"cannot read ", name, why)),
     }
 }
 
-// Whether all files can be.
-pub fn readable(rt: &impl Machine, s: Settings) -> bool {
-    if s.files == 0 {
-        return true;
+// The files of the command line: the first that cannot be read is told.
+pub fn readable(rt: &impl Machine, s: Settings) -> Result<(), Told> {
+    let Some(first) = s.files else {
+        return Ok(());
+    };
+    for i in first..s.count {
+        readable_file(rt, i)?;
     }
-    for i in s.files..s.count {
-        if !readable_file(rt, i) {
-            return false;
-        }
-    }
-    true
+    Ok(())
 }
 
 // What the names of pictures start with.
-pub fn prefix(rt: &impl Machine, s: Settings, text: &mut [u8]) -> usize {
-    if s.out == 0 {
-        ground::put(text, 0, b"label");
-        return 5;
+pub fn prefix(rt: &impl Machine, s: Settings) -> Name {
+    match s.out {
+        Some(i) => Name::argument(rt, i),
+        None => Name::joined(b"label", b""),
     }
-    argument(rt, s.out, text)
 }

@@ -1,6 +1,4 @@
 // What a run asks of the machine: the words of its command line, files by their names, the clock, and the three streams.
-ghost use Rattle.std.specs.Prelude.{◌≡◌, length};
-
 use ground::capped_sum;
 use std::env::FillError;
 use std::fs::{File, OpenOptions};
@@ -26,28 +24,9 @@ impl Machine for HostRuntime {
     }
 }
 
-// Room for an argument or a file's name: 4,096 zeros, of which only the number is promised, so that nobody counts them one by one.
-pub fn name_room() -> [u8; 4096]
-    ensures { 4096 ≡ length result }
-{
-    [0; 4096]
-}
-
-// Argument i at the front of a buffer, and how many bytes it has; 0 where there is none, or where it is longer than the buffer.
-pub fn argument(rt: &impl Env, i: usize, text: &mut [u8]) -> usize {
-    match rt.arg(i, text) {
-        Ok(n) => n,
-        Err(_) => 0,
-    }
-}
-
 fn is_missing(rt: &impl Env, i: usize) -> bool {
     let mut text = [0u8; 1];
-    match rt.arg(i, &mut text) {
-        Ok(_) => false,
-        Err(FillError::TooLong) => false,
-        Err(FillError::NotPresent) => true,
-    }
+    matches!(rt.arg(i, &mut text), Err(FillError::NotPresent))
 }
 
 // How many arguments there are, the program's own name among them.
@@ -65,10 +44,7 @@ const NO_CHARACTERS: i32 = 84;
 
 // A file's name as text, by which alone it is asked for: UTF-8.
 fn text_of(name: &[u8]) -> io::Result<&str> {
-    match str::from_utf8(name) {
-        Ok(text) => Ok(text),
-        Err(_) => Err(io::Error::from_raw_os_error(NO_CHARACTERS)),
-    }
+    str::from_utf8(name).map_err(|_| io::Error::from_raw_os_error(NO_CHARACTERS))
 }
 
 // A file that is there, for reading.
@@ -79,10 +55,7 @@ pub fn open_read<R: Files>(rt: &R, name: &[u8]) -> io::Result<R::File> {
 // A file that is there, for reading and change; its bytes stay.
 pub fn open_update<R: Files>(rt: &R, name: &[u8]) -> io::Result<R::File> {
     let text = text_of(name)?;
-    let mut how = OpenOptions::new();
-    how.read(true);
-    how.write(true);
-    how.open(rt, text)
+    OpenOptions::new().read(true).write(true).open(rt, text)
 }
 
 // A file for writing, made where it is missing and emptied where it is there.
@@ -93,10 +66,10 @@ pub fn create<R: Files>(rt: &R, name: &[u8]) -> io::Result<R::File> {
 // A file for writing that was not there.
 pub fn create_new<R: Files>(rt: &R, name: &[u8]) -> io::Result<R::File> {
     let text = text_of(name)?;
-    let mut how = OpenOptions::new();
-    how.write(true);
-    how.create_new(true);
-    how.open(rt, text)
+    OpenOptions::new()
+        .write(true)
+        .create_new(true)
+        .open(rt, text)
 }
 
 pub fn rename(rt: &impl Files, from: &[u8], to: &[u8]) -> io::Result<()> {

@@ -1,5 +1,16 @@
-// Room for what is lent: zeros, of which only the number is promised, so that nobody counts them one by one.
+// Room for what is lent: zeros, of which only the number is promised, so that nobody counts them one by one. Who makes room makes the five one by one: of a
+// struct that has them, no proof is made for a part that is lent of an array behind a reference.
 ghost use Rattle.std.specs.Prelude.{◌≡◌, length};
+
+// What a station is lent for all of its calls.
+#[derive(Drop)]
+pub struct Lent<'a> {
+    pub background: &'a mut [u8],
+    pub store: &'a mut [u8],
+    pub links: &'a mut [u16],
+    pub directory: &'a mut [u8],
+    pub values: &'a mut [u8],
+}
 
 // 4,000 rows.
 pub fn rows() -> [u8; 304000]

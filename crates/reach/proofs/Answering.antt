@@ -1,4 +1,5 @@
 -- Laws of `reaches_past` and `answered`.
+use Rattle.std.proofs.Common.{Result, Ok, Err}
 use mathlib.Core.Path.{◌≡◌, refl, sym, ◌∙◌}
 use mathlib.Core.Bool.{Bool, true, false, cond, ◌||◌}
 use mathlib.Core.List.{List}
@@ -9,12 +10,11 @@ use lib.Dec.{ltb}
 use borrow.Author.Tests.{lt-ltb, le-ltb}
 use Rattle.elements.specs.declared.Part.TheVariants.{Middle}
 use Rattle.elements.specs.declared.Element.{Element}
-use Rattle.elements.specs.declared.Step.TheVariants.{Next, Stop}
 use Rattle.elements.specs.Elements.{element_at, elements, after}
 use Rattle.elements.proofs.Steps.{elements-next, elements-stop}
 use Rattle.declarations.specs.declared.Declared.{Declared}
-use Rattle.reach.specs.declared.DataAnswer.{DataAnswer}
-use Rattle.reach.specs.declared.DataAnswer.TheVariants.{Good, Undeclared, Past}
+use Rattle.reach.specs.declared.DataFault.{DataFault}
+use Rattle.reach.specs.declared.DataFault.TheVariants.{Undeclared, Past}
 use Rattle.reach.specs.Answers.{reaches_past, undeclared_by, past_by, some_of, leftmost, or_else, answered}
 
 -- ---- how far a modifier reaches
@@ -33,26 +33,24 @@ middle-near p n m h = elim (dec_le p (m + 1 - n)) [
 -- ---- along the elements
 
 or-else-next :
-    (before : DataAnswer) (p q : Bool) (at n : ℕ) →
-    or_else before (cond (p || q) (Past (cond p at n)) Good) ≡ or_else (or_else before (cond p (Past at) Good)) (cond q (Past n) Good)
-or-else-next Good true q at n = refl
-or-else-next Good false q at n = refl
-or-else-next (Undeclared m) p q at n = refl
-or-else-next (Past m) p q at n = refl
+    (before : Result Unit DataFault) (p q : Bool) (at n : ℕ) →
+    or_else before (cond (p || q) (Err (Past (cond p at n))) (Ok tt)) ≡ or_else (or_else before (cond p (Err (Past at)) (Ok tt))) (cond q (Err (Past n)) (Ok tt))
+or-else-next (Ok u) true q at n = refl
+or-else-next (Ok u) false q at n = refl
+or-else-next (Err fault) p q at n = refl
 
-or-else-good : (before : DataAnswer) → or_else before Good ≡ before
-or-else-good Good = refl
-or-else-good (Undeclared m) = refl
-or-else-good (Past m) = refl
+or-else-good : (before : Result Unit DataFault) → or_else before (Ok tt) ≡ before
+or-else-good (Ok u) = refl
+or-else-good (Err fault) = refl
 
-module _ (d : Declared) (before : DataAnswer) (s : List ℕ) (i : ℕ) where
-  module _ (e : Element) (found : element_at s i ≡ Next e) where
-    pub answered-undeclared : undeclared_by d e.what ≡ true → answered d before (elements s i) ≡ Undeclared e.at
+module _ (d : Declared) (before : Result Unit DataFault) (s : List ℕ) (i : ℕ) where
+  module _ (e : Element) (found : element_at s i ≡ Ok e) where
+    pub answered-undeclared : undeclared_by d e.what ≡ true → answered d before (elements s i) ≡ Err (Undeclared e.at)
     answered-undeclared h = rw (elements-next s i e found, h)
 
     pub answered-next :
         undeclared_by d e.what ≡ false →
-        answered d before (elements s i) ≡ answered d (or_else before (cond (past_by d e.what) (Past e.at) Good)) (elements s (after e))
+        answered d before (elements s i) ≡ answered d (or_else before (cond (past_by d e.what) (Err (Past e.at)) (Ok tt))) (elements s (after e))
     answered-next h =
         rw (
           elements-next s i e found,
@@ -60,5 +58,5 @@ module _ (d : Declared) (before : DataAnswer) (s : List ℕ) (i : ℕ) where
           or-else-next before (past_by d e.what) (some_of (past_by d) (elements s (after e))) e.at (leftmost (past_by d) (elements s (after e))),
         )
 
-  pub answered-stop : (p : ℕ) → element_at s i ≡ Stop p → answered d before (elements s i) ≡ before
+  pub answered-stop : (p : ℕ) → element_at s i ≡ Err p → answered d before (elements s i) ≡ before
   answered-stop p found = rw (elements-stop s i p found) (or-else-good before)

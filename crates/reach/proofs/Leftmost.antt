@@ -1,4 +1,5 @@
 -- The leftmost element of a row that is at fault is leftmost, and stands within the line.
+use Rattle.std.specs.Prelude.{Result, Ok, Err}
 use mathlib.Core.Path.{◌≡◌, refl}
 use mathlib.Core.Bool.{Bool, true, false, cond, false≢true, ◌||◌}
 use mathlib.Core.List.{List, [], ◌∷◌}
@@ -7,8 +8,6 @@ use native.Mathlib.Omega.{arith}
 use lib.ListN.{length}
 use Rattle.elements.specs.declared.What.{What}
 use Rattle.elements.specs.declared.Element.{Element}
-use Rattle.elements.specs.declared.Step.{Step}
-use Rattle.elements.specs.declared.Step.TheVariants.{Next, Stop}
 use Rattle.elements.specs.Elements.{element_at, after, follow, elements_from, elements}
 use Rattle.elements.proofs.Steps.{Took, element-took}
 use Rattle.reach.specs.Answers.{some_of, leftmost, Leftmost}
@@ -42,9 +41,9 @@ unfolding elements_from
 from-inside q s zero at = omega arith
 from-inside q s (suc n) at = by (element_at s at) (element-took s at) (from-inside q s n)
   where
-    by : (x : Step) → Took s at x → ((i : ℕ) → leftmost q (elements_from n s i) ≤ length s) → leftmost q (follow x (elements_from n s)) ≤ length s
-    by (Next e) t more = place_inside e.at (leftmost q (elements_from n s (after e))) (length s) (q e.what) (omega (arith, t)) (more (after e))
-    by (Stop p) t more = omega arith
+    by : (x : Result Element ℕ) → Took s at x → ((i : ℕ) → leftmost q (elements_from n s i) ≤ length s) → leftmost q (follow x (elements_from n s)) ≤ length s
+    by (Ok e) t more = place_inside e.at (leftmost q (elements_from n s (after e))) (length s) (q e.what) (omega (arith, t)) (more (after e))
+    by (Err p) t more = omega arith
 
 -- it is no place past the line
 pub leftmost-inside : (q : What → Bool) (s : List ℕ) (at : ℕ) → leftmost q (elements s at) ≤ length s

@@ -1,6 +1,6 @@
 -- Answers 13 and 14 for a line's data: "variable or counter not declared", "a modifier reaches past the declared length".
 -- Assumes nothing.
-use Rattle.std.specs.Prelude.{ℕ, ◌+◌, ◌-◌, ◌≡◌, Bool, true, false, cond, ◌||◌, not, List, [], ◌∷◌, ◌++◌, ltb}
+use Rattle.std.specs.Prelude.{ℕ, ◌+◌, ◌-◌, ◌≡◌, Bool, true, false, cond, ◌||◌, not, List, [], ◌∷◌, ◌++◌, ltb, Result, Ok, Err}
 use Rattle.elements.specs.declared.Part.{Part}
 use Rattle.elements.specs.declared.Part.TheVariants.{Whole, First, Last, Middle}
 use Rattle.elements.specs.declared.What.{What}
@@ -8,8 +8,8 @@ use Rattle.elements.specs.declared.What.TheVariants.{Text, Variable, Counter, St
 use Rattle.elements.specs.declared.Element.{Element}
 use Rattle.declarations.specs.declared.Declared.{Declared}
 use Rattle.declarations.specs.Declarations.{length_at, width_at, variable_declared, counter_declared}
-use Rattle.reach.specs.declared.DataAnswer.{DataAnswer}
-use Rattle.reach.specs.declared.DataAnswer.TheVariants.{Good, Undeclared, Past}
+use Rattle.reach.specs.declared.DataFault.{DataFault}
+use Rattle.reach.specs.declared.DataFault.TheVariants.{Undeclared, Past}
 
 -- the last place that a modifier takes
 abbrev pub reach : Part → ℕ
@@ -57,18 +57,17 @@ pub record Leftmost (q : What → Bool) (es : List Element) (place : ℕ) : Type
   pub points : place ≡ found.at
 
 -- [14] of a row of elements, at the leftmost that reaches past
-abbrev pub past_of : Declared → List Element → DataAnswer
-past_of d es = cond (some_of (past_by d) es) (Past (leftmost (past_by d) es)) Good
+abbrev pub past_of : Declared → List Element → Result Unit DataFault
+past_of d es = cond (some_of (past_by d) es) (Err (Past (leftmost (past_by d) es))) (Ok tt)
 
 -- what elements before gave, or else what these give
-abbrev pub or_else : DataAnswer → DataAnswer → DataAnswer
-or_else Good a = a
-or_else (Undeclared p) a = Undeclared p
-or_else (Past p) a = Past p
+abbrev pub or_else : Result Unit DataFault → Result Unit DataFault → Result Unit DataFault
+or_else (Ok u) a = a
+or_else (Err fault) a = Err fault
 
 -- "The lowest number that applies is given"; before is what the elements before gave of 14
-abbrev pub answered : Declared → DataAnswer → List Element → DataAnswer
-answered d before es = cond (some_of (undeclared_by d) es) (Undeclared (leftmost (undeclared_by d) es)) (or_else before (past_of d es))
+abbrev pub answered : Declared → Result Unit DataFault → List Element → Result Unit DataFault
+answered d before es = cond (some_of (undeclared_by d) es) (Err (Undeclared (leftmost (undeclared_by d) es))) (or_else before (past_of d es))
 
-unfoldable pub data_answer : Declared → List Element → DataAnswer
-data_answer d es = answered d Good es
+unfoldable pub data_answer : Declared → List Element → Result Unit DataFault
+data_answer d es = answered d (Ok tt) es

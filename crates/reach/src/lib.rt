@@ -11,10 +11,9 @@ ghost use Rattle.reach.specs.Answers.{reaches_past, undeclared_by, past_by, or_e
 use declarations::Declared;
 use elements::{Part, What};
 
-// Good as far as 13 and 14 go; 13 a variable or counter is not declared, 14 a modifier reaches past the declared length, each with the place of the leftmost such element.
+// Why 13 and 14 refuse data: 13 a variable or counter is not declared, 14 a modifier reaches past the declared length, each with the place of the leftmost such element.
 #[derive(Clone, Copy)]
-pub enum DataAnswer {
-    Good,
+pub enum DataFault {
     Undeclared(usize),
     Past(usize),
 }
@@ -67,18 +66,12 @@ pub fn past_by(d: Declared, what: What) -> bool
 }
 
 // What one more element adds, which stands at a place: an element before it that reached past stays the leftmost.
-pub fn first_past(before: DataAnswer, past: bool, at: usize) -> DataAnswer
-    ensures { result ≡ or_else before (cond past (DataAnswer.Past at) DataAnswer.Good) }
+pub fn first_past(before: Result<(), DataFault>, past: bool, at: usize) -> Result<(), DataFault>
+    ensures { result ≡ or_else before (cond past (Err (DataFault.Past at)) (Ok tt)) }
 {
-    match before {
-        DataAnswer::Good => {
-            if past {
-                DataAnswer::Past(at)
-            } else {
-                DataAnswer::Good
-            }
-        }
-        DataAnswer::Undeclared(p) => DataAnswer::Undeclared(p),
-        DataAnswer::Past(p) => DataAnswer::Past(p),
+    before?;
+    if past {
+        return Err(DataFault::Past(at));
     }
+    Ok(())
 }

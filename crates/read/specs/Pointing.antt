@@ -1,15 +1,15 @@
 -- Paper 02, §2, and §10 for the clock's lines: what a refusal points to, sentence by sentence, with lines that show it: antt computes each.
 -- Assumes nothing.
-use Rattle.std.specs.Prelude.{ℕ, ◌≡◌, refl, ◌∷◌, ◌++◌}
+use Rattle.std.specs.Prelude.{ℕ, ◌≡◌, refl, ◌∷◌, ◌++◌, Err}
 use Prim.Native.String.{String}
 use Rattle.kinds.specs.Bytes.{between}
 use Rattle.kinds.specs.Text.{bytes}
 use Rattle.classes.specs.Bytes.{run}
-use Rattle.numbers.specs.Number.{value_from, number_at, signed_at}
-use Rattle.fields.specs.Field.{text_at, byte_at, letter_at, type_at, under_at}
-use Rattle.elements.specs.Elements.{modifier_at, held_at, stamped_at, element_at, elements_from, elements}
+use Rattle.grammar.specs.Number.{value_from, number_at, signed_at}
+use Rattle.data_field.specs.Field.{text_at, byte_at, letter_at, type_at, under_at}
+use Rattle.data_field.specs.Elements.{modifier_at, held_at, stamped_at, element_at, elements_from, elements}
 use Rattle.data_field.specs.Data.{total, data_at, limits}
-use Rattle.reader.specs.Letters.{field_at}
+use Rattle.row_fields.specs.Letters.{field_at}
 use Rattle.calendar.specs.Clock.{leap, thirty, days_in}
 use Rattle.formats.specs.Formats.{unit, new_unit, separator, packed}
 use Rattle.format_field.specs.Reading.{letter, unit_of, date_field, time_field, cut_at, field_at as format_field_at, further_at, format_at, format_field}
@@ -19,14 +19,13 @@ use Rattle.row_fields.specs.Reading.{fields_from}
 use Rattle.row_limits.specs.Limits.{meets, field_limits, limits_from}
 use Rattle.read.specs.Commands.{read_of, headed, judged}
 use Rattle.read.specs.declared.Fault.TheVariants.{Form as form, Limit}
-use Rattle.read.specs.declared.Read.TheVariants.{Refused}
 
 -- a line that is answered by 6 with a place, and by 7 with a place
 abbrev Unformed : String → ℕ → Type 0
-Unformed line place = read_of 240 (bytes line) ≡ Refused (form place)
+Unformed line place = read_of 240 (bytes line) ≡ Err (form place)
 
 abbrev Outside : String → ℕ → Type 0
-Outside line place = read_of 240 (bytes line) ≡ Refused (Limit place)
+Outside line place = read_of 240 (bytes line) ≡ Err (Limit place)
 
 -- the command's letters are the longest that match; where none do, the first byte is at fault
 letters : Unformed "LX" 0 × Unformed "1" 0 × Unformed "lo1,2,3,4" 0
@@ -49,7 +48,7 @@ unfolding read_of headed judged head_of head_by find fields_from field_at number
 words = (refl, refl, refl, refl, refl)
 
 -- a quoted text runs through its second quote: a bad byte inside points to the first
-texts : read_of 240 (bytes "FS\"A" ++ (7 ∷ bytes "B\"")) ≡ Refused (form 2)
+texts : read_of 240 (bytes "FS\"A" ++ (7 ∷ bytes "B\"")) ≡ Err (form 2)
 unfolding read_of headed judged head_of head_by find fields_from field_at byte_at text_at run between
 texts = refl
 

@@ -11,7 +11,7 @@ ghost use Rattle.std.specs.Prelude.{◌≡◌};
 ghost use Rattle.read.specs.Commands.{read_of};
 
 use grammar::Command;
-use heads::{Head, head_of, letters_fault};
+use heads::{head_of, letters_fault};
 
 // Answer 6, the form, or 7, a limit; and the place at fault.
 #[derive(Clone, Copy)]
@@ -20,18 +20,12 @@ pub enum Fault {
     Limit(usize),
 }
 
-#[derive(Clone, Copy)]
-pub enum Read {
-    Taken(Command),
-    Refused(Fault),
-}
-
 // Reads a line without its LF, on a page of so many rows.
-pub fn read_line(line: &[u8], rows: usize) -> Read
+pub fn read_line(line: &[u8], rows: usize) -> Result<Command, Fault>
     ensures { result ≡ read_of rows line.now }
 {
-    let Head::Row(row) = head_of(line) else {
-        return Read::Refused(Fault::Form(letters_fault(line)));
+    let Some(row) = head_of(line) else {
+        return Err(Fault::Form(letters_fault(line)));
     };
     lines::judge(line, row, rows)
 }

@@ -5,57 +5,53 @@
 // after any declarations. What fit data is stands in crate `fitness`, what a whole form says in crate `forms`.
 #![tactic(auto)]
 
-ghost use Rattle.std.specs.Prelude.{◌≡◌, true, cond};
-ghost use Rattle.finding.specs.Find.{is_at, titled_at};
+ghost use Rattle.std.specs.Prelude.{◌≡◌, true, cond, is_some};
+ghost use Rattle.finding.specs.Find.{titled_at};
 ghost use Rattle.parts.specs.Names.{packed_of};
 ghost use Rattle.grammar.specs.Named.{DECLARED-AT};
-ghost use Rattle.recording.specs.Judged.{judged_data, judged, declares, declaration, is_taken, has_picture};
+ghost use Rattle.recording.specs.Judged.{judged_data, judged, declares, declaration, has_picture};
 
 use declarations::Declared;
-use finding::is_at;
-use fitness::Judgement;
+use fitness::NotFit;
 use grammar::Item;
 use grammar::row::DECLARED_AT;
 use kinds::Kind;
 
-// What recording answers for an item: taken, or 12 to 15 with the place in its line.
+// Why recording refuses an item: 12 to 15 with the place in its line.
 #[derive(Clone, Copy)]
-pub enum Verdict {
-    Taken,
+pub enum Refusal {
     Again(usize),
     Undeclared(usize),
     Past(usize),
     Unfit(usize),
 }
 
-fn again(declared: bool) -> Verdict
-    ensures { result ≡ cond declared (Verdict.Again DECLARED-AT) Verdict.Taken }
+fn again(declared: bool) -> Result<(), Refusal>
+    ensures { result ≡ cond declared (Err (Refusal.Again DECLARED-AT)) (Ok tt) }
 {
     if declared {
-        Verdict::Again(DECLARED_AT)
+        Err(Refusal::Again(DECLARED_AT))
     } else {
-        Verdict::Taken
+        Ok(())
     }
 }
 
-fn judge_data(line: &[u8], at: usize, d: Declared, kind: Kind) -> Verdict
+fn judge_data(line: &[u8], at: usize, d: Declared, kind: Kind) -> Result<(), Refusal>
     ensures { result ≡ judged_data d line.now at kind }
 {
-    let judgement = fitness::judge(line, at, d, kind);
-    match judgement {
-        Judgement::Fit => Verdict::Taken,
-        Judgement::Undeclared(p) => Verdict::Undeclared(p),
-        Judgement::Past(p) => Verdict::Past(p),
-        Judgement::Unfit => Verdict::Unfit(at),
-    }
+    fitness::judge(line, at, d, kind).map_err(|fault| match fault {
+        NotFit::Undeclared(p) => Refusal::Undeclared(p),
+        NotFit::Past(p) => Refusal::Past(p),
+        NotFit::Unfit => Refusal::Unfit(at),
+    })
 }
 
 // What recording answers for an item of a line, after the declarations d.
-pub fn judge(line: &[u8], item: Item, d: Declared) -> Verdict
+pub fn judge(line: &[u8], item: Item, d: Declared) -> Result<(), Refusal>
     ensures { result ≡ judged d line.now item }
 {
     match item {
-        Item::Origin(_) => Verdict::Taken,
+        Item::Origin(_) => Ok(()),
         Item::Variable(v) => again(d.variable_declared(v.n)),
         Item::Counter(c) => again(d.counter_declared(c.n)),
         Item::Text(t) => judge_data(line, t.at, d, Kind::Shown),
@@ -63,11 +59,11 @@ pub fn judge(line: &[u8], item: Item, d: Declared) -> Verdict
             let kind = b.kind;
             judge_data(line, b.at, d, kind)
         }
-        Item::Box(_) => Verdict::Taken,
-        Item::Frame(_) => Verdict::Taken,
-        Item::Slant(_) => Verdict::Taken,
-        Item::Picture(_) => Verdict::Taken,
-        Item::Format(_) => Verdict::Taken,
+        Item::Box(_) => Ok(()),
+        Item::Frame(_) => Ok(()),
+        Item::Slant(_) => Ok(()),
+        Item::Picture(_) => Ok(()),
+        Item::Format(_) => Ok(()),
     }
 }
 
@@ -90,9 +86,9 @@ pub fn is_declaration(item: Item) -> bool
 }
 
 fn has_named(directory: &[u8], line: &[u8], at: usize, length: usize) -> bool
-    ensures { result ≡ is_at (titled_at directory.now true (packed_of line.now at length)) }
+    ensures { result ≡ is_some (titled_at directory.now true (packed_of line.now at length)) }
 {
-    is_at(finding::find(directory, true, parts::packed(line, at, length)))
+    finding::find(directory, true, parts::packed(line, at, length)).is_some()
 }
 
 // The picture that an item draws is stored; what draws none asks for none.
@@ -110,19 +106,6 @@ pub fn has_picture(directory: &[u8], line: &[u8], item: Item) -> bool
         Item::Slant(_) => true,
         Item::Picture(p) => has_named(directory, line, p.at, p.length),
         Item::Format(_) => true,
-    }
-}
-
-// Whether recording takes it.
-pub fn is_taken(v: Verdict) -> bool
-    ensures { result ≡ is_taken v }
-{
-    match v {
-        Verdict::Taken => true,
-        Verdict::Again(_) => false,
-        Verdict::Undeclared(_) => false,
-        Verdict::Past(_) => false,
-        Verdict::Unfit(_) => false,
     }
 }
 

@@ -1,19 +1,18 @@
 // The entry of a form or a picture by the name that a command gives.
-ghost use Rattle.std.specs.Prelude.{◌≡◌, not, ◌&&◌, []};
-ghost use Rattle.finding.specs.Find.{is_at, titled_at};
+ghost use Rattle.std.specs.Prelude.{◌≡◌, not, ◌&&◌, [], is_some};
+ghost use Rattle.finding.specs.Find.{titled_at};
 ghost use Rattle.parts.specs.Names.{packed_of};
 ghost use Rattle.lent.specs.Lent.{world};
 ghost use Rattle.results.specs.World.{state};
 ghost use Rattle.results.specs.Named.{place_of, erased_named, erased_every};
 
-use finding::{Found, is_at};
 use free_number::{after_erased, after_erased_all};
 use grammar::Named;
 use parts::packed;
 use session::{NO_FORM, Session, sixteen_bits};
 
 // The entry of a form, or of a picture, by the name that a command gives.
-pub fn entry_of(directory: &[u8], picture: bool, line: &[u8], n: Named) -> Found
+pub fn entry_of(directory: &[u8], picture: bool, line: &[u8], n: Named) -> Option<usize>
     ensures { result ≡ titled_at directory.now picture (packed_of line.now n.at n.length) }
 {
     let at = n.at;
@@ -23,20 +22,20 @@ pub fn entry_of(directory: &[u8], picture: bool, line: &[u8], n: Named) -> Found
 }
 
 // [11]: no entry has the name, and it is not the star that means all.
-pub fn is_missing(n: Named, found: Found) -> bool
-    ensures { result ≡ (not n.all && not (is_at found)) }
+pub fn is_missing(n: Named, found: Option<usize>) -> bool
+    ensures { result ≡ (not n.all && not (is_some found)) }
 {
     let all = n.all;
-    if all { false } else { !is_at(found) }
+    if all { false } else { !found.is_some() }
 }
 
 // An entry's number as a session keeps it, `NO_FORM` for none.
-pub fn place_of(found: Found) -> u16
+pub fn place_of(found: Option<usize>) -> u16
     ensures { result ≡ place_of found }
 {
     match found {
-        Found::At(i) => sixteen_bits(i),
-        Found::Nothing => NO_FORM,
+        Some(i) => sixteen_bits(i),
+        None => NO_FORM,
     }
 }
 
@@ -46,17 +45,17 @@ pub fn erase_found(
     store: &mut [u8],
     links: &mut [u16],
     directory: &mut [u8],
-    found: Found,
+    found: Option<usize>,
 ) -> Session
     ensures { state result (world [] store.new links.new directory.new []) ≡ erased_named session (world [] store.old links.old directory.old []) found }
 {
     match found {
-        Found::At(i) => {
+        Some(i) => {
             let after = after_erased(session, directory, i);
             erasing::erase(store, links, directory, i);
             after
         }
-        Found::Nothing => session,
+        None => session,
     }
 }
 

@@ -7,27 +7,20 @@ ghost use Rattle.std.specs.Prelude.{◌≡◌};
 ghost use Rattle.store.specs.Entry.{entry};
 ghost use Rattle.room.specs.Room.{lowest_portion, lowest_entry, empty_count, has_entry, can_grow};
 
-use finding::Found;
 use store::{BYTES_AN_ENTRY, MOST_SIZE};
 
 // The lowest free portion; as many as there are where none is free.
 pub fn lowest_portion(links: &[u16]) -> usize
     ensures { result ≡ lowest_portion links.now }
 {
-    match finding::lowest_free(links) {
-        Found::At(q) => q,
-        Found::Nothing => links.len(),
-    }
+    finding::lowest_free(links).unwrap_or(links.len())
 }
 
 // The lowest empty entry; as many as there are where none is empty.
 pub fn lowest_entry(directory: &[u8]) -> usize
     ensures { result ≡ lowest_entry directory.now }
 {
-    match finding::lowest_empty(directory) {
-        Found::At(i) => i,
-        Found::Nothing => directory.len() / BYTES_AN_ENTRY,
-    }
+    finding::lowest_empty(directory).unwrap_or(directory.len() / BYTES_AN_ENTRY)
 }
 
 // How many entries are empty.
@@ -36,12 +29,10 @@ pub fn empty_count(directory: &[u8]) -> usize
 {
     let entries = directory.len() / BYTES_AN_ENTRY;
     let mut n: usize = 0;
-    let mut i = 0;
-    while i < entries {
+    for i in 0..entries {
         if store::kind_at(directory, i) == 0 {
             n += 1;
         }
-        i += 1;
     }
     n
 }

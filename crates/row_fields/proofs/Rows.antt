@@ -1,4 +1,5 @@
 -- Laws on the fields of a row, and on what reading them leaves in two arrays.
+use Rattle.std.specs.Prelude.{Result, Ok, Err}
 use mathlib.Core.Path.{◌≡◌, ◌∙◌, refl, sym, ap}
 use mathlib.Core.Bool.{Bool, true, false, cond}
 use mathlib.Core.List.{List, [], ◌∷◌}
@@ -8,12 +9,8 @@ use native.Mathlib.Omega.{arith}
 use lib.Dec.{eqb}
 use lib.ListN.{length, get_or, set, drop, drop_of_length-le}
 use lib.Seq.{drop-cons, sets}
-use Rattle.fields.specs.declared.Field.{Field}
-use Rattle.fields.specs.declared.Field.TheVariants.{Is, Not}
 use Rattle.reader.specs.Letters.{field_at}
 use Rattle.row_fields.specs.Reading.{fields_from, Got, good, bad, next, ahead, Filled}
-use Rattle.row_fields.specs.declared.Fields.{Fields}
-use Rattle.row_fields.specs.declared.Fields.TheVariants.{All, Bad}
 
 -- ---- the fields of a row, one at a time
 
@@ -23,7 +20,7 @@ pub record Split (f : ℕ) (fs s : List ℕ) (at : ℕ) (ws qs : List ℕ) : Typ
   pub e : ℕ
   pub vs : List ℕ
   pub ps : List ℕ
-  pub first : field_at f s at ≡ Is v e
+  pub first : field_at f s at ≡ Ok (v, e)
   pub others : fields_from fs s e ≡ good vs ps
   pub values : ws ≡ v ∷ vs
   pub places : qs ≡ at ∷ ps
@@ -32,13 +29,13 @@ pub fields_split : (f : ℕ) (fs s : List ℕ) (at : ℕ) (ws qs : List ℕ) →
 unfolding fields_from
 fields_split f fs s at ws qs h = go (field_at f s at) refl h
   where
-    more : (v e : ℕ) (g : Got) → field_at f s at ≡ Is v e → fields_from fs s e ≡ g → ahead v at g ≡ good ws qs → Split f fs s at ws qs
+    more : (v e : ℕ) (g : Got) → field_at f s at ≡ Ok (v, e) → fields_from fs s e ≡ g → ahead v at g ≡ good ws qs → Split f fs s at ws qs
     more v e (good vs ps) a b k = record { v = v; e = e; vs = vs; ps = ps; first = a; others = b; values = cc; places = cc }
     more v e (bad vs ps q) a b k = absurd (let z : ◌≡◌ {A = ℕ} 0 1 = cc in omega arith)
 
-    go : (x : Field) → field_at f s at ≡ x → next x (λ v e. ahead v at (fields_from fs s e)) ≡ good ws qs → Split f fs s at ws qs
-    go (Is v e) a k = more v e (fields_from fs s e) a refl k
-    go (Not p) a k = absurd (let z : ◌≡◌ {A = ℕ} 0 1 = cc in omega arith)
+    go : (x : Result (ℕ × ℕ) ℕ) → field_at f s at ≡ x → next x (λ v e. ahead v at (fields_from fs s e)) ≡ good ws qs → Split f fs s at ws qs
+    go (Ok (v, e)) a k = more v e (fields_from fs s e) a refl k
+    go (Err p) a k = absurd (let z : ◌≡◌ {A = ℕ} 0 1 = cc in omega arith)
 
 -- as many values and places as bytes
 pub fields-count : (fs s : List ℕ) (at : ℕ) (ws qs : List ℕ) → fields_from fs s at ≡ good ws qs
@@ -54,9 +51,9 @@ fields-count (f ∷ fs) s at ws qs h =
     (rw x.values (ap suc r.0), rw x.places (ap suc r.1))
 
 -- the same, stored into arrays from i on
-abbrev pub onward : List ℕ → List ℕ → Field → (ℕ → ℕ → Got) → Got
-onward vs ps (Is v e) k = k v e
-onward vs ps (Not p) k = bad vs ps p
+abbrev pub onward : List ℕ → List ℕ → Result (ℕ × ℕ) ℕ → (ℕ → ℕ → Got) → Got
+onward vs ps (Ok (v, e)) k = k v e
+onward vs ps (Err p) k = bad vs ps p
 
 unfoldable pub filled : List ℕ → List ℕ → ℕ → ℕ → List ℕ → List ℕ → Got
 filled [] s at i vs ps = cond (eqb at (length s)) (good vs ps) (bad vs ps at)
@@ -79,20 +76,20 @@ filled-stored (f ∷ fs) s at i vs ps = go (field_at f s at) (λ v e. filled-sto
     more v (good ws qs) = refl
     more v (bad ws qs q) = refl
 
-    go : (x : Field)
+    go : (x : Result (ℕ × ℕ) ℕ)
         → ((v e : ℕ) → filled fs s e (suc i) (set vs i v) (set ps i at) ≡ stored (suc i) (set vs i v) (set ps i at) (fields_from fs s e))
         → onward vs ps x (λ v e. filled fs s e (suc i) (set vs i v) (set ps i at)) ≡ stored i vs ps (next x (λ v e. ahead v at (fields_from fs s e)))
-    go (Is v e) r = r v e ∙ more v (fields_from fs s e)
-    go (Not p) r = refl
+    go (Ok (v, e)) r = r v e ∙ more v (fields_from fs s e)
+    go (Err p) r = refl
 
 -- a field more, a field that is not there, and no more fields
 module _ (l s : List ℕ) (at i : ℕ) (vs ps : List ℕ) where
-  pub filled_more : (v e : ℕ) → i < length l → field_at (get_or l i 32) s at ≡ Is v e
+  pub filled_more : (v e : ℕ) → i < length l → field_at (get_or l i 32) s at ≡ Ok (v, e)
       → filled (drop i l) s at i vs ps ≡ filled (drop (i + 1) l) s e (i + 1) (set vs i v) (set ps i at)
   unfolding filled
   filled_more v e h k = rw (add-one, drop-cons l i 32 h, k)
 
-  pub filled-stop : (p : ℕ) → i < length l → field_at (get_or l i 32) s at ≡ Not p → filled (drop i l) s at i vs ps ≡ bad vs ps p
+  pub filled-stop : (p : ℕ) → i < length l → field_at (get_or l i 32) s at ≡ Err p → filled (drop i l) s at i vs ps ≡ bad vs ps p
   unfolding filled
   filled-stop p h k = rw (drop-cons l i 32 h, k)
 
@@ -102,16 +99,21 @@ module _ (l s : List ℕ) (at i : ℕ) (vs ps : List ℕ) where
 
 -- what the arrays then hold
 module _ (fs s : List ℕ) (vs₀ ps₀ vs ps : List ℕ) where
-  from-good : (g : Got) → stored 0 vs₀ ps₀ g ≡ good vs ps → Filled g vs₀ ps₀ All vs ps
+  from-good : (g : Got) → stored 0 vs₀ ps₀ g ≡ good vs ps → Filled g vs₀ ps₀ (Ok tt) vs ps
   from-good (good ws qs) h = (refl, cc, cc)
   from-good (bad ws qs q) h = absurd (let z : ◌≡◌ {A = ℕ} 0 1 = cc in omega arith)
 
-  from-bad : (p : ℕ) (g : Got) → stored 0 vs₀ ps₀ g ≡ bad vs ps p → Filled g vs₀ ps₀ (Bad p) vs ps
+  from-bad : (p : ℕ) (g : Got) → stored 0 vs₀ ps₀ g ≡ bad vs ps p → Filled g vs₀ ps₀ (Err p) vs ps
   from-bad p (good ws qs) h = absurd (let z : ◌≡◌ {A = ℕ} 0 1 = cc in omega arith)
   from-bad p (bad ws qs q) h = (let z : q ≡ p = cc in rw z, cc, cc)
 
-  pub filled-good : filled fs s 0 0 vs₀ ps₀ ≡ good vs ps → Filled (fields_from fs s 0) vs₀ ps₀ All vs ps
+  pub filled-good : filled fs s 0 0 vs₀ ps₀ ≡ good vs ps → Filled (fields_from fs s 0) vs₀ ps₀ (Ok tt) vs ps
   filled-good h = from-good (fields_from fs s 0) (sym (filled-stored fs s 0 0 vs₀ ps₀) ∙ h)
 
-  pub filled-bad : (p : ℕ) → filled fs s 0 0 vs₀ ps₀ ≡ bad vs ps p → Filled (fields_from fs s 0) vs₀ ps₀ (Bad p) vs ps
+  pub filled-bad : (p : ℕ) → filled fs s 0 0 vs₀ ps₀ ≡ bad vs ps p → Filled (fields_from fs s 0) vs₀ ps₀ (Err p) vs ps
   filled-bad p h = from-bad p (fields_from fs s 0) (sym (filled-stored fs s 0 0 vs₀ ps₀) ∙ h)
+
+-- what is not all is refused at a place
+pub refused-at : (r : Result Unit ℕ) → (r ≡ Ok tt → ⊥) → (p : ℕ) × (r ≡ Err p)
+refused-at (Ok u) n = absurd (n refl)
+refused-at (Err p) n = (p, refl)

@@ -1,1 +1,2 @@
 pub mod Reading
+pub use Rattle.reader.specs.Letters

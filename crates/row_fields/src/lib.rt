@@ -13,37 +13,30 @@ use fields::{Field, stop};
 use grammar::table::line_up;
 use reader::read_field;
 
-// Whether every field of a row is there, or the place where the line has not the row's form.
-#[derive(Clone, Copy)]
-pub enum Fields {
-    All,
-    Bad(usize),
-}
-
-// Reads the fields of a row, one after another: a value and a place for each byte of its form, up to the first that is not there.
-pub fn read_fields(line: &[u8], row: usize, vs: &mut [usize; 18], ps: &mut [usize; 18]) -> Fields
+// Reads the fields of a row, one after another: a value and a place for each byte of its form, up to the first that is not there. Where the line has not
+// the row's form, that place is what is refused.
+pub fn read_fields(
+    line: &[u8],
+    row: usize,
+    vs: &mut [usize; 18],
+    ps: &mut [usize; 18],
+) -> Result<(), usize>
     ensures { Filled (fields_from (row_of row).fields line.now 0) vs.old ps.old result vs.new ps.new }
 {
     let up = line_up(row);
     let mut at = 0;
-    let mut i = 0;
-    while i < 18 {
+    for i in 0..18usize {
         let f = up[i];
         if f == b' ' {
             break;
         }
         let found = read_field(line, f, at);
-        let Field::Is(v, end) = found else {
-            return Fields::Bad(stop(found));
+        let Ok((v, end)) = found else {
+            return Err(stop(found));
         };
         vs[i] = v;
         ps[i] = at;
         at = end;
-        i += 1;
     }
-    if at == line.len() {
-        Fields::All
-    } else {
-        Fields::Bad(at)
-    }
+    if at == line.len() { Ok(()) } else { Err(at) }
 }

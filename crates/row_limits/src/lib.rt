@@ -15,7 +15,6 @@ ghost use Rattle.row_limits.specs.Limits.{named, day_there, meets, field_limits,
 use bounds::bound_by;
 use calendar::days_in;
 use classes::Class;
-use data_field::Limits;
 use grammar::makers::is_star;
 use grammar::table::line_up;
 
@@ -66,10 +65,7 @@ fn is_met(line: &[u8], f: u8, before: usize, v: usize, p: usize, behind: usize) 
 fn is_within(low: usize, high: usize, v: usize) -> bool
     ensures { result ≡ between low high v }
 {
-    if v < low {
-        return false;
-    }
-    v <= high
+    (low..=high).contains(&v)
 }
 
 fn is_limited(f: u8) -> bool
@@ -97,7 +93,7 @@ fn field_limits(
     v: usize,
     p: usize,
     behind: usize,
-) -> Limits
+) -> Result<(), usize>
     ensures { result ≡ field_limits f ((bound_by letter rows).low, (bound_by letter rows).high) line.now before v p behind }
 {
     if f == b'd' {
@@ -107,13 +103,13 @@ fn field_limits(
         let b = bound_by(letter, rows);
         if is_within(b.low, b.high, v) {
             if is_met(line, f, before, v, p, behind) {
-                return Limits::Within;
+                return Ok(());
             }
-            return Limits::Outside(p);
+            return Err(p);
         }
-        return Limits::Outside(p);
+        return Err(p);
     }
-    Limits::Within
+    Ok(())
 }
 
 fn number_after(f: u8, v: usize, before: usize) -> usize
@@ -134,34 +130,30 @@ fn value_at(vs: &[usize], i: usize) -> usize
     if i < vs.len() { vs[i] } else { 0 }
 }
 
-// The first field of a row outside its limits.
+// Holds the fields of a row to their limits: the place of the first outside is what is refused.
 pub fn row_limits(
     line: &[u8],
     row: usize,
     rows: usize,
     vs: &[usize; 18],
     ps: &[usize; 18],
-) -> Limits
+) -> Result<(), usize>
     ensures { result ≡ limits_from (row_of row).fields (bounds_of row rows) line.now 0 vs.now ps.now }
 {
     let up = line_up(row);
     let mut before: usize = 0;
-    let mut i = 0;
-    while i < 18 {
+    for i in 0..18usize {
         let f = up[i];
         if f == b' ' {
-            return Limits::Within;
+            return Ok(());
         }
         let letter = up[18 + i];
         let v = vs[i];
         let p = ps[i];
         // A comma stands between two fields.
         let behind = value_at(vs, i + 2);
-        if let Limits::Outside(fault) = field_limits(line, f, letter, rows, before, v, p, behind) {
-            return Limits::Outside(fault);
-        }
+        field_limits(line, f, letter, rows, before, v, p, behind)?;
         before = number_after(f, v, before);
-        i += 1;
     }
-    Limits::Within
+    Ok(())
 }

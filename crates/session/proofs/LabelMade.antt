@@ -8,7 +8,7 @@ use Rattle.pages.specs.Pages.{copied}
 use Rattle.pages.proofs.WholePages.{copied-same}
 use Rattle.declarations.specs.declared.Declared.{Declared}
 use Rattle.item_drawing.specs.Draw.{setting}
-use Rattle.form_drawing.specs.Draw.{form_drawn}
+use Rattle.active_form.specs.Draw.{form_drawn}
 use Rattle.session.specs.declared.Session.{Session}
 use Rattle.session.specs.Session.{moved, counted}
 use Rattle.lent.specs.Lent.{World}

@@ -2,7 +2,7 @@
 -- Assumes nothing.
 use Rattle.std.specs.Prelude.{List, ℕ}
 use Rattle.declarations.specs.declared.Declared.{Declared}
-use Rattle.forms.specs.Form.{declared_of}
+use Rattle.active_form.specs.Form.{declared_of}
 use Rattle.active_form.specs.Active.{active_bytes}
 use Rattle.session.specs.declared.Session.{Session}
 use Rattle.lent.specs.Lent.{World}

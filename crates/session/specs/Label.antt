@@ -4,7 +4,7 @@ use Rattle.std.specs.Prelude.{ℕ, cond, List, eqb}
 use Rattle.pages.specs.Pages.{copied}
 use Rattle.half_turn.specs.Turn.{turned}
 use Rattle.item_drawing.specs.Draw.{setting}
-use Rattle.form_drawing.specs.Draw.{form_drawn}
+use Rattle.active_form.specs.Draw.{form_drawn}
 use Rattle.answers.specs.declared.Answer.{Answer}
 use Rattle.session.specs.declared.Session.{Session}
 use Rattle.session.specs.declared.Labelled.{Labelled}

@@ -49,7 +49,7 @@ pub struct Session {
     pub formats: Formats,
 }
 
-// What opening and a label call answer.
+// What opening and a label call answer. No Result: the exported calls hand C an answer and a session, on a refusal too.
 #[derive(Clone, Copy)]
 pub struct Labelled {
     pub answer: Answer,

@@ -83,9 +83,6 @@ pub record Placing (s out₀ : List ℕ) (set₀ : Set) (out : List ℕ) (set : 
   pub count : k + length (in_set set (best (drop i s))) ≡ 1 + length (in_set set₀ (best s))
   pub whole : sets out k (in_set set (best (drop i s))) ≡ sets out₀ 1 (in_set set₀ (best s))
 
-pub placing-start : (s out : List ℕ) (set : Set) → Placing s out set out set 1 0
-placing-start s out set = record { below = omega arith; long = refl; count = refl; whole = refl }
-
 pub placing-step : (s out₀ : List ℕ) (set₀ : Set) (out out' : List ℕ) (here : Set) (k i : ℕ) (t : Step) → Placing s out₀ set₀ out here k i
     → Next s i here t → out' ≡ set out k t.symbol → Placing s out₀ set₀ out' t.set (k + 1) t.at
 placing-step s out₀ set₀ out out' here k i t p n e = record {

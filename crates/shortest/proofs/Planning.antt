@@ -9,9 +9,8 @@ use native.Mathlib.Numerals.{add-one}
 use native.Mathlib.Omega.{arith}
 use lib.ListN.{length, get_or, set, drop, length-set, length-drop}
 use lib.Seq.{drop-length, drop-cons, get_or-drop, get_or-set_same, get_or-set_other}
-use lib.Dec.{ltb, eqb}
+use lib.Dec.{eqb}
 use borrow.Author.Tests.{eqb-true, eqb-false}
-use Rattle.ground.proofs.Tests.{and_left}
 use Rattle.shortest.specs.declared.plan.Lengths.{Lengths}
 use Rattle.shortest.specs.Found.{Best, two, leaves_b, step, best}
 use Rattle.shortest.specs.Lengths.{Measured, leaves, lengthened, mark_of, Planned}
@@ -34,16 +33,6 @@ lengthened-by a b m x k = record {
   in_c = length-cond (two a b) _ _ _ _ (omega (arith, k)) (omega (arith, k));
   later = k.in_c;
 }
-
--- the three outcomes
-pub lengthened-left : (a b : ℕ) (m : Lengths) → leaves a b m ≡ true → record { b = m.later + 2; c = m.later + 1; later = m.c } ≡ lengthened a b m
-lengthened-left a b m h = rw (h, and_left (two a b) (ltb (m.later + 1) m.b) h)
-
-pub lengthened-stayed : (a b : ℕ) (m : Lengths) → leaves a b m ≡ false → two a b ≡ true → record { b = m.b + 1; c = m.later + 1; later = m.c } ≡ lengthened a b m
-lengthened-stayed a b m h k = rw (h, k)
-
-pub lengthened-alone : (a b : ℕ) (m : Lengths) → leaves a b m ≡ false → two a b ≡ false → record { b = m.b + 1; c = m.b + 2; later = m.c } ≡ lengthened a b m
-lengthened-alone a b m h k = rw (h, k)
 
 -- ---- the loop
 
@@ -89,6 +78,3 @@ planning-step s marks₀ marks marks' m r i j a b x e room p ea eb ex er st =
       measured = now;
       planned = rw st (planned-step s marks j x (omega (arith, p.long)) here (rw e at p.planned));
     }
-
-pub planning-done : (s marks₀ marks : List ℕ) (m : Lengths) (i : ℕ) → i ≤ 0 → Planning s marks₀ marks m i → (Measured (best s) m) × (Planned s 0 marks)
-planning-done s marks₀ marks m i h p = let z : i ≡ 0 = omega arith in (rw z at p.measured, rw z at p.planned)

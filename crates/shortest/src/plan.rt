@@ -5,7 +5,7 @@ ghost use Rattle.shortest.specs.Found.{best};
 ghost use Rattle.shortest.specs.Lengths as Told;
 ghost use Rattle.shortest.specs.Lengths.{Measured, lengthened, Planned};
 
-use ground::{both, byte};
+use ground::byte;
 
 // The lengths of the best writings of some data: in set B, in set C, and in set C without its first byte.
 #[derive(Clone, Copy)]
@@ -18,10 +18,7 @@ pub struct Lengths {
 pub(crate) fn two(a: u8, b: u8) -> bool
     ensures { result ≡ Found.two a b }
 {
-    both(
-        kinds::is_between(b'0', b'9', a),
-        kinds::is_between(b'0', b'9', b),
-    )
+    kinds::is_between(b'0', b'9', a) && kinds::is_between(b'0', b'9', b)
 }
 
 // Whether set B is left before a and b.
@@ -29,7 +26,7 @@ fn leaves(a: u8, b: u8, m: Lengths) -> bool
     requires { (m.b ≤ 1000) × (m.later ≤ 1000) }
     ensures { result ≡ Told.leaves a b m }
 {
-    both(two(a, b), m.later + 1 < m.b)
+    two(a, b) && m.later + 1 < m.b
 }
 
 // The lengths with a byte a, and b after it or 0, in front.
@@ -61,7 +58,7 @@ fn lengthen(a: u8, b: u8, m: Lengths) -> Lengths
 fn mark(left: bool) -> u8
     ensures { result ≡ cond left 1 0 }
 {
-    if left { 1 } else { 0 }
+    u8::from(left)
 }
 
 // Asked for by `start` of the crate alone, whose data is at most 128 bytes.
@@ -74,9 +71,7 @@ pub(crate) fn plan(s: &[u8], marks: &mut [u8]) -> Lengths
         c: 0,
         later: 0,
     };
-    let mut i = s.len();
-    while 0 < i {
-        i -= 1;
+    for i in (0..s.len()).rev() {
         let a = s[i];
         let b = byte(s, i + 1);
         marks[i] = mark(leaves(a, b, m));

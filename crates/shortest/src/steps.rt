@@ -25,7 +25,7 @@ pub struct Step {
 fn byte_of(a: u8) -> u8
     ensures { result ≡ byte_of a }
 {
-    if a < b' ' { 0 } else { a - b' ' }
+    a.saturating_sub(b' ')
 }
 
 fn pair_of(a: u8, b: u8) -> u8
@@ -91,6 +91,7 @@ pub(crate) fn behind_start(s: &[u8], marks: &[u8], set: Set, out: &mut [u8]) -> 
     let mut here = set;
     let mut k = 1;
     let mut i = 0;
+    // A while: a step goes on by two bytes, by one, or by none where it changes the set.
     while i < s.len() {
         let t = next(s, i, here, marks[i]);
         put_byte(out, k, t.symbol);

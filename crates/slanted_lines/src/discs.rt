@@ -31,6 +31,7 @@ fn root(n: usize, bound: usize) -> usize
 {
     let mut r: usize = 0;
     let mut step = bound;
+    // A while: what is halved is a step's length, and there is no list to go over.
     while 1 < step {
         r = raised(n, r, step);
         step -= step / 2;

@@ -21,7 +21,6 @@ ghost use Rattle.slanted_lines.specs.Code.{AsLine};
 
 use crate::rows::ink_down;
 use dots::Ink;
-use ground::both;
 
 // A line from the dot (a, b) to the dot (d, e), c thick.
 #[derive(Clone, Copy)]
@@ -40,13 +39,11 @@ struct Span {
     to: usize,
 }
 
+#[tactic(auto, unfolding(crate::specs::Slanted::in_limits))]
 fn in_limits(a: usize, b: usize, c: usize, d: usize, e: usize) -> bool
     ensures { result ≡ in_limits a b c d e }
 {
-    let columns = both(a <= 4095, d <= 4095);
-    let rows = both(b <= 8191, e <= 8191);
-    let thick = both(1 <= c, c < 81);
-    both(columns, both(rows, thick))
+    a <= 4095 && d <= 4095 && b <= 8191 && e <= 8191 && 1 <= c && c < 81
 }
 
 // The line with its upper end first: it is the same from either end.
@@ -58,18 +55,12 @@ fn downward(a: usize, b: usize, c: usize, d: usize, e: usize) -> Line
         return Line {
             a: d,
             b: e,
-            c: c,
+            c,
             d: a,
             e: b,
         };
     }
-    Line {
-        a: a,
-        b: b,
-        c: c,
-        d: d,
-        e: e,
-    }
+    Line { a, b, c, d, e }
 }
 
 // LS, LSW, LSE: draws the line from (a, b) to (d, e), c thick, in an ink, cut at width and length.

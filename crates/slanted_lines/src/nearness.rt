@@ -7,7 +7,7 @@ ghost use Rattle.slanted_lines.specs.Code.{farthest};
 pub(crate) fn gap(m: usize, n: usize) -> usize
     ensures { (result ≡ Slanted.gap m n) × (result ≤ max m n) }
 {
-    if m < n { n - m } else { m - n }
+    m.abs_diff(n)
 }
 
 // The product of two coordinates.

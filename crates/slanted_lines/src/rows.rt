@@ -30,10 +30,8 @@ fn ink_end_rows(page: &mut [u8], ink: Ink, l: Line, r: usize, right: usize, y0: 
     requires { (Drawable l) × (Rooted l r) × (right ≤ 608) × (y0 ≤ y1) × (y1 ≤ farthest + 1) }
     ensures { page.new ≡ drawn ink (part 0 y0 right y1 (near_line l)) page.old }
 {
-    let mut y = y0;
-    while y < y1 {
+    for y in y0..y1 {
         ink_end_row(page, ink, l, r, right, y);
-        y += 1;
     }
 }
 
@@ -42,11 +40,9 @@ fn ink_middle_rows(page: &mut [u8], ink: Ink, l: Line, r: usize, right: usize, y
     requires { (Drawable l) × (Rooted l r) × (right ≤ 608) × (y0 ≤ y1) × (y1 ≤ farthest + 1) × (MiddleRows l y0 y1) }
     ensures { page.new ≡ drawn ink (part 0 y0 right y1 (near_line l)) page.old }
 {
-    let mut y = y0;
-    while y < y1 {
+    for y in y0..y1 {
         let s = crossed(l, r, y);
         ink_run(page, ink, s, y, 0, right);
-        y += 1;
     }
 }
 

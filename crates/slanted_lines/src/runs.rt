@@ -4,7 +4,7 @@ ghost use Rattle.dots.specs.Dots.{drawn};
 ghost use Rattle.slanted_lines.specs.Code.{farthest, Ordered, run, runs, part};
 
 use crate::Span;
-use boxes::ink_box;
+use boxes::{Area, Size, ink_box};
 use dots::Ink;
 use ground::greatest;
 
@@ -14,7 +14,17 @@ pub(crate) fn ink_run(page: &mut [u8], ink: Ink, s: Span, y: usize, from: usize,
     ensures { page.new ≡ drawn ink (part from y to (y + 1) (run s)) page.old }
 {
     let start = greatest(from, s.from);
-    ink_box(page, ink, to, y + 1, start, y, s.to, y + 1);
+    let size = Size {
+        width: to,
+        length: y + 1,
+    };
+    let area = Area {
+        x0: start,
+        y0: y,
+        x1: s.to,
+        y1: y + 1,
+    };
+    ink_box(page, ink, size, area);
 }
 
 // Draws the columns of three runs of row y up to `right`, each column once: the runs s and t, of which s starts first, and of u what is left.

@@ -14,7 +14,7 @@ use Rattle.activity_check.specs.Activity.{activity_sound}
 use Rattle.session.specs.declared.Session.{Session}
 use Rattle.session.specs.Session.{least_width, most_width, most_x, most_y}
 use Rattle.lent.specs.Lent.{World, rows_of}
-unfoldable pub use Rattle.active_form.specs.Active.{active_bytes}
+unfoldable pub use Rattle.activity_check.specs.Active.{active_bytes}
 
 -- "these numbers in their ranges; length at most N"
 unfoldable pub numbers_ok : ℕ → Session → Bool

@@ -15,7 +15,7 @@ use formats::{Format, Stamp};
 use ground::{both, byte, either, wide};
 use kinds::{Kind, in_class};
 
-// The bytes shown, at the front of fourteen, and how many they are.
+// The bytes shown, at the front of fourteen, and how many they are: a text as long as its bytes would want the heap.
 #[derive(Clone, Copy)]
 pub struct Text {
     pub bytes: [u8; 14],

@@ -17,12 +17,10 @@ use store::{BYTES_AN_ENTRY, END_LINK};
 fn name_end(title: [u8; 8]) -> u8
     ensures { result ≡ name_end title }
 {
-    let mut k: usize = 0;
-    while k < 8 {
-        if title[k] == 0 {
+    for (k, b) in title.iter().enumerate() {
+        if *b == 0 {
             return k as u8;
         }
-        k += 1;
     }
     8
 }

@@ -1,5 +1,6 @@
 -- A command call: the ways it ends.
 -- Assumes nothing.
+use Rattle.std.proofs.Common.{Result, Ok, Err}
 use mathlib.Core.Path.{◌≡◌, refl, sym, ap, ◌∙◌}
 use mathlib.Core.Bool.{Bool, true, false, not, cond, ◌&&◌, true≢false}
 use mathlib.Core.List.{List, [], ◌∷◌}
@@ -8,8 +9,7 @@ use lib.ListN.{length}
 use lib.Dec.{leb}
 use lib.Seq.{sets}
 use borrow.Author.Tests.{not-true}
-use Rattle.finding.specs.declared.Found.{Found}
-use Rattle.finding.specs.declared.Found.TheVariants.{At, Nothing}
+use Rattle.read.specs.declared.Fault.{Fault}
 use Rattle.finding.specs.Find.{recorded}
 use Rattle.grammar.specs.declared.Command.{Command}
 use Rattle.grammar.specs.declared.Command.TheVariants.{Item as item, End, Page, Forms, Pictures, Values, Listing, Clock}
@@ -18,8 +18,6 @@ use Rattle.grammar.specs.declared.PictureCommand.TheVariants.{Store, Erase as Er
 use Rattle.grammar.specs.declared.ValueCommand.TheVariants.{Variable as EnterVariable, Counter as EnterCounter, Clear, Print}
 use Rattle.grammar.specs.declared.ListingCommand.TheVariants.{Forms as ListForms, Pictures as ListPictures, Form as ListForm}
 use Rattle.read.specs.declared.Fault.TheVariants.{Form as form, Limit}
-use Rattle.read.specs.declared.Read.{Read}
-use Rattle.read.specs.declared.Read.TheVariants.{Taken as Reads, Refused}
 use Rattle.front.specs.declared.Front.{Front}
 use Rattle.front.specs.declared.Front.TheVariants.{Short, Long as LongLine, Idle, Line}
 use Rattle.read.specs.Commands.{read_of}
@@ -44,6 +42,7 @@ use Rattle.unread.proofs.Lengths.{line-is, line-short, line-least}
 use Rattle.calls.specs.Table.{entry_rows, front_rows, command_table}
 use Rattle.calls.specs.Station.{does_front, lists_front, accepted, refused, read_as, commanded}
 use Rattle.sound.proofs.EntryRows.{checked, entry-passed, entry-right}
+use Rattle.std.specs.Prelude.{None, Option, Some}
 
 -- ---- a command call that ends there
 
@@ -157,15 +156,15 @@ late-run w s line more room (Listing ListPictures) = refl
 late-run w s line more room (Listing (ListForm n)) = refl
 late-run w s line more room (Clock c) = refl
 
-late-placed : (w : World) (s : Session) (line more : List ℕ) (room : ℕ) (c : Command) (f : Found) → all_late (placed_rows w s line more room c f) ≡ true
-late-placed w s line more room c (At i) = late-record w s line i c
-late-placed w s line more room c Nothing = late-run w s line more room c
+late-placed : (w : World) (s : Session) (line more : List ℕ) (room : ℕ) (c : Command) (f : Option ℕ) → all_late (placed_rows w s line more room c f) ≡ true
+late-placed w s line more room c (Some i) = late-record w s line i c
+late-placed w s line more room c None = late-run w s line more room c
 
-late-line : (w : World) (s : Session) (line more : List ℕ) (room : ℕ) (r : Read) → all_late (line_rows w s line more room r) ≡ true
+late-line : (w : World) (s : Session) (line more : List ℕ) (room : ℕ) (r : Result Command Fault) → all_late (line_rows w s line more room r) ≡ true
 unfolding number_of
-late-line w s line more room (Refused (form p)) = refl
-late-line w s line more room (Refused (Limit p)) = refl
-late-line w s line more room (Reads c) = late-placed w s line more room c (recorded w.directory)
+late-line w s line more room (Err (form p)) = refl
+late-line w s line more room (Err (Limit p)) = refl
+late-line w s line more room (Ok c) = late-placed w s line more room c (recorded w.directory)
 
 line-choice :
     (t e : Bool) (a : Answer) (s : Session) (w : World) (o : List ℕ) (k : ℕ) (st : State) (bytes : List ℕ) → not e ≡ true →
@@ -176,7 +175,7 @@ line-choice false false a s w o k st bytes h = refl
 line-choice t true a s w o k st bytes h = absurd (true≢false (sym h))
 
 line-call :
-    (s : Session) (font : List ℕ) (w : World) (o line more : List ℕ) (k : ℕ) (r : Read) (a : Answer) → a ≡ answer_of (line_rows w s line more (length o) r) →
+    (s : Session) (font : List ℕ) (w : World) (o line more : List ℕ) (k : ℕ) (r : Result Command Fault) (a : Answer) → a ≡ answer_of (line_rows w s line more (length o) r) →
     cond (is_taken a) (accepted (cond (leb 1 (number_of a) && leb (number_of a) 4) 0 k) (does_line font w s line more r) (lists_line w line r) o)
     (refused a (cond (leb 1 (number_of a) && leb (number_of a) 4) 0 k) s w o)
     ≡ read_as k (ran_by a s w o (does_line font w s line more r) (lists_line w line r))

@@ -45,15 +45,7 @@ pub fn needed_for(size: usize) -> usize
 pub fn free_count(links: &[u16]) -> usize
     ensures { result ≡ free_count links.now }
 {
-    let mut n: usize = 0;
-    let mut i = 0;
-    while i < links.len() {
-        if links[i] == FREE_LINK {
-            n += 1;
-        }
-        i += 1;
-    }
-    n
+    links.iter().filter(|link| **link == FREE_LINK).count()
 }
 
 // The link of portion p.
@@ -158,10 +150,9 @@ pub fn last_at(links: &[u16], directory: &[u8], i: usize) -> usize
     ensures { result ≡ last_of links.now (entry directory.now i) }
 {
     let mut p = first_at(directory, i);
-    let mut k = least(needed_for(size_at(directory, i)), links.len());
-    while 1 < k {
+    let many = least(needed_for(size_at(directory, i)), links.len());
+    for _ in 1..many {
         p = link_at(links, p);
-        k -= 1;
     }
     p
 }

@@ -13,7 +13,7 @@ use borrow.Author.Tests.{eq-eqb, ne_eqb, le-leb, lt-leb, not-true, not-false}
 use Rattle.cells.specs.Cell.{cell}
 use Rattle.cells.specs.Count.{all_to, all_zero}
 use Rattle.cells.proofs.Counts.{drop-step, drop-none}
-use Rattle.finding.specs.declared.Found.{Found}
+use Rattle.std.specs.Prelude.{Option}
 use Rattle.store.specs.Chain.{most_portions, needed, portion}
 use Rattle.store.specs.Entry.{entries, entry, kind, name_length, name, size, last_of}
 use Rattle.finding.specs.Find.{titled_at, recorded}
@@ -61,7 +61,7 @@ module _ (dir : List ℕ) (i k : ℕ) (ek : k ≡ kind (entry dir i)) where
   unfolding unique_ok
   unique-empty z = rw (empty z)
 
-  pub unique-is : (t : List ℕ) (f : Found) (r : Bool) → (k ≡ 0 → ⊥) → t ≡ name (entry dir i) → f ≡ titled_at dir (eqb k 2) t → r ≡ is_here i f → r ≡ unique_ok dir i
+  pub unique-is : (t : List ℕ) (f : Option ℕ) (r : Bool) → (k ≡ 0 → ⊥) → t ≡ name (entry dir i) → f ≡ titled_at dir (eqb k 2) t → r ≡ is_here i f → r ≡ unique_ok dir i
   unfolding unique_ok
   unique-is t f r s et ef er = rw (some s, ← ek, ← et) (er ∙ ap (is_here i) ef)
 
@@ -69,7 +69,7 @@ module _ (dir : List ℕ) (i k : ℕ) (ek : k ≡ kind (entry dir i)) where
   unfolding single_ok
   single-other n = rw (ne_eqb (kind (entry dir i)) 3 (λ z. n (ek ∙ z)))
 
-  pub single-is : (f : Found) (r : Bool) → k ≡ 3 → f ≡ recorded dir → r ≡ is_here i f → r ≡ single_ok dir i
+  pub single-is : (f : Option ℕ) (r : Bool) → k ≡ 3 → f ≡ recorded dir → r ≡ is_here i f → r ≡ single_ok dir i
   unfolding single_ok
   single-is f r z ef er = rw (eq-eqb (kind (entry dir i)) 3 (sym ek ∙ z)) (er ∙ ap (is_here i) ef)
 

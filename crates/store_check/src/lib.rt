@@ -8,7 +8,6 @@ ghost use Rattle.store.specs.Chain.{chain, most_portions};
 ghost use Rattle.store.specs.Entry.{entries, entry};
 ghost use Rattle.store_sound.specs.Sound.{lent_ok, kinds_ok, legal_byte, name_byte_ok, named_ok, names_ok, is_here, unique_ok, uniques_ok, single_ok, singles_ok, firsts, counts, links_ok, chains_ok, empty_ok, empties_ok, free_ok, frees_ok, tail_ok, tails_ok, store_sound};
 
-use finding::Found;
 use ground::{both, least};
 use store::{BYTES_A_PORTION, BYTES_AN_ENTRY, FREE_LINK, MOST_ENTRIES, MOST_PORTIONS};
 
@@ -37,15 +36,7 @@ pub fn lent_ok(store: &[u8], links: &[u16], directory: &[u8]) -> bool
 pub fn kinds_ok(directory: &[u8]) -> bool
     ensures { result ≡ kinds_ok directory.now }
 {
-    let n = directory.len() / BYTES_AN_ENTRY;
-    let mut i = 0;
-    while i < n {
-        if 3 < store::kind_at(directory, i) {
-            return false;
-        }
-        i += 1;
-    }
-    true
+    (0..directory.len() / BYTES_AN_ENTRY).all(|i| store::kind_at(directory, i) <= 3)
 }
 
 fn legal_byte(b: u8) -> bool
@@ -70,14 +61,7 @@ fn name_byte_ok(n: usize, title: [u8; 8], k: usize) -> bool
 fn name_bytes_ok(n: usize, title: [u8; 8]) -> bool
     ensures { result ≡ all_to (name_byte_ok n title) 8 }
 {
-    let mut k = 0;
-    while k < 8 {
-        if !name_byte_ok(n, title, k) {
-            return false;
-        }
-        k += 1;
-    }
-    true
+    (0..8).all(|k| name_byte_ok(n, title, k))
 }
 
 // The name of entry i is legal; also for a caller that judges entries one by one.
@@ -100,24 +84,13 @@ pub fn name_ok(directory: &[u8], i: usize) -> bool
 pub fn names_ok(directory: &[u8]) -> bool
     ensures { result ≡ names_ok directory.now }
 {
-    let n = directory.len() / BYTES_AN_ENTRY;
-    let mut i = 0;
-    while i < n {
-        if !name_ok(directory, i) {
-            return false;
-        }
-        i += 1;
-    }
-    true
+    (0..directory.len() / BYTES_AN_ENTRY).all(|i| name_ok(directory, i))
 }
 
-fn is_here(i: usize, found: Found) -> bool
+fn is_here(i: usize, found: Option<usize>) -> bool
     ensures { result ≡ is_here i found }
 {
-    match found {
-        Found::At(j) => j == i,
-        Found::Nothing => false,
-    }
+    found.is_some_and(|j| j == i)
 }
 
 fn unique_ok(directory: &[u8], i: usize) -> bool
@@ -137,15 +110,7 @@ fn unique_ok(directory: &[u8], i: usize) -> bool
 pub fn uniques_ok(directory: &[u8]) -> bool
     ensures { result ≡ uniques_ok directory.now }
 {
-    let n = directory.len() / BYTES_AN_ENTRY;
-    let mut i = 0;
-    while i < n {
-        if !unique_ok(directory, i) {
-            return false;
-        }
-        i += 1;
-    }
-    true
+    (0..directory.len() / BYTES_AN_ENTRY).all(|i| unique_ok(directory, i))
 }
 
 fn single_ok(directory: &[u8], i: usize) -> bool
@@ -160,15 +125,7 @@ fn single_ok(directory: &[u8], i: usize) -> bool
 pub fn singles_ok(directory: &[u8]) -> bool
     ensures { result ≡ singles_ok directory.now }
 {
-    let n = directory.len() / BYTES_AN_ENTRY;
-    let mut i = 0;
-    while i < n {
-        if !single_ok(directory, i) {
-            return false;
-        }
-        i += 1;
-    }
-    true
+    (0..directory.len() / BYTES_AN_ENTRY).all(|i| single_ok(directory, i))
 }
 
 // ---- unused bytes
@@ -178,10 +135,8 @@ fn is_zero(s: &[u8]) -> bool
     ensures { result ≡ all_zero s.now }
 {
     let mut any: u8 = 0;
-    let mut i = 0;
-    while i < s.len() {
-        any = any | s[i];
-        i += 1;
+    for b in s {
+        any |= *b;
     }
     any == 0
 }
@@ -212,15 +167,7 @@ fn empty_ok(directory: &[u8], i: usize) -> bool
 pub fn empties_ok(directory: &[u8]) -> bool
     ensures { result ≡ empties_ok directory.now }
 {
-    let n = directory.len() / BYTES_AN_ENTRY;
-    let mut i = 0;
-    while i < n {
-        if !empty_ok(directory, i) {
-            return false;
-        }
-        i += 1;
-    }
-    true
+    (0..directory.len() / BYTES_AN_ENTRY).all(|i| empty_ok(directory, i))
 }
 
 fn free_ok(store: &[u8], links: &[u16], q: usize) -> bool
@@ -238,14 +185,7 @@ fn free_ok(store: &[u8], links: &[u16], q: usize) -> bool
 pub fn frees_ok(store: &[u8], links: &[u16]) -> bool
     ensures { result ≡ frees_ok store.now links.now }
 {
-    let mut q = 0;
-    while q < links.len() {
-        if !free_ok(store, links, q) {
-            return false;
-        }
-        q += 1;
-    }
-    true
+    (0..links.len()).all(|q| free_ok(store, links, q))
 }
 
 fn tail_ok(store: &[u8], links: &[u16], directory: &[u8], i: usize) -> bool
@@ -266,15 +206,7 @@ fn tail_ok(store: &[u8], links: &[u16], directory: &[u8], i: usize) -> bool
 pub fn tails_ok(store: &[u8], links: &[u16], directory: &[u8]) -> bool
     ensures { result ≡ tails_ok store.now links.now directory.now }
 {
-    let n = directory.len() / BYTES_AN_ENTRY;
-    let mut i = 0;
-    while i < n {
-        if !tail_ok(store, links, directory, i) {
-            return false;
-        }
-        i += 1;
-    }
-    true
+    (0..directory.len() / BYTES_AN_ENTRY).all(|i| tail_ok(store, links, directory, i))
 }
 
 // ---- all of it

@@ -12,8 +12,7 @@ use Rattle.cells.specs.Count.{times, all_zero}
 use Rattle.cells.specs.Scan.{lowest}
 use Rattle.cells.proofs.Counts.{all-at, all_of}
 use Rattle.cells.proofs.Scan.{lowest-passes, lowest-first}
-use Rattle.finding.specs.declared.Found.{Found}
-use Rattle.finding.specs.declared.Found.TheVariants.{At, Nothing}
+use Rattle.std.specs.Prelude.{None, Option, Some}
 use Rattle.store.specs.Chain.{chain, bytes_of, needed}
 use Rattle.store.specs.Entry.{entries, entry, kind, name, size, many, of_kind}
 use Rattle.finding.specs.Find.{is_recording, same_name, titled, found}
@@ -79,9 +78,9 @@ if-eq a b t h e = rw (eq-eqb a b e) at h
 of_eq : (a b : ℕ) (t : Bool) → (a ≡ b → t ≡ true) → (not (eqb a b) || t) ≡ true
 of_eq a b t h = ⊎_elim (λ (e : a ≡ b). rw (eq-eqb a b e) (h e)) (λ (n : a ≡ b → ⊥). rw (ne_eqb a b n)) (same? a b)
 
-here-says : (i : ℕ) (f : Found) → is_here i f ≡ true → f ≡ At i
-here-says i (At j) h = ap At (eqb-true j i h)
-here-says i Nothing h = absurd (false≢true h)
+here-says : (i : ℕ) (f : Option ℕ) → is_here i f ≡ true → f ≡ Some i
+here-says i (Some j) h = ap Some (eqb-true j i h)
+here-says i None h = absurd (false≢true h)
 
 eqb-self : (x : ℕ) → eqb x x ≡ true
 eqb-self x = eq-eqb x x refl

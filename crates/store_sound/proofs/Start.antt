@@ -24,7 +24,7 @@ use Rattle.store_sound.proofs.Moving.{Moved, inside, moved-is}
 use lib.Seq.{drop-cons}
 use Rattle.cells.proofs.Counts.{drop-none}
 use Rattle.cells.proofs.Scan.{lowest-passes, lowest-first}
-use Rattle.finding.specs.declared.Found.TheVariants.{Nothing}
+use Rattle.std.specs.Prelude.{None}
 use Rattle.finding.specs.Find.{is_empty, is_recording, recorded, same_name, titled, titled_at}
 use Rattle.finding.proofs.Finding.{nothing-says}
 use Rattle.room.specs.Room.{lowest_portion, lowest_entry, has_room}
@@ -87,8 +87,8 @@ pub record MayStart (st ls dir : List ℕ) (k : ℕ) (n : List ℕ) : Type 0 whe
   pub low : k ≤ 3
   pub long : length n ≡ 8
   pub legal : title_ok n ≡ true
-  pub fresh : titled_at dir (eqb k 2) n ≡ Nothing
-  pub quiet : k ≡ 3 → recorded dir ≡ Nothing
+  pub fresh : titled_at dir (eqb k 2) n ≡ None
+  pub quiet : k ≡ 3 → recorded dir ≡ None
 
 pub room_says : (free : ℕ) (dir : List ℕ) (sz : ℕ) → has_room free dir sz ≡ true → (lowest_entry dir < entries dir) × (needed sz ≤ free)
 unfolding has_room

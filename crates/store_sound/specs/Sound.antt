@@ -1,11 +1,9 @@
 -- The store's part of **Sound**, one Bool for each clause, in the order of paper 01: "names upper-case, legal, unique per kind (1 and 3 are one
 -- kind); at most one entry of kind 3; each chain of exactly size/256 rounded up, at least one, portions; no portion in two chains; all others free;
 -- unused bytes zero". Each has a value on any memory.
-use Rattle.std.specs.Prelude.{List, Bool, false, not, ◌&&◌, ◌||◌, cond, ℕ, ◌-◌, ◌*◌, length, get_or, drop, eqb, ltb, leb}
+use Rattle.std.specs.Prelude.{List, Bool, false, not, ◌&&◌, ◌||◌, cond, ℕ, ◌-◌, ◌*◌, length, get_or, drop, eqb, ltb, leb, None, Option, Some}
 use Prim.Native.Char.{code}
 use Rattle.cells.specs.Count.{times, sum_to, all_to, all_zero}
-use Rattle.finding.specs.declared.Found.{Found}
-use Rattle.finding.specs.declared.Found.TheVariants.{At, Nothing}
 use Rattle.store.specs.Chain.{most_portions, bytes_a_portion, needed, portion, is_free, chain, chain_ok}
 use Rattle.store.specs.Entry.{most_entries, bytes_an_entry, entries, entry, kind, name_length, name, first, size, many, last_of}
 use Rattle.finding.specs.Find.{is_empty, is_recording, recorded, titled_at}
@@ -43,9 +41,9 @@ unfoldable pub names_ok : List ℕ → Bool
 names_ok directory = all_to (named_ok directory) (entries directory)
 
 -- "unique per kind (1 and 3 are one kind)": an entry is the one that is found by its kind and name
-abbrev pub is_here : ℕ → Found → Bool
-is_here i (At j) = eqb j i
-is_here i Nothing = false
+abbrev pub is_here : ℕ → Option ℕ → Bool
+is_here i (Some j) = eqb j i
+is_here i None = false
 
 unfoldable pub unique_ok : List ℕ → ℕ → Bool
 unique_ok directory i =

@@ -1,4 +1,5 @@
 -- The field that keeps a value: how it is built, and what becomes of a value that is entered.
+use Rattle.std.proofs.Common.{Ok, Err}
 use mathlib.Core.Path.{◌≡◌, sym, ap, ◌∙◌}
 use mathlib.Core.Bool.{true, false}
 use mathlib.Core.List.{List, ◌++◌}
@@ -9,7 +10,7 @@ use lib.Seq.{sets}
 use borrow.Author.Tests.{lt-ltb, le-ltb}
 use Rattle.ground.proofs.Stores.{sets-append}
 use Rattle.declarations.specs.declared.Declared.{Declared}
-use Rattle.declarations.specs.declared.Entered.TheVariants.{Taken, Undeclared, Unfit}
+use Rattle.declarations.specs.declared.Refused.TheVariants.{Undeclared, Unfit}
 use Rattle.declarations.specs.Declarations.{length_at, side_at}
 use Rattle.padding.specs.Padding.{enters, padded}
 use Rattle.stored_values.specs.Stored.{field, stored, variable_entered}
@@ -31,15 +32,15 @@ field-built z at a b c l r size x t ea eb es ec =
 -- ---- a value entered
 
 module _ (d : Declared) (n : ℕ) (text values : List ℕ) where
-  pub variable-undeclared : length_at d n < 1 → stored Undeclared values ≡ variable_entered d n text values
+  pub variable-undeclared : length_at d n < 1 → stored (Err Undeclared) values ≡ variable_entered d n text values
   unfolding variable_entered
   variable-undeclared h = rw (le-ltb 0 (length_at d n) (omega arith))
 
-  pub variable-unfit : 1 ≤ length_at d n → enters (side_at d n) (length_at d n) text ≡ false → stored Unfit values ≡ variable_entered d n text values
+  pub variable-unfit : 1 ≤ length_at d n → enters (side_at d n) (length_at d n) text ≡ false → stored (Err Unfit) values ≡ variable_entered d n text values
   unfolding variable_entered
   variable-unfit h e = rw (lt-ltb 0 (length_at d n) (omega arith), e)
 
   pub variable-taken : 1 ≤ length_at d n → enters (side_at d n) (length_at d n) text ≡ true
-      → stored Taken (sets values (34 * n) (field (padded (side_at d n) (length_at d n) text))) ≡ variable_entered d n text values
+      → stored (Ok tt) (sets values (34 * n) (field (padded (side_at d n) (length_at d n) text))) ≡ variable_entered d n text values
   unfolding variable_entered
   variable-taken h e = rw (lt-ltb 0 (length_at d n) (omega arith), e)

@@ -1,4 +1,5 @@
 -- Sound fields: all zero, or a declared value that fits. Entering and unsetting keep each so.
+use Rattle.std.proofs.Common.{Ok, Err}
 use mathlib.Core.Path.{◌≡◌, refl, ap, ◌∙◌}
 use mathlib.Core.Bool.{Bool, true, false, cond, ◌&&◌, ◌||◌}
 use mathlib.Core.List.{List, [], ◌∷◌, ◌++◌, append_assoc}
@@ -14,7 +15,7 @@ use Rattle.kinds.specs.Bytes.{all_in}
 use Rattle.padding.proofs.Ranges.{all_take, all_drop, all_replicate}
 use Rattle.ground.proofs.Tests.{or-first, or-second, and_left, and_right, and_both}
 use Rattle.declarations.specs.declared.Declared.{Declared}
-use Rattle.declarations.specs.declared.Entered.TheVariants.{Taken, Undeclared, Unfit}
+use Rattle.declarations.specs.declared.Refused.TheVariants.{Undeclared, Unfit}
 use Rattle.declarations.specs.Declarations.{length_at, side_at, variable_declared}
 use Rattle.declarations.proofs.Tenths.{tenth-below}
 use Rattle.padding.specs.Padding.{enters, padded, fits}
@@ -164,7 +165,7 @@ module _ (d : Declared) (values : List ℕ) (n : ℕ) (text : List ℕ) (whole :
   entered-field k l = go (variable_declared d n) (enters (side_at d n) (length_at d n) text) refl refl
     where
       go : (a b : Bool) → variable_declared d n ≡ a → enters (side_at d n) (length_at d n) text ≡ b
-          → field_sound d k (field_at (cond a (cond b (stored Taken (sets values (34 * n) (field (padded (side_at d n) (length_at d n) text)))) (stored Unfit values)) (stored Undeclared values)).values k) ≡ true
+          → field_sound d k (field_at (cond a (cond b (stored (Ok tt) (sets values (34 * n) (field (padded (side_at d n) (length_at d n) text)))) (stored (Err Unfit) values)) (stored (Err Undeclared) values)).values k) ≡ true
       go true true p q = taken-field p q k l
       go true false p q = old k l
       go false b p q = old k l

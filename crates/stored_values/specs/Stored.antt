@@ -1,11 +1,11 @@
 -- "Values: 10 fields of 34 bytes: set (0 or 1), length, 32 bytes zero-filled. An unset field is all zero."
 -- Assumes nothing.
-use Rattle.std.specs.Prelude.{ℕ, ◌+◌, ◌-◌, ◌*◌, Bool, cond, ◌&&◌, ◌||◌, List, [], ◌∷◌, ◌++◌, length, get_or, take, drop, replicate, eqb, leb, ltb}
+use Rattle.std.specs.Prelude.{ℕ, ◌+◌, ◌-◌, ◌*◌, Bool, cond, ◌&&◌, ◌||◌, List, [], ◌∷◌, ◌++◌, length, get_or, take, drop, replicate, eqb, leb, ltb, Result, Ok, Err}
 use Rattle.std.proofs.lemmas.List.Edits.{sets}
 use Rattle.kinds.specs.Bytes.{all_in}
 use Rattle.declarations.specs.declared.Declared.{Declared}
-use Rattle.declarations.specs.declared.Entered.{Entered}
-use Rattle.declarations.specs.declared.Entered.TheVariants.{Taken, Undeclared, Unfit}
+use Rattle.declarations.specs.declared.Refused.{Refused}
+use Rattle.declarations.specs.declared.Refused.TheVariants.{Undeclared, Unfit}
 use Rattle.declarations.specs.Declarations.{length_at, side_at, variable_declared}
 use Rattle.padding.specs.Padding.{enters, padded, fits}
 
@@ -42,19 +42,19 @@ field_set f = eqb (get_or f 0 0) 1
 
 -- an answer, and the values after it
 pub record Stored : Type 0 where
-  pub answer : Entered
+  pub answer : Result Unit Refused
   pub values : List ℕ
 
-abbrev pub stored : Entered → List ℕ → Stored
+abbrev pub stored : Result Unit Refused → List ℕ → Stored
 stored a vs = record { answer = a; values = vs }
 
 -- `?Vn,"text"`: [13] not declared; [17] the text does not fit; else field n keeps it as padded
 unfoldable pub variable_entered : Declared → ℕ → List ℕ → List ℕ → Stored
 variable_entered d n text values = cond (variable_declared d n)
     (cond (enters (side_at d n) (length_at d n) text)
-    (stored Taken (sets values (bytes_a_field * n) (field (padded (side_at d n) (length_at d n) text))))
-    (stored Unfit values))
-    (stored Undeclared values)
+    (stored (Ok tt) (sets values (bytes_a_field * n) (field (padded (side_at d n) (length_at d n) text))))
+    (stored (Err Unfit) values))
+    (stored (Err Undeclared) values)
 
 -- every byte 0: "An unset field is all zero"
 unfoldable pub unset : List ℕ → List ℕ

@@ -12,7 +12,7 @@ ghost use Rattle.kinds.specs.Bytes.{all_in};
 ghost use Rattle.padding.specs.Padding.{padded};
 ghost use Rattle.stored_values.specs.Stored.{bytes_a_value, field, field_at, value_in, variable_in, stored, variable_entered, unset, is_zero, keeps, field_sound};
 
-use declarations::{Declared, Entered};
+use declarations::{Declared, Refused};
 use ground::{back, both, byte, either, fill, front, less, put, wide};
 use padding::{at_back, filler_of, in_front, may_enter, value_fits};
 
@@ -42,19 +42,19 @@ fn store_text(values: &mut [u8], at: usize, side: u8, m: usize, text: &[u8])
 }
 
 // `?Vn,"text"`.
-pub fn set_variable(d: Declared, values: &mut [u8], n: usize, text: &[u8]) -> Entered
+pub fn set_variable(d: Declared, values: &mut [u8], n: usize, text: &[u8]) -> Result<(), Refused>
     ensures { stored result values.new ≡ variable_entered d n text.now values.old }
 {
     let m = d.length_at(n);
     if m < 1 {
-        return Entered::Undeclared;
+        return Err(Refused::Undeclared);
     }
     let side = d.side_at(n);
-    if may_enter(side, m, text) {
-        store_text(values, BYTES_A_FIELD * n, side, m, text);
-        return Entered::Taken;
+    if !may_enter(side, m, text) {
+        return Err(Refused::Unfit);
     }
-    Entered::Unfit
+    store_text(values, BYTES_A_FIELD * n, side, m, text);
+    Ok(())
 }
 
 // Every variable unset.
@@ -96,11 +96,8 @@ pub fn variable_at(values: &[u8], k: usize) -> &[u8]
 fn all_zero(s: &[u8]) -> bool
     ensures { result ≡ all_in is_zero s.now }
 {
-    let mut i = 0;
-    while i < s.len() {
-        if s[i] == 0 {
-            i += 1;
-        } else {
+    for b in s {
+        if *b != 0 {
             return false;
         }
     }

@@ -19,7 +19,8 @@ use stamps::{stamp_good, stamp_length};
 // One more than the most bytes that any kind takes: lengths are counted no further.
 const TOO_LONG: usize = 129;
 
-// How short and how long data can be, up to `TOO_LONG`, and whether every byte is of the kind's class.
+// How short and how long data can be, up to `TOO_LONG`, and whether every byte is of the kind's class. No Option: `joined` keeps both lengths of data that is not
+// of the class too.
 #[derive(Clone, Copy)]
 pub struct Summary {
     pub least: usize,

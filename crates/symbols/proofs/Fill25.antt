@@ -1,8 +1,8 @@
 -- The elements of Interleaved 2 of 5 as the code writes them. Assumes nothing.
-use mathlib.Core.Path.{◌≡◌, refl, sym, ap, ◌∙◌}
+use mathlib.Core.Path.{◌≡◌, refl, sym, ap, subst, ◌∙◌}
 use mathlib.Core.Bool.{Bool}
 use mathlib.Core.List.{List, [], ◌∷◌, ◌++◌}
-use Prim.Native.Nat.{ℕ, suc, ◌+◌, ◌-◌, ◌*◌, ◌%◌, ◌≤◌, ◌<◌}
+use Prim.Native.Nat.{ℕ, suc, ◌+◌, ◌-◌, ◌*◌, ◌/◌, ◌%◌, ◌≤◌, ◌<◌}
 use native.Mathlib.Decide.{dec_lt}
 use native.Mathlib.Omega.{arith}
 use lib.Dec.{T}
@@ -107,6 +107,14 @@ weaving-step s l₀ l l' i row h w e p =
       whole = ap (λ k. sets k (5 * (i + 2) + 4) (pairs (drop (i + 2) s))) q ∙ ap (λ k. sets (sets l (5 * i + 4) ws) k (pairs (drop (i + 2) s))) next
           ∙ sym (sets-append l (5 * i + 4) ws (pairs (drop (i + 2) s))) ∙ ap (sets l (5 * i + 4)) (sym (pairs-more s i h)) ∙ w.whole;
     }
+
+-- the same for pair number k
+pub weaving-pair : (s l₀ l l' : List ℕ) (k row : ℕ) → k < length s / 2 → Weaving s l₀ l (2 * k)
+    → digits 10 row ≡ woven (five (get_or s (2 * k) 0)) (five (get_or s (2 * k + 1) 0)) → l' ≡ sets l (10 * k + 4) (digits 10 row) → Weaving s l₀ l' (2 * (k + 1))
+weaving-pair s l₀ l l' k row h w e p =
+    let at : 10 * k + 4 ≡ 5 * (2 * k) + 4 = omega arith in
+    let next : 2 * k + 2 ≡ 2 * (k + 1) = omega arith in
+    subst (λ (n : ℕ). Weaving s l₀ l' n) next (weaving-step s l₀ l l' (2 * k) row (omega arith) w e (p ∙ ap (λ (n : ℕ). sets l n (digits 10 row)) at))
 
 pub weaving-done : (s l₀ l : List ℕ) (i : ℕ) → length s ≤ i + 1 → Weaving s l₀ l i → l ≡ sets l₀ 4 (pairs s)
 weaving-done s l₀ l i h w = rw (pairs-few (drop i s) (omega (arith, length-drop i s))) at w.whole

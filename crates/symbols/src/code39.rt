@@ -7,7 +7,7 @@ ghost use Rattle.symbols.specs.Elements.{above_space, spaced, elements39};
 ghost use Rattle.symbols.specs.Laid.{most_elements, Put};
 ghost use Rattle.kinds.specs.Fit.{most_data};
 
-use crate::row::{put, wide};
+use crate::row::{put, row_in, wide};
 use code128::above;
 
 // The characters by byte from 32: nine elements, 1 narrow and 2 wide.
@@ -23,21 +23,15 @@ const W39: [u32; 59] = [
 fn row(b: u8) -> u32
     ensures { result ≡ get_or rows39 (above_space b) 0 }
 {
-    let v = above(b, b' ');
-    if 59 <= v {
-        return 0;
-    }
-    W39[v]
+    row_in(&W39, above(b, b' '))
 }
 
 fn body(s: &[u8], out: &mut [u8])
     requires { length s.now ≤ most_data }
     ensures { out.new ≡ sets out.old 10 (each spaced s.now) }
 {
-    let mut i = 0;
-    while i < s.len() {
-        put(out, 10 * i + 10, wide(row(s[i])) * 10 + 1, 10);
-        i += 1;
+    for (i, b) in s.iter().enumerate() {
+        put(out, 10 * i + 10, wide(row(*b)) * 10 + 1, 10);
     }
 }
 

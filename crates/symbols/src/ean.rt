@@ -5,7 +5,7 @@ ghost use Rattle.symbols.specs.Tables.{rows_set};
 ghost use Rattle.symbols.specs.Elements.{digit_of, check_digit, checked, pattern_row, patterns, elements_ean};
 ghost use Rattle.symbols.specs.Laid.{most_elements, Put};
 
-use crate::row::{put, wide};
+use crate::row::{put, row_in, wide};
 use code128::above;
 
 // The digits in sets A and C, and in set B.
@@ -22,23 +22,17 @@ fn row(set: u8, b: u8) -> u32
     ensures { result ≡ pattern_row set b }
 {
     let v = above(b, b'0');
-    if 10 <= v {
-        return 0;
-    }
     if set == 2 {
-        return WB[v];
+        row_in(&WB, v)
+    } else {
+        row_in(&WA, v)
     }
-    WA[v]
 }
 
 fn row_of_sets(b: u8) -> u32
     ensures { result ≡ get_or rows_set (digit_of b) 0 }
 {
-    let v = above(b, b'0');
-    if 10 <= v {
-        return 0;
-    }
-    SETS[v]
+    row_in(&SETS, above(b, b'0'))
 }
 
 // The check digit of any number of digits: what is summed stays below ten and one digit's weight.
@@ -46,10 +40,8 @@ pub fn check_digit(s: &[u8]) -> u8
     ensures { result ≡ check_digit s.now }
 {
     let mut sum: usize = 0;
-    let mut i = 0;
-    while i < s.len() {
-        sum = sum % 10 + (3 - 2 * ((s.len() - i - 1) % 2)) * above(s[i], b'0');
-        i += 1;
+    for (i, b) in s.iter().enumerate() {
+        sum = sum % 10 + (3 - 2 * ((s.len() - i - 1) % 2)) * above(*b, b'0');
     }
     ((10 - sum % 10) % 10) as u8
 }
@@ -70,10 +62,8 @@ fn half(s: &[u8], c: u8, which: &[u8], q: usize, out: &mut [u8], at: usize)
     requires { (c ≡ check_digit s.now) × (q + length which.now ≤ length s.now + 1) × (length which.now ≤ 6) × (at ≤ 100) }
     ensures { out.new ≡ sets out.old at (patterns which.now (drop q (checked s.now))) }
 {
-    let mut i = 0;
-    while i < which.len() {
-        put(out, 4 * i + at, wide(row(which[i], digit(s, c, q + i))), 4);
-        i += 1;
+    for (i, set) in which.iter().enumerate() {
+        put(out, 4 * i + at, wide(row(*set, digit(s, c, q + i))), 4);
     }
 }
 

@@ -5,7 +5,7 @@ ghost use Rattle.symbols.specs.Elements.{digit_of, pairs, elements25};
 ghost use Rattle.symbols.specs.Laid.{most_elements, Put, spread};
 ghost use Rattle.kinds.specs.Fit.{most_data};
 
-use crate::row::{put, wide};
+use crate::row::{put, row_in, wide};
 use code128::above;
 
 // The digits: five elements, 1 narrow and 2 wide, with a place left between them for those of another digit.
@@ -17,26 +17,17 @@ const W25: [u32; 10] = [
 fn row(b: u8) -> u32
     ensures { result ≡ get_or spread (digit_of b) 0 }
 {
-    let v = above(b, b'0');
-    if 10 <= v {
-        return 0;
-    }
-    W25[v]
+    row_in(&W25, above(b, b'0'))
 }
 
 fn body(s: &[u8], out: &mut [u8])
     requires { length s.now ≤ most_data }
     ensures { out.new ≡ sets out.old 4 (pairs s.now) }
 {
-    let mut i = 0;
-    while i + 1 < s.len() {
-        put(
-            out,
-            5 * i + 4,
-            wide(row(s[i])) * 10 + wide(row(s[i + 1])),
-            10,
-        );
-        i += 2;
+    for i in 0..s.len() / 2 {
+        let first = wide(row(s[2 * i]));
+        let second = wide(row(s[2 * i + 1]));
+        put(out, 10 * i + 4, first * 10 + second, 10);
     }
 }
 

@@ -8,17 +8,14 @@ ghost use Rattle.symbols.specs.Laid.{most_elements, Put};
 
 use crate::row::put;
 use code128::{STOP, check, last_bar, row};
-use ground::byte_at;
 use shortest::MOST_SYMBOLS;
 
 fn body(values: &[u8], out: &mut [u8])
     requires { length values.now ≤ most_symbols }
     ensures { out.new ≡ sets out.old 0 (each six values.now) }
 {
-    let mut i = 0;
-    while i < values.len() {
-        put(out, 6 * i, row(byte_at(values, i)), 6);
-        i += 1;
+    for (i, v) in values.iter().enumerate() {
+        put(out, 6 * i, row(usize::from(*v)), 6);
     }
 }
 

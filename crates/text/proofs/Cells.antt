@@ -16,7 +16,7 @@ use Rattle.dots.specs.Dots.{drawn, box}
 use Rattle.figures.specs.Figures.{bitmap, scaled, shifted}
 use Rattle.ground.proofs.Tests.{and-true}
 use Rattle.bitmaps.proofs.Bitmaps.{next-times}
-use Rattle.text.specs.declared.Spot.{Spot}
+use Rattle.figures.specs.declared.Spot.{Spot}
 use Rattle.font.specs.Rules.{cell_width, cell_height, row_bytes, rows_of}
 use Rattle.text.specs.Text.{side_by_side, glyph_of, along, down, on_label}
 use Rattle.dots.proofs.Pages.{Bytes}
@@ -77,7 +77,7 @@ module _ (ink : Ink) (s : Spot) (font : List ℕ) (h v : ℕ) (text p : List ℕ
 
   pub glyphs-start : Bytes p → p ≡ drawn_to 0
   glyphs-start by =
-      none-placed ink s.width s.length s.r s.wide s.high s.x s.y _ p by
+      none-placed ink s.corner.size.width s.corner.size.length s.corner.r s.wide s.high s.corner.x s.corner.y _ p by
       (λ u w i j. cells-none (along font h) (down font v) (glyph_of font h v text) u w)
 
   -- one glyph more, as the code draws it
@@ -86,6 +86,6 @@ module _ (ink : Ink) (s : Spot) (font : List ℕ) (h v : ℕ) (text p : List ℕ
       → u ≡ n * along font h → wide ≡ cell_width font → tall ≡ cell_height font → stride ≡ row_bytes font → rows ≡ rows_of font (get_or text n 0)
       → t ≡ drawn_to (n + 1)
   glyphs-next n u wide tall stride rows q t e d eu ew et es er =
-      then-placed ink s.width s.length s.r s.wide s.high s.x s.y _ _ _ p q t e
+      then-placed ink s.corner.size.width s.corner.size.length s.corner.r s.wide s.high s.corner.x s.corner.y _ _ _ p q t e
       (d ∙ (λ i. drawn ink (on_label s (shifted (eu i) (scaled (ew i) (et i) h v (bitmap (er i) (es i))))) q))
       (λ a b i j. cells-join (along font h) (down font v) (glyph_of font h v text) n a b)

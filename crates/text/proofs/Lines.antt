@@ -12,7 +12,7 @@ use Rattle.dots.specs.declared.Ink.{Ink}
 use Rattle.dots.specs.declared.Ink.TheVariants.{Black, White}
 use Rattle.dots.specs.Dots.{drawn, box}
 use Rattle.ground.proofs.Tests.{and-true}
-use Rattle.text.specs.declared.Spot.{Spot}
+use Rattle.figures.specs.declared.Spot.{Spot}
 use Rattle.text.specs.Text.{along, down, glyphs, on_label, spot_of, drawable, in_mode, text_drawn}
 use Rattle.dots.proofs.Pages.{Bytes}
 use Rattle.figures.proofs.Placed.{none-placed}

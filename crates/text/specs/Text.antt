@@ -4,9 +4,10 @@
 use Rattle.std.specs.Prelude.{ℕ, ◌*◌, ◌/◌, ◌%◌, Bool, true, false, cond, ◌&&◌, List, length, get_or, leb}
 use Rattle.kinds.specs.Fit.{most_data}
 use Rattle.dots.specs.declared.Ink.TheVariants.{Black, White}
-use Rattle.dots.specs.Dots.{drawn, cut, box}
-use Rattle.figures.specs.Figures.{bitmap, placed}
-use Rattle.text.specs.declared.Spot.{Spot}
+use Rattle.dots.specs.Dots.{drawn, box}
+use Rattle.figures.specs.declared.Spot.{Spot}
+use Rattle.figures.specs.Figures.{bitmap}
+pub use Rattle.figures.specs.Figures.{on_label}
 use Rattle.font.specs.Rules.{cell_width, cell_height, row_bytes, rows_of}
 
 -- n cells of m by d dots side by side in one box; dot u, w of cell k is cell k u w
@@ -28,10 +29,6 @@ down font v = cell_height font * v
 abbrev pub glyphs : List ℕ → ℕ → ℕ → List ℕ → ℕ → ℕ → Bool
 glyphs font h v text = side_by_side (length text) (along font h) (down font v) (glyph_of font h v text)
 
--- where a figure in the box of a text is seen
-abbrev pub on_label : Spot → (ℕ → ℕ → Bool) → ℕ → ℕ → Bool
-on_label s figure = cut s.width s.length (placed s.r s.wide s.high s.x s.y figure)
-
 -- "N sets glyph dots black; R sets the whole cell black, glyph dots white."
 unfoldable pub in_mode : Bool → Spot → (ℕ → ℕ → Bool) → List ℕ → List ℕ
 in_mode false s figure page = drawn Black (on_label s figure) page
@@ -40,7 +37,7 @@ in_mode true s figure page = drawn White (on_label s figure) (drawn Black (on_la
 -- the box of a text of n bytes: n times a cell's width by a cell's height, scaled
 abbrev pub spot_of : ℕ → ℕ → ℕ → ℕ → ℕ → ℕ → ℕ → List ℕ → ℕ → Spot
 spot_of width length x y r h v font n =
-    record { width = width; length = length; r = r; x = x; y = y; wide = n * along font h; high = down font v }
+    record { corner = record { size = record { width = width; length = length }; r = r; x = x; y = y }; wide = n * along font h; high = down font v }
 
 -- what is drawn: a text of at most 128 bytes, scaled within the limits. Any bytes are drawn from as a font is; a call refuses an illegal font before
 abbrev pub drawable : ℕ → ℕ → List ℕ → Bool

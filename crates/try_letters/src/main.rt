@@ -5,6 +5,7 @@
 ghost use Rattle.std.specs.Prelude.{◌<◌, ◌≤◌};
 
 use std::io;
+use text::{Corner, Scale, Size};
 
 // Cells of 5 by 6 dots, with an F and an R.
 const NARROW: [u8; 28] =
@@ -49,65 +50,81 @@ fn show(out: &impl Print, page: &[u8], from: usize, rows: usize) -> io::Result<(
     out.write_all(b"\n")
 }
 
+// The corner (x, y) of a box that is turned by r quarters, on a label of width by length.
+fn corner(width: usize, length: usize, x: usize, y: usize, r: usize) -> Corner {
+    let size = Size { width, length };
+    Corner { size, r, x, y }
+}
+
+// Each dot of a cell as it is.
+const ONE: Scale = Scale { h: 1, v: 1 };
+
 // The four turns at one scale in one mode, beside each other from the columns given on.
 fn turns(
     out: &impl Print,
-    h: usize,
-    v: usize,
+    scale: Scale,
     reverse: bool,
-    at1: usize,
-    at2: usize,
-    at3: usize,
+    columns: [usize; 4],
     rows: usize,
 ) -> io::Result<()>
     requires { rows ≤ 4000 }
 {
     let mut page = [0u8; 1672];
-    text::draw(&mut page, 608, 22, 1, 1, 0, h, v, reverse, &NARROW, b"FR");
-    text::draw(&mut page, 608, 22, at1, 1, 1, h, v, reverse, &NARROW, b"FR");
-    text::draw(&mut page, 608, 22, at2, 1, 2, h, v, reverse, &NARROW, b"FR");
-    text::draw(&mut page, 608, 22, at3, 1, 3, h, v, reverse, &NARROW, b"FR");
+    for r in 0..4usize {
+        let at = corner(608, 22, columns[r], 1, r);
+        text::draw(&mut page, at, scale, reverse, &NARROW, b"FR");
+    }
     show(out, &page, 0, rows)
 }
 
 fn scales(out: &impl Print, reverse: bool) -> io::Result<()> {
-    turns(out, 1, 1, reverse, 13, 21, 33, 12)?;
-    turns(out, 2, 1, reverse, 23, 31, 53, 22)?;
-    turns(out, 1, 3, reverse, 13, 33, 45, 20)
+    turns(out, ONE, reverse, [1, 13, 21, 33], 12)?;
+    turns(out, Scale { h: 2, v: 1 }, reverse, [1, 23, 31, 53], 22)?;
+    turns(out, Scale { h: 1, v: 3 }, reverse, [1, 13, 33, 45], 20)
 }
 
 // Cut at a width of 13 and a length of 7, in each turn: the text stands 4 to the right and 3 down.
 fn cut_at_label(out: &impl Print, r: usize, reverse: bool) -> io::Result<()> {
     let mut page = [0u8; 760];
-    text::draw(&mut page, 13, 7, 4, 3, r, 1, 1, reverse, &NARROW, b"FR");
+    let at = corner(13, 7, 4, 3, r);
+    text::draw(&mut page, at, ONE, reverse, &NARROW, b"FR");
     show(out, &page, 0, 10)
 }
 
 // Cut at the page's own edges: column 608 and the last row.
 fn cut_at_page(out: &impl Print, reverse: bool) -> io::Result<()> {
     let mut page = [0u8; 608];
-    text::draw(
-        &mut page, 9999, 9999, 602, 1, 0, 1, 1, reverse, &NARROW, b"FR",
-    );
-    text::draw(
-        &mut page, 9999, 9999, 560, 4, 2, 1, 1, reverse, &NARROW, b"FR",
-    );
+    let right = corner(9999, 9999, 602, 1, 0);
+    text::draw(&mut page, right, ONE, reverse, &NARROW, b"FR");
+    let below = corner(9999, 9999, 560, 4, 2);
+    text::draw(&mut page, below, ONE, reverse, &NARROW, b"FR");
     show(out, &page, 544, 8)
 }
 
 // A code that no glyph has is blank; rows of two bytes; no bytes draw nothing.
 fn blanks(out: &impl Print, reverse: bool) -> io::Result<()> {
     let mut page = [0u8; 760];
-    text::draw(&mut page, 608, 10, 1, 1, 0, 1, 1, reverse, &NARROW, b"F?R");
-    text::draw(&mut page, 608, 10, 18, 1, 0, 1, 2, reverse, &WIDE, b"AA");
-    text::draw(&mut page, 608, 10, 50, 1, 0, 1, 1, reverse, &NARROW, b"");
+    let first = corner(608, 10, 1, 1, 0);
+    text::draw(&mut page, first, ONE, reverse, &NARROW, b"F?R");
+    let second = corner(608, 10, 18, 1, 0);
+    text::draw(
+        &mut page,
+        second,
+        Scale { h: 1, v: 2 },
+        reverse,
+        &WIDE,
+        b"AA",
+    );
+    let third = corner(608, 10, 50, 1, 0);
+    text::draw(&mut page, third, ONE, reverse, &NARROW, b"");
     show(out, &page, 0, 9)
 }
 
 // Draws with a font that is judged first.
 fn draw_judged(page: &mut [u8], bytes: &[u8]) {
     if font::is_legal(bytes) {
-        text::draw(page, 608, 2, 0, 0, 0, 1, 1, true, bytes, b"FR");
+        let at = corner(608, 2, 0, 0, 0);
+        text::draw(page, at, ONE, true, bytes, b"FR");
     }
 }
 

@@ -4,24 +4,17 @@
 
 ghost use Rattle.std.specs.Prelude.{◌<◌};
 
-use read::{Fault, Read};
+use read::Fault;
 use std::io;
 
-#[derive(Clone, Copy)]
+// How many were answered in each way, and the digest of all answers.
+#[derive(Clone, Copy, Default)]
 struct Tally {
     taken: u64,
     form: u64,
     soon: u64,
     limit: u64,
     digest: u64,
-}
-
-fn more(n: u64) -> u64 {
-    std::num::wrapping_add_u64(n, 1)
-}
-
-fn mixed(digest: u64, answer: u64) -> u64 {
-    (digest % 1000003) * 257 + answer % 1000
 }
 
 // The place at fault; no sample is longer than 64 bytes.
@@ -31,118 +24,67 @@ fn small(place: usize) -> u64
     if place < 100 { place as u64 } else { 99 }
 }
 
-fn taken(t: Tally) -> Tally {
-    Tally {
-        taken: more(t.taken),
-        form: t.form,
-        soon: t.soon,
-        limit: t.limit,
-        digest: mixed(t.digest, 0),
+impl Tally {
+    fn mix(&mut self, answer: u64) {
+        self.digest = (self.digest % 1000003) * 257 + answer % 1000;
     }
-}
 
-fn unformed(t: Tally, place: usize) -> Tally {
-    Tally {
-        taken: t.taken,
-        form: more(t.form),
-        soon: t.soon,
-        limit: t.limit,
-        digest: mixed(t.digest, 600 + small(place)),
+    fn take(&mut self) {
+        self.taken = self.taken.wrapping_add(1);
+        self.mix(0);
     }
-}
 
-fn unended(t: Tally, place: usize) -> Tally {
-    Tally {
-        taken: t.taken,
-        form: t.form,
-        soon: more(t.soon),
-        limit: t.limit,
-        digest: mixed(t.digest, 600 + small(place)),
+    // A line that has not the written form: one that is pointed to behind its last byte ends too soon.
+    fn refuse(&mut self, line: &[u8], place: usize) {
+        if place == line.len() {
+            self.soon = self.soon.wrapping_add(1);
+        } else {
+            self.form = self.form.wrapping_add(1);
+        }
+        self.mix(600 + small(place));
     }
-}
 
-fn unlimited(t: Tally, place: usize) -> Tally {
-    Tally {
-        taken: t.taken,
-        form: t.form,
-        soon: t.soon,
-        limit: more(t.limit),
-        digest: mixed(t.digest, 700 + small(place)),
+    fn limit(&mut self, place: usize) {
+        self.limit = self.limit.wrapping_add(1);
+        self.mix(700 + small(place));
     }
-}
 
-// A line that has not the written form: one that is pointed to behind its last byte ends too soon.
-fn refused(line: &[u8], t: Tally, place: usize) -> Tally {
-    if place == line.len() {
-        return unended(t, place);
+    fn judge(&mut self, line: &[u8]) {
+        match read::read_line(line, 240) {
+            Ok(_) => self.take(),
+            Err(Fault::Form(place)) => self.refuse(line, place),
+            Err(Fault::Limit(place)) => self.limit(place),
+        }
     }
-    unformed(t, place)
-}
-
-fn judged(line: &[u8], t: Tally) -> Tally {
-    match read::read_line(line, 240) {
-        Read::Taken(_) => taken(t),
-        Read::Refused(fault) => match fault {
-            Fault::Form(place) => refused(line, t, place),
-            Fault::Limit(place) => unlimited(t, place),
-        },
-    }
-}
-
-fn changed(line: &[u8], k: usize, place: usize, b: u8) -> u8 {
-    if k == place {
-        return b;
-    }
-    ground::byte(line, k)
 }
 
 // The line with another byte at a place.
-fn tried(line: &[u8], place: usize, b: u8, t: Tally) -> Tally {
+fn try_byte(line: &[u8], place: usize, b: u8, tally: &mut Tally) {
     let mut copy = [0u8; 64];
-    for k in 0..64usize {
-        copy[k] = changed(line, k, place, b);
-    }
-    judged(parts::first(&copy, line.len()), t)
+    ground::put(&mut copy, 0, line);
+    ground::put_byte(&mut copy, place, b);
+    tally.judge(parts::first(&copy, line.len()));
 }
 
-fn low(b: usize) -> u8 {
-    (b % 256) as u8
-}
-
-fn all_bytes(line: &[u8], place: usize, t: Tally) -> Tally {
-    let mut tally = t;
-    for b in 0..256usize {
-        tally = tried(line, place, low(b), tally);
-    }
-    tally
-}
-
-fn all_places(line: &[u8], t: Tally) -> Tally {
-    let mut tally = t;
+fn all_places(line: &[u8], tally: &mut Tally) {
     for place in 0..line.len() {
-        tally = all_bytes(line, place, tally);
+        for b in 0..=255u8 {
+            try_byte(line, place, b, tally);
+        }
     }
-    tally
 }
 
 // Every part of the line from its first byte on.
-fn all_starts(line: &[u8], t: Tally) -> Tally {
-    let mut tally = t;
+fn all_starts(line: &[u8], tally: &mut Tally) {
     for k in 1..line.len() {
-        tally = judged(parts::first(line, k), tally);
+        tally.judge(parts::first(line, k));
     }
-    tally
 }
 
 fn show(out: &impl Print, line: &[u8]) -> io::Result<()> {
-    let none = Tally {
-        taken: 0,
-        form: 0,
-        soon: 0,
-        limit: 0,
-        digest: 0,
-    };
-    let t = all_starts(line, all_places(line, none));
+    let mut t = Tally::default();
+    all_places(line, &mut t);
+    all_starts(line, &mut t);
     out.write_all(line)?;
     println!(out;
         " taken {} form {} soon {} limit {} digest {}",

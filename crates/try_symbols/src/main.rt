@@ -5,6 +5,7 @@
 
 ghost use Rattle.std.specs.Prelude.{◌≡◌, ◌≤◌, length};
 
+use bars::Widths;
 use kinds::Kind;
 use std::io;
 use std::io::Read;
@@ -58,17 +59,15 @@ fn show(out: &impl Print, line: &[u8], n: usize) -> io::Result<()> {
 
 fn symbol(
     out: &impl Print,
-    kind: Kind,
-    e: u8,
-    f: u8,
+    by: Widths,
     bytes: &[u8],
     ws: &mut [u8],
     line: &mut [u8],
 ) -> io::Result<()> {
-    let n = symbols::elements(kind, bytes, ws);
+    let n = symbols::elements(by.kind, bytes, ws);
     let mut at: usize = 0;
     for k in 0..n {
-        at = emit_width(line, at, bars::width(kind, e, f, ground::byte(ws, k)));
+        at = emit_width(line, at, bars::width(by, ground::byte(ws, k)));
     }
     let end = emit(line, at, b'\n');
     show(out, line, end)
@@ -78,12 +77,14 @@ fn example(out: &impl Print, text: &[u8]) -> io::Result<()> {
     if text.len() < 3 {
         return Ok(());
     }
-    let kind = kind_of(text[0]);
-    let e = value_of(text[1]);
-    let f = value_of(text[2]);
+    let by = Widths {
+        kind: kind_of(text[0]),
+        e: value_of(text[1]),
+        f: value_of(text[2]),
+    };
     let mut ws = [0u8; 1299];
     let mut line = [0u8; 4096];
-    symbol(out, kind, e, f, &text[3..], &mut ws, &mut line)
+    symbol(out, by, &text[3..], &mut ws, &mut line)
 }
 
 fn line_end(text: &[u8], from: usize) -> usize

@@ -1,10 +1,10 @@
 -- ?V, ?C, VC, P: their rows of the table, and what they do.
 -- Assumes nothing.
-use Rattle.std.specs.Prelude.{ℕ, ◌+◌, not, List, [], ◌∷◌, take, drop, ltb}
-use Rattle.declarations.specs.declared.Entered.{Entered}
-use Rattle.declarations.specs.declared.Entered.TheVariants.{Taken as Enters, Undeclared as NotDeclared, Unfit as DoesNotFit}
+use Rattle.std.specs.Prelude.{ℕ, ◌+◌, not, List, [], ◌∷◌, take, drop, ltb, Result, Ok, Err}
+use Rattle.declarations.specs.declared.Refused.{Refused}
+use Rattle.declarations.specs.declared.Refused.TheVariants.{Undeclared as NotDeclared, Unfit as DoesNotFit}
 use Rattle.declarations.specs.Declarations.{variable_declared, counter_declared, side_at, length_at, width_at}
-use Rattle.counters.specs.Counters.{counter_entered, ten_to}
+use Rattle.counters.specs.Counters.{counter_entered, counters_after, ten_to}
 use Rattle.counter_steps.specs.Steps.{lasts}
 use Rattle.padding.specs.Padding.{enters}
 use Rattle.stored_values.specs.Stored.{variable_entered}
@@ -12,7 +12,7 @@ use Rattle.values.specs.Sound.{all_set}
 use Rattle.grammar.specs.Named.{ENTERED-AT}
 use Rattle.grammar.specs.declared.ValueCommand.{ValueCommand}
 use Rattle.grammar.specs.declared.ValueCommand.TheVariants.{Variable, Counter, Clear, Print}
-use Rattle.forms.specs.Form.{pictures_stored}
+use Rattle.active_form.specs.Form.{pictures_stored}
 use Rattle.session.specs.declared.Session.{Session}
 use Rattle.answers.specs.declared.Answer.{Answer}
 use Rattle.answers.specs.declared.Answer.TheVariants.{Taken, Missing, Undeclared, Misfit, Unset, RunsOut}
@@ -23,11 +23,15 @@ use Rattle.session.specs.Active.{active_of, active_declared}
 use Rattle.results.specs.World.{State, state, with_values, unset_in}
 use Rattle.results.specs.Result.{Ran, ran_by}
 
--- the table's answers of what entering a value answers; 13 points to the number of `?V` or `?C`
-abbrev pub entered_answer : Entered → Answer
-entered_answer Enters = Taken
-entered_answer NotDeclared = Undeclared ENTERED-AT
-entered_answer DoesNotFit = Misfit
+-- the table's answers where a value is refused; 13 points to the number of `?V` or `?C`
+abbrev pub refusal_answer : Refused → Answer
+refusal_answer NotDeclared = Undeclared ENTERED-AT
+refusal_answer DoesNotFit = Misfit
+
+-- of what entering a value answers
+abbrev pub entered_answer : {A : Type 0} → Result A Refused → Answer
+entered_answer (Ok x) = Taken
+entered_answer (Err r) = refusal_answer r
 
 -- the text that `?V` gives
 abbrev pub text_of : List ℕ → ℕ → ℕ → List ℕ
@@ -56,7 +60,7 @@ value_rows w s line (Print p) =
 abbrev pub value_runs : World → Session → List ℕ → ValueCommand → State
 value_runs w s line (Variable v) =
     state s (with_values w (variable_entered (active_declared w s) v.n (text_of line v.at v.length) w.values).values)
-value_runs w s line (Counter c) = state (counting s (counter_entered (active_declared w s) s.counters c.n c.value).counters) w
+value_runs w s line (Counter c) = state (counting s (counters_after s.counters (counter_entered (active_declared w s) s.counters c.n c.value))) w
 value_runs w s line Clear = state s (unset_in w)
 value_runs w s line (Print p) = state (owing s (sixteen_bits p.k)) w
 

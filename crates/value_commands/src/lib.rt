@@ -8,11 +8,11 @@ ghost use Rattle.std.specs.Prelude.{◌≡◌, []};
 ghost use Rattle.grammar.specs.declared.ValueCommand.TheVariants.{Variable as Enter, Counter as Count, Clear, Print as Owe};
 ghost use Rattle.lent.specs.Lent.{world};
 ghost use Rattle.results.specs.Result.{ran};
-ghost use Rattle.value_commands.specs.Values.{entered_answer, value_by};
+ghost use Rattle.value_commands.specs.Values.{refusal_answer, value_by};
 
 use active_form::active_declared;
-use answers::{Answer, is_taken};
-use declarations::Entered;
+use answers::Answer;
+use declarations::Refused;
 use grammar::row::ENTERED_AT;
 use grammar::{Print, SetCounter, SetVariable, ValueCommand};
 use parts::inside;
@@ -20,14 +20,13 @@ use results::{Done, answered, taken};
 use session::{Session, sixteen_bits};
 use stored_values::unset_all;
 
-// [13] and [17], by what entering a value answers.
-fn entered(e: Entered) -> Answer
-    ensures { result ≡ entered_answer e }
+// [13] and [17], by why a value is refused.
+fn refusal(r: Refused) -> Answer
+    ensures { result ≡ refusal_answer r }
 {
-    match e {
-        Entered::Taken => Answer::Taken,
-        Entered::Undeclared => Answer::Undeclared(ENTERED_AT),
-        Entered::Unfit => Answer::Misfit,
+    match r {
+        Refused::Undeclared => Answer::Undeclared(ENTERED_AT),
+        Refused::Unfit => Answer::Misfit,
     }
 }
 
@@ -49,10 +48,10 @@ fn enter_variable(
     let active = session.active;
     let d = active_declared(store, links, directory, active);
     let text = inside(line, at, length);
-    answered(
-        entered(stored_values::set_variable(d, values, n, text)),
-        session,
-    )
+    match stored_values::set_variable(d, values, n, text) {
+        Ok(()) => taken(session),
+        Err(refused) => answered(refusal(refused), session),
+    }
 }
 
 // ?C
@@ -70,14 +69,10 @@ fn enter_counter(
     let active = session.active;
     let counters = session.counters;
     let d = active_declared(store, links, directory, active);
-    let after = counters::set_counter(d, counters, n, value);
-    let answer = after.answer;
-    let next = after.counters;
-    let a = entered(answer);
-    if !is_taken(a) {
-        return answered(a, session);
+    match counters::set_counter(d, counters, n, value) {
+        Ok(next) => taken(session.counting(next)),
+        Err(refused) => answered(refusal(refused), session),
     }
-    taken(session.counting(next))
 }
 
 // VC "unsets variables, not counters"

@@ -10,7 +10,7 @@ use Rattle.declarations.specs.declared.Declared.{Declared}
 use Rattle.declarations.specs.Declarations.{tenth}
 use Rattle.declarations.proofs.Every.{every-at, every-all, every-same}
 use Rattle.counters.specs.declared.Counters.{Counters}
-use Rattle.counters.specs.Counters.{none_set, counter_entered, counter_sound}
+use Rattle.counters.specs.Counters.{none_set, counter_entered, counters_after, counter_sound}
 use Rattle.counters.proofs.Sound.{none-counter, counted-counter}
 use Rattle.counter_steps.specs.Steps.{lasts, moved_all, SoundCounters}
 use Rattle.counter_steps.proofs.Moves.{moved-sound}
@@ -65,9 +65,9 @@ sound-entered d values c n text h whole =
 
 -- `?C`, taken or refused
 pub sound-counted : (d : Declared) (values : List ℕ) (c : Counters) → values_sound d values c ≡ true → length c.value ≡ 10 → (n v : ℕ) → length c.set ≡ 10
-    → values_sound d values (counter_entered d c n v).counters ≡ true
+    → values_sound d values (counters_after c (counter_entered d c n v)) ≡ true
 sound-counted d values c sound ten n v flags =
-    sound-both d values (counter_entered d c n v).counters (field_at_lem d values c sound) (counted-counter d c ten (counter_at d values c sound) n v flags)
+    sound-both d values (counters_after c (counter_entered d c n v)) (field_at_lem d values c sound) (counted-counter d c ten (counter_at d values c sound) n v flags)
 
 -- ---- a label
 

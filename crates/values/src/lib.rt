@@ -26,11 +26,8 @@ fn sound_at(d: Declared, values: &[u8], c: Counters, k: usize) -> bool
 pub fn values_sound(d: Declared, values: &[u8], c: Counters) -> bool
     ensures { result ≡ values_sound d values.now c }
 {
-    let mut k: usize = 0;
-    while k < 10 {
-        if sound_at(d, values, c, k) {
-            k += 1;
-        } else {
+    for k in 0..10 {
+        if !sound_at(d, values, c, k) {
             return false;
         }
     }
@@ -49,11 +46,8 @@ fn set_at(d: Declared, values: &[u8], c: Counters, k: usize) -> bool
 pub fn all_set(d: Declared, values: &[u8], c: Counters) -> bool
     ensures { result ≡ all_set d values.now c }
 {
-    let mut k: usize = 0;
-    while k < 10 {
-        if set_at(d, values, c, k) {
-            k += 1;
-        } else {
+    for k in 0..10 {
+        if !set_at(d, values, c, k) {
             return false;
         }
     }

@@ -64,10 +64,8 @@ pub fn list(verdicts: &[u8], output: &mut [u8]) -> usize
     ensures { Wrote output.old 0 (verdict_list verdicts.now) result output.new }
 {
     let mut at: usize = 0;
-    let mut i: usize = 0;
-    while i < MOST_ENTRIES {
+    for i in 0..MOST_ENTRIES {
         at = put_entry(verdicts, i, output, at);
-        i += 1;
     }
     at
 }

@@ -12,7 +12,7 @@ use Rattle.contents.specs.Content.{portion_after, place_after, bytes_from, exten
 use Rattle.content_lines.specs.Lines.{lines_of}
 use Rattle.memory.specs.Memory.{memory}
 use Rattle.store_sound.specs.Sound.{legal_byte, name_byte_ok, name_ok}
-use Rattle.forms.specs.Form.{takes_all, form_ok}
+use Rattle.content_check.specs.Form.{takes_all, form_ok}
 use Rattle.pcx.specs.Rules.{times, next, given, empty_run, no_empty_run, waiting, headed, filled as filled_by, legal}
 use Rattle.pcx.specs.Cases.{header, file}
 use Rattle.content_check.specs.Contents.{content_ok}

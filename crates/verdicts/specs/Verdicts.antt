@@ -1,11 +1,11 @@
 -- Paper 02, §11: "one line for each entry not of kind 0, in directory order: its number from 0, a space, and `kept` or the first reason to drop it: `name`, `chain`,
 -- `size`, `shared` or `content`". Each reason is one test, in the section's words and order. Everything has a value on any memory.
 -- Assumes nothing.
-use Rattle.std.specs.Prelude.{List, [], ◌∷◌, Bool, false, not, ◌&&◌, ◌||◌, cond, ℕ, zero, suc, ◌+◌, ◌-◌, min, length, get_or, set, eqb, ltb}
+use Rattle.std.specs.Prelude.{List, [], ◌∷◌, Bool, false, not, ◌&&◌, ◌||◌, cond, ℕ, zero, suc, ◌+◌, ◌-◌, min, length, get_or, set, eqb, ltb, is_some}
 use Rattle.cells.specs.Cell.{zeros}
 use Rattle.store.specs.Chain.{most_portions, bytes_a_portion, end_link, needed, chain}
 use Rattle.store.specs.Entry.{most_entries, entries, entry, kind, name, first, size}
-use Rattle.finding.specs.Find.{found, is_at, is_empty, is_recording, titled}
+use Rattle.finding.specs.Find.{found, is_empty, is_recording, titled}
 use Rattle.memory.specs.Memory.{Memory, entry_of}
 use Rattle.store_sound.specs.Sound.{kind_ok, named_ok}
 use Rattle.content_check.specs.Contents.{most_picture, content_ok}
@@ -53,7 +53,7 @@ kept_as directory verdicts i j =
 
 -- "a name already kept": an earlier kept entry of its kind has it
 unfoldable pub name_kept : List ℕ → List ℕ → ℕ → Bool
-name_kept directory verdicts i = is_at (found (kept_as directory verdicts i) i)
+name_kept directory verdicts i = is_some (found (kept_as directory verdicts i) i)
 
 unfoldable pub wrong_name : List ℕ → List ℕ → ℕ → Bool
 wrong_name directory verdicts i = not (kind_ok directory i) || (not (named_ok directory i) || name_kept directory verdicts i)

@@ -18,15 +18,13 @@ pub fn walk_length(links: &[u16], first: usize) -> usize
     ensures { result ≡ walked links.now first 0 (length links.now) }
 {
     let mut p = first;
-    let mut k: usize = 0;
-    while k < links.len() {
+    for k in 0..links.len() {
         if links.len() <= p {
             return 0;
         }
         p = links[p] as usize;
-        k += 1;
         if p == END_LINK as usize {
-            return k;
+            return k + 1;
         }
     }
     0
@@ -51,13 +49,11 @@ pub fn shares(links: &[u16], fills: &[u16], first: usize, n: usize) -> bool
     ensures { result ≡ meets fills.now (chain links.now first n) }
 {
     let mut p = first;
-    let mut k = n;
-    while 0 < k {
+    for _ in 0..n {
         if 0 < store::link_at(fills, p) {
             return true;
         }
         p = store::link_at(links, p);
-        k -= 1;
     }
     false
 }
@@ -67,12 +63,10 @@ pub fn fill_chain(links: &[u16], first: usize, n: usize, size: usize, fills: &mu
     ensures { fills.new ≡ filled fills.old (chain links.now first n) size }
 {
     let mut p = first;
-    let mut k = n;
     let mut left = size;
-    while 0 < k {
+    for _ in 0..n {
         put_link(fills, p, (1 + least(BYTES_A_PORTION, left)) as u16);
         p = store::link_at(links, p);
         left = less(left, BYTES_A_PORTION);
-        k -= 1;
     }
 }

@@ -94,10 +94,8 @@ pub fn judge(store: &[u8], links: &[u16], directory: &[u8], verdicts: &mut [u8],
     ensures { known verdicts.new fills.new ≡ judged (memory store.now links.now directory.now) (known verdicts.old fills.old) (entries directory.now) }
 {
     let n = directory.len() / BYTES_AN_ENTRY;
-    let mut i = 0;
-    while i < n {
+    for i in 0..n {
         let v = verdict(store, links, directory, verdicts, fills, i);
         note(links, directory, i, v, verdicts, fills);
-        i += 1;
     }
 }

@@ -11,14 +11,7 @@ fn is_named(directory: &[u8], title: [u8; 8], j: usize) -> bool
     ensures { result ≡ same_name (entry directory.now j) title }
 {
     let own = store::name_at(directory, j);
-    let mut k = 0;
-    while k < 8 {
-        if own[k] != title[k] {
-            return false;
-        }
-        k += 1;
-    }
-    true
+    own == title
 }
 
 // Entry j is kept, is of the kind, and bears the name: in this order, so that names are compared last and seldom.
@@ -41,14 +34,7 @@ fn name_kept(directory: &[u8], verdicts: &[u8], i: usize) -> bool
 {
     let k = store::kind_at(directory, i);
     let title = store::name_at(directory, i);
-    let mut j = 0;
-    while j < i {
-        if is_kept_as(directory, verdicts, k == 2, title, j) {
-            return true;
-        }
-        j += 1;
-    }
-    false
+    (0..i).any(|j| is_kept_as(directory, verdicts, k == 2, title, j))
 }
 
 pub fn wrong_name(directory: &[u8], verdicts: &[u8], i: usize) -> bool

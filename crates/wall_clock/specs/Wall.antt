@@ -1,9 +1,8 @@
 -- The machine's clock as the station's: "moved by .. the seconds passed" (paper 02, §10), from 1 January 2000 on.
 -- Assumes nothing.
-use Rattle.std.specs.Prelude.{ℕ, ◌+◌, ◌-◌, ◌*◌, min, cond}
+use Rattle.std.specs.Prelude.{ℕ, ◌+◌, ◌-◌, ◌*◌, min, cond, Result, Ok, Err}
 use Rattle.calendar.specs.declared.Clock.{Clock}
-use Rattle.calendar.specs.declared.Moved.{Moved}
-use Rattle.calendar.specs.declared.Moved.TheVariants.{To, NoClock, TooLong}
+use Rattle.calendar.specs.declared.Unmoved.{Unmoved}
 use Rattle.calendar.specs.Clock.{legal_clock, fresh, after}
 use Rattle.numbers.specs.Number.{nought}
 
@@ -17,10 +16,9 @@ abbrev pub since_start : ℕ → ℕ → ℕ
 since_start seconds zone = min seconds 8000000000 + 60 * min zone (2 * nought) - (946684800 + 60 * nought)
 
 -- where the clock call would refuse, the clock stays
-abbrev pub or_same : Clock → Moved → Clock
-or_same c (To next) = next
-or_same c NoClock = c
-or_same c TooLong = c
+abbrev pub or_same : Clock → Result Clock Unmoved → Clock
+or_same c (Ok next) = next
+or_same c (Err refusal) = c
 
 -- a clock after any number of seconds
 unfoldable pub advanced : Clock → ℕ → Clock

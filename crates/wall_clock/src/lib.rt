@@ -9,7 +9,7 @@ ghost use Rattle.std.specs.Prelude.{◌≡◌, ◌≤◌};
 ghost use Rattle.calendar.specs.Clock.{moved};
 ghost use Rattle.wall_clock.specs.Wall.{since_start, or_same, advanced, today};
 
-use calendar::{Clock, Moved, move_clock};
+use calendar::{Clock, move_clock};
 use ground::{least, less};
 use numbers::NOUGHT;
 
@@ -36,20 +36,10 @@ fn since_start(seconds: usize, zone: usize) -> usize
 }
 
 // A clock that moved, or the same where the call would refuse it.
-fn or_same(c: Clock, m: Moved) -> Clock
-    ensures { result ≡ or_same c m }
-{
-    match m {
-        Moved::To(next) => next,
-        Moved::NoClock => c,
-        Moved::TooLong => c,
-    }
-}
-
 fn move_on(c: Clock, seconds: usize) -> Clock
     ensures { result ≡ or_same c (moved c seconds) }
 {
-    or_same(c, move_clock(c, seconds as u64))
+    move_clock(c, seconds as u64).unwrap_or(c)
 }
 
 // A clock after any number of seconds.
@@ -58,6 +48,7 @@ pub fn advance(c: Clock, seconds: usize) -> Clock
 {
     let mut clock = c;
     let mut left = least(seconds, HUNDRED_YEARS);
+    // A while: the last step is what is left of a day, which a for over days would need apart.
     while 0 < left {
         let step = least(left, DAY);
         clock = move_on(clock, step);

@@ -23,7 +23,7 @@ use Rattle.lent.specs.Lent.{page_wrong, links_wrong, store_wrong, directory_wron
 use Rattle.verdicts.specs.Verdicts.{kept, for_chain, kept_as, name_kept, wrong_name, walked, wrong_size, shared, wrong_content, verdict, noted, judged, unjudged, judged_all}
 use Rattle.verdict_list.specs.Lines.{word, verdict_line, line_at, lines_to}
 use Rattle.repair.specs.Repair.{repair_rows, repaired}
-use Rattle.keeps_sound.specs.Calls.{Start, repairs, Begins, started_state}
+use Rattle.demands.specs.KeepsSoundCalls.{Start, repairs, Begins, started_state}
 use Rattle.demands.specs.Calls.{Started}
 
 -- a form of a name of one byte, without lines

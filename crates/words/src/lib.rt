@@ -73,15 +73,13 @@ fn line_start(text: &[u8], k: usize) -> usize
     ensures { drop result text.now ≡ from_line k text.now }
 {
     let mut left = k;
-    let mut i: usize = 0;
-    while i < text.len() {
+    for (i, b) in text.iter().enumerate() {
         if left == 0 {
             return i;
         }
-        left = passed(text[i], left);
-        i += 1;
+        left = passed(*b, left);
     }
-    i
+    text.len()
 }
 
 // Line k of a text, without its end.

@@ -1,1 +1,2 @@
 pub mod Writes
+pub use Rattle.numbers.proofs.Laws

@@ -1,1 +1,2 @@
 pub mod Writing
+pub use Rattle.numbers.specs.Number

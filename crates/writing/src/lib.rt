@@ -38,10 +38,8 @@ pub fn copy(from: &[u8], fold: bool, out: &mut [u8], at: usize) -> usize
         return out.len();
     }
     let n = least(from.len(), out.len() - at);
-    let mut j = 0;
-    while j < n {
+    for j in 0..n {
         out[at + j] = case(fold, from[j]);
-        j += 1;
     }
     at + n
 }
@@ -60,6 +58,7 @@ fn put_digits(n: usize, out: &mut [u8], at: usize) -> usize
     let mut d = [b'0'; 20];
     let mut k = 19;
     let mut m = n;
+    // A while: how many digits there are is known only when the last is taken off.
     while 10 <= m {
         d[k] = digit_byte(m % 10);
         k -= 1;
@@ -98,7 +97,7 @@ pub fn put_signed(v: usize, out: &mut [u8], at: usize) -> usize
 fn differs(x: u8, y: u8) -> u8
     ensures { result ≡ cond (eqb x y) 0 1 }
 {
-    if x == y { 0 } else { 1 }
+    u8::from(x != y)
 }
 
 // Whether two slices hold the same bytes. No early exit, so that many bytes go at once.
@@ -109,10 +108,8 @@ pub fn same(a: &[u8], b: &[u8]) -> bool
         return false;
     }
     let mut any: u8 = 0;
-    let mut i = 0;
-    while i < a.len() {
-        any = any | differs(a[i], b[i]);
-        i += 1;
+    for (i, x) in a.iter().enumerate() {
+        any |= differs(*x, b[i]);
     }
     any == 0
 }

@@ -1,4 +1,4 @@
 use Rattle.activity_check.proofs.recording.Goals as goal
 
 pub returns : goal.returns
-returns c = rw (c.is_at.ensures, c.recording.ensures)
+returns c = rw (c.is_some.ensures, c.recording.ensures)

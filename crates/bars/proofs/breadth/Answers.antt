@@ -14,6 +14,6 @@ total-requires c = let p = c.elements-n.ensures in
 pub returns : goal.returns
 returns c = let p = c.elements-n.ensures in
     let a = c.args in (
-      c.total.ensures.0 ∙ ap sum (widths-front a.kind a.e a.f _ a.bytes.now _ _ p.0 p.1 (omega arith)),
+      c.total.ensures.0 ∙ ap sum (widths-front a.by.kind a.by.e a.by.f _ a.bytes.now _ _ p.0 p.1 (omega arith)),
       omega (arith, c.total.ensures.1, part_length _ _ c.elements-n.new.out _ p.0 p.1 (omega arith), p.1),
     )

@@ -7,14 +7,14 @@ use Rattle.bars.proofs.draw.Goals as goal
 
 pub place-requires : goal.place-requires
 place-requires c = let a = c.args in
-    let l = limits a.e a.f a.g (sym c.in_limits.ensures ∙ c.if-in_limits.true) in
+    let l = limits a.b.e a.b.f a.b.g (sym c.in_limits.ensures ∙ c.if-in_limits.true) in
     (l.0, l.1, omega arith)
 
 pub returns-then-in_limits : goal.returns-then-in_limits
 unfolding bars_drawn
 returns-then-in_limits c = let a = c.args in
     rw (sym c.in_limits.ensures ∙ c.if-in_limits.true)
-    (fit-or-none a.width a.length a.x a.y a.r a.g a.e a.f a.kind a.bytes.now a.page.now _ _ refl
+    (fit-or-none a.corner.size.width a.corner.size.length a.corner.x a.corner.y a.corner.r a.b.g a.b.e a.b.f a.b.kind a.bytes.now a.page.now _ _ refl
     (λ j. omega (arith, c.slice_known-1.given j)) c.place.ensures)
 
 pub returns-else-in_limits : goal.returns-else-in_limits

@@ -9,4 +9,4 @@ unfolding in_limits
 returns c = let a = c.args in
     c.both.ensures
     ∙ (λ i. (c.both-sizes.ensures ∙ (λ j. c.is_between.ensures j && c.is_between-2.ensures j)) i
-    && (c.both-above.ensures ∙ (λ j. ltb a.e a.f && c.is_between-3.ensures j)) i)
+    && (c.both-above.ensures ∙ (λ j. ltb a.b.e a.b.f && c.is_between-3.ensures j)) i)

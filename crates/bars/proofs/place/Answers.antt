@@ -1,6 +1,5 @@
-use mathlib.Core.Path.{◌≡◌, refl}
+use mathlib.Core.Path.{refl}
 use native.Mathlib.Omega.{arith}
-use lib.ListN.{length, take}
 use Rattle.bars.proofs.Stroking.{part_length, strokes-drawn}
 use Rattle.bars.proofs.place.Goals as goal
 
@@ -12,5 +11,5 @@ strokes-requires c = omega (arith, part_length _ _ c.elements-n.new.out _ c.elem
 
 pub returns : goal.returns
 returns c = let a = c.args in
-    strokes-drawn a.width a.length a.x a.y a.r a.g _ _ _ _ _ _ _ _ _ _ a.page.now _ refl refl c.elements-n.ensures.0 c.elements-n.ensures.1 c.requires.2
-    c.total-w.ensures.0 c.strokes.ensures
+    strokes-drawn a.corner.size.width a.corner.size.length a.corner.x a.corner.y a.corner.r a.b.g _ _ _ _ _ _ _ _ _ _ a.page.now _ refl refl c.elements-n.ensures.0 c.elements-n.ensures.1 c.requires.2
+    c.total.ensures.0 c.strokes.ensures

@@ -1,36 +1,20 @@
-use mathlib.Core.Path.{refl}
-use Prim.Native.Nat.{◌-◌}
+use mathlib.Core.Path.{refl, ◌∙◌}
 use native.Mathlib.Omega.{arith}
 use lib.ListN.{length-map}
 use Rattle.bars.specs.Drawing.{dots_of, bars}
-use Rattle.bars.proofs.Stroking.{stroking-step, stroking-done}
+use Rattle.bars.proofs.Stroking.{map_at, stroking-step, stroking-done}
 use Rattle.bars.proofs.strokes.Goals as goal
 
-pub loop-k-init : goal.loop-k-init
+pub loop-w-init : goal.loop-w-init
 unfolding bars
-loop-k-init c = record { below = omega arith; small = omega arith; long = refl; bytes = λ i. omega (arith, c.type_inv.page i); whole = refl }
+loop-w-init c = record { small = omega arith; long = refl; bytes = λ i. omega (arith, c.type_inv.page i); whole = refl }
 
-pub overflow_add-end : goal.overflow_add-end
-overflow_add-end c = omega (arith, c.width_at.ensures.1)
-
-pub overflow_add-k : goal.overflow_add-k
-overflow_add-k c = omega arith
-
-pub overflow_add-at : goal.overflow_add-at
-overflow_add-at c = omega (arith, c.width_at-in-loop-k.ensures.1, c.width_at.ensures.1)
-
-pub overflow_add-k-in-loop-k : goal.overflow_add-k-in-loop-k
-overflow_add-k-in-loop-k c = omega arith
-
-pub loop-k-smaller : goal.loop-k-smaller
-loop-k-smaller c = omega arith
-
-pub loop-k-preserved : goal.loop-k-preserved
-loop-k-preserved c = stroking-step _ _ _ _ _ _ _ _ _ _ _ _ _ _ _ _ (length-map c.args.ws.now (dots_of c.args.kind c.args.e c.args.f)) c.loop-k-test.true (λ i. omega (arith, c.type_inv.page i)) c.loop-k.invariant
-    c.width_at.ensures.0 c.width_at.ensures.1 c.width_at-in-loop-k.ensures.0 c.width_at-in-loop-k.ensures.1 c.ink_part.ensures
-
-pub shape_of-page : goal.shape_of-page
-shape_of-page c = c.loop-k.invariant.long
+pub loop-w-preserved : goal.loop-w-preserved
+loop-w-preserved c = let a = c.args in
+    let f = dots_of a.by.kind a.by.e a.by.f in
+    stroking-step _ _ _ _ _ _ _ _ _ _ _ _ _ _ _ (omega (arith, length-map a.ws.now f)) (λ i. omega (arith, c.type_inv.page i)) c.loop-w.invariant
+    (c.width.ensures.0 ∙ map_at f a.ws.now _ c.loop-w-test.true) c.width.ensures.1 c.stroke.ensures
 
 pub returns : goal.returns
-returns c = stroking-done _ _ _ _ _ _ _ _ _ _ _ _ _ (length-map c.args.ws.now (dots_of c.args.kind c.args.e c.args.f)) c.loop-k-test.false c.loop-k.invariant
+returns c = let a = c.args in
+    stroking-done _ _ _ _ _ _ _ _ _ _ _ _ _ (omega (arith, length-map a.ws.now (dots_of a.by.kind a.by.e a.by.f))) c.loop-w.invariant

@@ -1,6 +1,5 @@
 use native.Mathlib.Omega.{arith}
 use Rattle.bitmaps.proofs.Bitmaps.{small_product}
-use Rattle.std.proofs.Common.{rules}
 use Rattle.bitmaps.proofs.edge.Goals as goal
 
 pub overflow_mul-g : goal.overflow_mul-g

@@ -2,7 +2,6 @@ use mathlib.Core.Path.{◌≡◌, ap, ◌∙◌}
 use Prim.Native.Nat.{ℕ, ◌+◌, ◌*◌, min}
 use native.Mathlib.Omega.{arith}
 use Rattle.bitmaps.proofs.Bitmaps.{edge_none, edge-over, edge-under}
-use Rattle.std.proofs.Common.{rules}
 use Rattle.bitmaps.proofs.far_edge.Goals as goal
 
 pub returns-then-m-eq0 : goal.returns-then-m-eq0

@@ -2,7 +2,6 @@ use Prim.Native.Nat.{◌-◌, ◌/◌, ◌^◌}
 use native.Mathlib.Omega.{arith}
 use lib.Bits.{and_le_l}
 use lib.Pow.{shr_le}
-use Rattle.std.proofs.Common.{rules}
 use Rattle.bitmaps.proofs.first_dots.Goals as goal
 
 pub overflow_sub-result : goal.overflow_sub-result

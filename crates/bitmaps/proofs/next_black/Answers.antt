@@ -2,7 +2,6 @@ use Prim.Native.Nat.{◌/◌, ◌^◌}
 use native.Mathlib.Omega.{arith}
 use lib.Bits.{bit_and}
 use lib.Count.{leading_le}
-use Rattle.std.proofs.Common.{rules}
 use Rattle.bitmaps.proofs.next_black.Goals as goal
 
 pub overflow_cast-result-2 : goal.overflow_cast-result-2

@@ -1,11 +1,8 @@
 use mathlib.Core.Path.{◌≡◌}
-use Prim.Native.Nat.{◌+◌, ◌*◌, ◌-◌, ◌≤◌}
+use Prim.Native.Nat.{◌+◌, ◌*◌}
 use lib.ListN.{length}
 use Rattle.dots.specs.Dots.{drawn, box}
 use Rattle.boxes.proofs.ink_bytes.Given as goal
 
 abbrev pub invariant-loop-n : goal.invariant-loop-n
-invariant-loop-n l = (l.i ≤ l.n) × (l.n ≤ l.j) × (l.page ≡ drawn l.ink (box (l.i * 8) l.y (l.n * 8) (l.y + 1)) l.initial.page) × (length l.page ≡ length l.initial.page)
-
-abbrev pub decreases-loop-n : goal.decreases-loop-n
-decreases-loop-n l = l.j - l.n
+invariant-loop-n l = (l.page ≡ drawn l.ink (box (l.i * 8) l.y (l.n * 8) (l.y + 1)) l.initial.page) × (length l.page ≡ length l.initial.page)

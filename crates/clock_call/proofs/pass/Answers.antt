@@ -1,14 +1,14 @@
 use Rattle.clock_call.specs.Passing.{passed}
 use Rattle.clock_call.proofs.pass.Goals as goal
 
-pub returns-in-To : goal.returns-in-To
+pub returns-in-Ok : goal.returns-in-Ok
 unfolding passed
-returns-in-To c = let m = c in rw (c.clocked.ensures, ← m.move_clock.ensures, c.in-To.is)
+returns-in-Ok c = rw (c.clocked.ensures, ← c.move_clock.ensures, c.in-Ok.is)
 
-pub returns-in-NoClock : goal.returns-in-NoClock
+pub returns-in-Err-NoClock : goal.returns-in-Err-NoClock
 unfolding passed
-returns-in-NoClock c = rw (← c.move_clock.ensures, c.in-NoClock.is)
+returns-in-Err-NoClock c = rw (← c.move_clock.ensures, c.in-Err-NoClock.is, c.in-Err-NoClock.field-0-is)
 
-pub returns-in-TooLong : goal.returns-in-TooLong
+pub returns-in-Err-TooLong : goal.returns-in-Err-TooLong
 unfolding passed
-returns-in-TooLong c = rw (← c.move_clock.ensures, c.in-TooLong.is)
+returns-in-Err-TooLong c = rw (← c.move_clock.ensures, c.in-Err-TooLong.is, c.in-Err-TooLong.field-0-is)

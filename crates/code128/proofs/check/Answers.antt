@@ -1,4 +1,3 @@
-use Prim.Native.Nat.{◌-◌}
 use Rattle.code128.proofs.Weighing.{weighing-start, weighing-step, weighing-done}
 use Rattle.code128.proofs.check.Goals as goal
 

@@ -10,10 +10,10 @@ loop-i-init c = (c.requires, refl)
 
 pub loop-i-preserved : goal.loop-i-preserved
 loop-i-preserved c = let o = c in let l = o.loop-i in
-    (o.content_ok.auto.buffer ∙ l.invariant.0, contents-step _ _ _ _ _ l.invariant.1 o.content_ok.ensures c.if-content_ok.true)
+    (o.content_ok.auto.buffer ∙ l.invariant.0, contents-step _ _ _ _ _ l.invariant.1 o.content_ok.ensures c.if-not-content_ok.false)
 
-pub returns-else-content_ok : goal.returns-else-content_ok
-returns-else-content_ok c = let o = c in contents-stop _ _ _ _ _ o.loop-i-test.true o.content_ok.ensures c.if-content_ok.false
+pub returns-then-not-content_ok : goal.returns-then-not-content_ok
+returns-then-not-content_ok c = let o = c in contents-stop _ _ _ _ _ o.loop-i-test.true o.content_ok.ensures c.if-not-content_ok.true
 
 pub returns : goal.returns
 returns c = contents-done _ _ _ _ c.loop-i-test.false c.loop-i.invariant.1

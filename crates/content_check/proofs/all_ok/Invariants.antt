@@ -8,6 +8,3 @@ use Rattle.content_check.proofs.all_ok.Given as goal
 
 abbrev pub invariant-loop-i : goal.invariant-loop-i
 invariant-loop-i l = (length l.buffer ≡ 32768) × (all_to (content_ok l.store l.links l.directory) l.i ≡ true)
-
-abbrev pub decreases-loop-i : goal.decreases-loop-i
-decreases-loop-i l = l.n - l.i

@@ -8,15 +8,12 @@ use Rattle.counter_steps.proofs.lasts.Goals as goal
 pub loop-k-init : goal.loop-k-init
 loop-k-init c = refl
 
-pub loop-k-smaller : goal.loop-k-smaller
-loop-k-smaller c = omega arith
-
 pub loop-k-preserved : goal.loop-k-preserved
-loop-k-preserved c = let a = c.args in let l = c.loop-k in sym (every_more (lasts_at a.d a.c a.n) l.k (omega arith) (sym c.lasts_at.ensures ∙ c.if-lasts_at.true)) ∙ l.invariant
+loop-k-preserved c = let a = c.args in let l = c.loop-k in sym (every_more (lasts_at a.d a.c a.n) l.k (omega arith) (sym c.lasts_at.ensures ∙ c.if-not-lasts_at.false)) ∙ l.invariant
 
-pub returns-else-lasts_at : goal.returns-else-lasts_at
+pub returns-then-not-lasts_at : goal.returns-then-not-lasts_at
 unfolding lasts
-returns-else-lasts_at c = let a = c.args in let l = c.loop-k in sym (every-stop (lasts_at a.d a.c a.n) l.k (omega arith) (sym c.lasts_at.ensures ∙ c.if-lasts_at.false)) ∙ l.invariant
+returns-then-not-lasts_at c = let a = c.args in let l = c.loop-k in sym (every-stop (lasts_at a.d a.c a.n) l.k (omega arith) (sym c.lasts_at.ensures ∙ c.if-not-lasts_at.true)) ∙ l.invariant
 
 pub returns : goal.returns
 unfolding lasts

@@ -6,6 +6,3 @@ use Rattle.counter_steps.proofs.lasts.Given as goal
 
 abbrev pub invariant-loop-k : goal.invariant-loop-k
 invariant-loop-k l = every (lasts_at l.d l.c l.n) (10 - l.k) l.k ≡ every (lasts_at l.d l.c l.n) 10 0
-
-abbrev pub decreases-loop-k : goal.decreases-loop-k
-decreases-loop-k l = 10 - l.k

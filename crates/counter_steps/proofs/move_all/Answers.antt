@@ -8,9 +8,6 @@ use Rattle.counter_steps.proofs.move_all.Goals as goal
 pub loop-i-init : goal.loop-i-init
 loop-i-init c = (refl, refl)
 
-pub loop-i-smaller : goal.loop-i-smaller
-loop-i-smaller c = omega arith
-
 pub loop-i-preserved : goal.loop-i-preserved
 loop-i-preserved c = let a = c.args in let l = c.loop-i in let t = c.loop-i-test.true in (
   rw c.moved_at-moved.ensures (sym (renewed-next (λ k. (moved_at a.d a.c k).set) l.i l.set t) ∙ l.invariant.0),

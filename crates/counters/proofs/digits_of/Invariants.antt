@@ -6,6 +6,3 @@ use Rattle.counters.proofs.digits_of.Given as goal
 
 abbrev pub invariant-loop-left : goal.invariant-loop-left
 invariant-loop-left l = (l.left ≤ 9) × (sets l.out 0 (digits l.left l.rest) ≡ digits_of l.n l.w)
-
-abbrev pub decreases-loop-left : goal.decreases-loop-left
-decreases-loop-left l = l.left

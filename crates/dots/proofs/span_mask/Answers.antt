@@ -4,9 +4,9 @@ use Rattle.dots.proofs.Bits.{span-byte, span-cut}
 use Rattle.dots.proofs.span_mask.Goals as goal
 
 pub overflow_sub-result : goal.overflow_sub-result
-overflow_sub-result c = (span-byte c.least-start.result c.least-end.result (omega arith) (omega arith)).0
+overflow_sub-result c = (span-byte c.min-start.result c.min-end.result (omega arith) (omega arith)).0
 
 pub returns : goal.returns
 returns c = let a = c.args in
-    (span-byte c.least-start.result c.least-end.result (omega arith) (omega arith)).1
-    ∙ span-cut a.lo a.hi c.least-start.result c.least-end.result c.least-end.ensures c.least-start.ensures
+    (span-byte c.min-start.result c.min-end.result (omega arith) (omega arith)).1
+    ∙ span-cut a.lo a.hi c.min-start.result c.min-end.result c.min-end.ensures c.min-start.ensures

@@ -3,5 +3,5 @@ use Rattle.eights.proofs.EightDots.{then-pair}
 use Rattle.eights.proofs.ink_pair.Goals as goal
 
 pub returns : goal.returns
-returns c = let w = c in let v = w in let a = v.args in
-    then-pair a.ink a.x a.y a.m a.page.now v.ink_mask.new.page w.ink_mask-2.new.page (omega arith) v.ink_mask.ensures w.ink_mask-2.ensures
+returns c = let a = c.args in
+    then-pair a.ink a.x a.y a.m a.page.now c.ink_mask.new.page c.ink_mask-2.new.page (omega arith) c.ink_mask.ensures c.ink_mask-2.ensures

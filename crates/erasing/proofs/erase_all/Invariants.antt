@@ -5,6 +5,3 @@ use Rattle.erasing.proofs.erase_all.Given as goal
 
 abbrev pub invariant-loop-i : goal.invariant-loop-i
 invariant-loop-i l = Erasing l.picture (memory l.initial.store l.initial.links l.initial.directory) l.n (memory l.store l.links l.directory) l.i
-
-abbrev pub decreases-loop-i : goal.decreases-loop-i
-decreases-loop-i l = l.n - l.i

@@ -1,14 +1,6 @@
-use mathlib.Core.Path.{refl, sym, ◌∙◌}
-use Prim.Native.Nat.{◌-◌}
-use native.Mathlib.Omega.{arith}
+use mathlib.Core.Path.{sym, ◌∙◌}
 use Rattle.file_names.proofs.Slashes.{slash-next, slash-end}
 use Rattle.file_names.proofs.folder_length.Goals as goal
-
-pub loop-i-init : goal.loop-i-init
-loop-i-init c = refl
-
-pub loop-i-smaller : goal.loop-i-smaller
-loop-i-smaller c = omega arith
 
 pub loop-i-preserved : goal.loop-i-preserved
 loop-i-preserved c = rw c.slash-best.ensures (sym (slash-next _ c.loop-i.i c.loop-i.best c.loop-i-test.true) ∙ c.loop-i.invariant)

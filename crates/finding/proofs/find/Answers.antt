@@ -1,19 +1,14 @@
-use mathlib.Core.Path.{sym, ◌∙◌}
-use Prim.Native.Nat.{◌-◌}
+use mathlib.Core.Path.{◌∙◌}
 use native.Mathlib.Omega.{arith}
-use Rattle.cells.proofs.Scan.{seeking-start, seeking-step}
-use Rattle.finding.proofs.Finding.{seek-here, seek-none}
+use borrow.Author.Tests.{tests}
+use Rattle.std.proofs.Common.{rules}
+use Rattle.finding.specs.Bytes.{titled_by}
+use Rattle.finding.proofs.Finding.{found-range}
 use Rattle.finding.proofs.Naming.{found-by-number}
 use Rattle.finding.proofs.find.Goals as goal
 
-pub loop-i-init : goal.loop-i-init
-loop-i-init c = seeking-start _ _
-
-pub returns-then-is_titled : goal.returns-then-is_titled
-returns-then-is_titled c = seek-here _ _ _ c.loop-i-test.true (sym c.is_titled.ensures ∙ c.if-is_titled.true) c.loop-i.invariant ∙ found-by-number c.args.directory.now _ c.args.picture _ _ (λ k. omega (arith, c.type_inv.directory k)) c.number_of-w.ensures.1 c.number_of-w.ensures.0
-
-pub loop-i-preserved : goal.loop-i-preserved
-loop-i-preserved c = seeking-step _ _ _ c.loop-i-test.true (sym c.is_titled.ensures ∙ c.if-is_titled.false) c.loop-i.invariant
-
 pub returns : goal.returns
-returns c = seek-none _ _ _ c.loop-i-test.false c.loop-i.invariant ∙ found-by-number c.args.directory.now _ c.args.picture _ _ (λ k. omega (arith, c.type_inv.directory k)) c.number_of-w.ensures.1 c.number_of-w.ensures.0
+returns c =
+    found-range (titled_by c.args.directory.now c.args.picture c.number_of-w.result) _ _ _ _ c.find.ensures.ran
+    (λ x q k. search (rules, tests)) (λ x q k. search (rules, tests))
+    ∙ found-by-number c.args.directory.now _ c.args.picture _ _ (λ k. omega (arith, c.type_inv.directory k)) c.number_of-w.ensures.1 c.number_of-w.ensures.0

@@ -1,17 +1,14 @@
-use Prim.Native.Nat.{◌-◌}
-use borrow.Author.Tests.{eq-eqb, ne_eqb}
-use Rattle.cells.proofs.Scan.{seeking-start, seeking-step}
-use Rattle.finding.proofs.Finding.{seek-here, seek-none}
+use mathlib.Core.Path.{◌≡◌}
+use mathlib.Core.Bool.{true, false}
+use lib.Dec.{eqb}
+use borrow.Author.Tests.{tests}
+use Rattle.std.proofs.Common.{rules}
+use Rattle.std.proofs.lemmas.Iterator.{IsFirst-from_position, YieldsList-from_slice}
+use Rattle.finding.proofs.Finding.{found-in}
 use Rattle.finding.proofs.lowest_free.Goals as goal
 
-pub loop-i-init : goal.loop-i-init
-loop-i-init c = seeking-start _ _
-
-pub returns-then-links-i : goal.returns-then-links-i
-returns-then-links-i c = seek-here _ _ _ c.loop-i-test.true (eq-eqb _ _ c.if-links-i.true) c.loop-i.invariant
-
-pub loop-i-preserved : goal.loop-i-preserved
-loop-i-preserved c = seeking-step _ _ _ c.loop-i-test.true (ne_eqb _ _ c.if-links-i.false) c.loop-i.invariant
-
 pub returns : goal.returns
-returns c = seek-none _ _ _ c.loop-i-test.false c.loop-i.invariant
+returns c = found-in (λ x. eqb x 65535) _ _ (IsFirst-from_position _ _ _
+    (λ x. eqb x 65535 ≡ true)
+    (λ x. eqb x 65535 ≡ false)
+    c.position.ensures.ran (YieldsList-from_slice c.args.links.now cc) (λ x q k. search (rules, tests)) (λ x q k. search (rules, tests)))

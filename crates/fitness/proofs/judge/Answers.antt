@@ -16,24 +16,24 @@ returns-in_default c = let a = c.args in
 pub returns-then-undeclared_by : goal.returns-then-undeclared_by
 returns-then-undeclared_by c = let a = c.args in
     let l = c.loop-i in
-    walked-undeclared a.line.now a.at a.d a.kind l.past l.s l.i l.invariant _ (sym c.element_at.ensures ∙ c.in-Next.is)
+    walked-undeclared a.line.now a.at a.d a.kind l.past l.s l.i l.invariant _ (sym c.element_at.ensures ∙ c.in-Ok.is)
     (sym c.undeclared_by.ensures ∙ c.if-undeclared_by.true)
 
 pub overflow_add-i : goal.overflow_add-i
 overflow_add-i c = let b = c in
-    let t = rw (← b.element_at.ensures, c.in-Next.is) at (element-took b.args.line.now b.loop-i.i) in
+    let t = rw (← b.element_at.ensures, c.in-Ok.is) at (element-took b.args.line.now b.loop-i.i) in
     omega (arith, t)
 
 pub loop-i-smaller : goal.loop-i-smaller
 loop-i-smaller c = let b = c in
-    let t = rw (← b.element_at.ensures, c.in-Next.is) at (element-took b.args.line.now b.loop-i.i) in
+    let t = rw (← b.element_at.ensures, c.in-Ok.is) at (element-took b.args.line.now b.loop-i.i) in
     omega (arith, t)
 
 pub loop-i-preserved : goal.loop-i-preserved
 loop-i-preserved c = let a = c.args in
     let l = c.loop-i in
     rw (c.join-s.ensures, c.summary_of.ensures, c.first_past-past.ensures, c.past_by.ensures)
-    (walked_next a.line.now a.at a.d a.kind l.past l.s l.i l.invariant _ (sym c.element_at.ensures ∙ c.in-Next.is)
+    (walked_next a.line.now a.at a.d a.kind l.past l.s l.i l.invariant _ (sym c.element_at.ensures ∙ c.in-Ok.is)
     (sym c.undeclared_by.ensures ∙ c.if-undeclared_by.false))
 
 pub returns : goal.returns

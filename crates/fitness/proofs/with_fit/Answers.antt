@@ -1,13 +1,5 @@
+use Rattle.std.proofs.lemmas.Result.{err_from_is_err_and}
 use Rattle.fitness.proofs.with_fit.Goals as goal
 
-pub returns-then-fit : goal.returns-then-fit
-returns-then-fit c = rw (c.in-Good.is, c.if-fit.true)
-
-pub returns-else-fit : goal.returns-else-fit
-returns-else-fit c = rw (c.in-Good.is, c.if-fit.false)
-
-pub returns-in-Undeclared : goal.returns-in-Undeclared
-returns-in-Undeclared c = rw c.in-Undeclared.is
-
-pub returns-in-Past : goal.returns-in-Past
-returns-in-Past c = rw c.in-Past.is
+pub returns-in_err-answer : goal.returns-in_err-answer
+returns-in_err-answer c = let p = err_from_is_err_and c.from_residual.result c.from_residual.ensures.1 in rw (p.1, p.2, c.in_err-answer.was)

@@ -1,5 +1,4 @@
 use mathlib.Core.Path.{refl, ap, ◌∙◌}
-use lib.ListN.{length}
 use Rattle.item_drawing.specs.Draw.{setting}
 use Rattle.form_drawing.specs.Draw.{Drawing, form_drawn}
 use Rattle.form_drawing.proofs.Running.{run_end}
@@ -19,4 +18,4 @@ shape_of-page c = c.loop-w.invariant.0
 
 pub returns : goal.returns
 unfolding form_drawn
-returns c = let a = c.args in ap (λ (w : Drawing). w.page) (run_end (setting a.font.now a.store.now a.links.now a.directory.now a.values.now a.counters a.clock a.width a.length) _ _ _ _ _ c.loop-w-test.false ∙ c.loop-w.invariant.1)
+returns c = let a = c.args in ap (λ (w : Drawing). w.page) (run_end (setting a.s.font.now a.s.store.now a.s.links.now a.s.directory.now a.s.values.now a.s.counters a.s.clock a.s.size.width a.s.size.length) _ _ _ _ _ c.loop-w-test.false ∙ c.loop-w.invariant.1)

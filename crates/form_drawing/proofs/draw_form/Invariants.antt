@@ -9,7 +9,7 @@ use Rattle.form_drawing.specs.Label.{run_drawn}
 use Rattle.form_drawing.proofs.draw_form.Given as goal
 
 abbrev pub invariant-loop-w : goal.invariant-loop-w
-invariant-loop-w l = (length l.page ≡ length l.initial.page) × (run_drawn (setting l.font l.store l.links l.directory l.values l.counters l.clock l.width l.length) l.w l.page ≡ draws_lines (setting l.font l.store l.links l.directory l.values l.counters l.clock l.width l.length) (drawing (starts l.x l.y) l.initial.page) (lines_of (ahead l.store l.links l.initial.w.place)).whole)
+invariant-loop-w l = (length l.page ≡ length l.initial.page) × (run_drawn (setting l.s.font.now l.s.store.now l.s.links.now l.s.directory.now l.s.values.now l.s.counters l.s.clock l.s.size.width l.s.size.length) l.w l.page ≡ draws_lines (setting l.s.font.now l.s.store.now l.s.links.now l.s.directory.now l.s.values.now l.s.counters l.s.clock l.s.size.width l.s.size.length) (drawing (starts l.fn.origin.x l.fn.origin.y) l.initial.page) (lines_of (ahead l.s.store.now l.s.links.now l.initial.w.place)).whole)
 
 abbrev pub decreases-loop-w : goal.decreases-loop-w
 decreases-loop-w l = l.w.place.left

@@ -9,4 +9,4 @@ pub returns : goal.returns
 returns c = let a = c.args in
     let n = c.next_line-next in
     let l = c.front-line.ensures ∙ line_read _ _ _ _ _ _ n.ensures.0 n.ensures.1.0 (search rules) in
-    (run-next (setting a.font.now a.store.now a.links.now a.directory.now a.values.now a.counters a.clock a.width a.length) _ _ _ _ _ _ _ _ _ _ _ _ l n.ensures.1.1 c.line_item-item.ensures c.draw_item.ensures c.carry-left.ensures, walk-less _ _ _ _ _ _ _ _ c.requires n.ensures.1.1)
+    (run-next (setting a.s.font.now a.s.store.now a.s.links.now a.s.directory.now a.s.values.now a.s.counters a.s.clock a.s.size.width a.s.size.length) _ _ _ _ _ _ _ _ _ _ _ _ l n.ensures.1.1 c.line_item-item.ensures c.draw_item.ensures c.carry.ensures, walk-less _ _ _ _ _ _ _ _ c.requires n.ensures.1.1)

@@ -1,15 +1,15 @@
-use mathlib.Core.Path.{refl, ◌∙◌}
-use Rattle.form_lines.proofs.Walking.{search-goes, search-ends, search-less}
+use mathlib.Core.Path.{sym, ◌∙◌}
+use Rattle.form_lines.proofs.Walking.{line-behind, end-behind, bad-behind, bad-less}
 use Rattle.form_lines.proofs.skip.Goals as goal
 
-pub loop-s-init : goal.loop-s-init
-loop-s-init c = refl
+pub returns-in-Line : goal.returns-in-Line
+returns-in-Line c = line-behind _ _ _ _ _ (sym c.line_into.ensures.0 ∙ c.in-Line.is) ∙ c.search.invariant
 
-pub loop-s-smaller : goal.loop-s-smaller
-loop-s-smaller c = search-less _ _ _ c.loop-s-test.true c.search_on-s.ensures.1
+pub returns-in-End : goal.returns-in-End
+returns-in-End c = end-behind _ _ _ (sym c.line_into.ensures.0 ∙ c.in-End.is) ∙ c.search.invariant
 
-pub loop-s-preserved : goal.loop-s-preserved
-loop-s-preserved c = c.search_on-s.ensures.0 ∙ search-goes _ _ _ _ c.loop-s-test.true c.loop-s.invariant
+pub search-smaller : goal.search-smaller
+search-smaller c = rw c.onward-ahead.ensures (bad-less _ _ _ (sym c.line_into.ensures.0 ∙ c.in-Bad.is))
 
-pub returns : goal.returns
-returns c = search-ends _ _ _ _ c.loop-s-test.false c.loop-s.invariant
+pub search-preserved : goal.search-preserved
+search-preserved c = rw c.onward-ahead.ensures (bad-behind _ _ _ (sym c.line_into.ensures.0 ∙ c.in-Bad.is) ∙ c.search.invariant)

@@ -5,8 +5,8 @@ use Rattle.forms.proofs.has_line.Goals as goal
 pub returns-then-byte-ne71 : goal.returns-then-byte-ne71
 returns-then-byte-ne71 c = has_other _ _ _ c.byte.ensures c.if-byte-ne71.true
 
-pub returns-in-Holds : goal.returns-in-Holds
-returns-in-Holds c = let e = sym c.stored_item-stored.ensures ∙ c.in-Holds.is in rw e c.has_picture.ensures
+pub returns-in-Some : goal.returns-in-Some
+returns-in-Some c = let e = sym c.stored_item.ensures ∙ c.in-Some.is in rw e c.has_picture.ensures
 
-pub returns-in-Nothing : goal.returns-in-Nothing
-returns-in-Nothing c = let e = sym c.stored_item-stored.ensures ∙ c.in-Nothing.is in rw e
+pub returns-in-None : goal.returns-in-None
+returns-in-None c = let e = sym c.stored_item.ensures ∙ c.in-None.is in rw e

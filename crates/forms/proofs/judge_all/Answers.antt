@@ -1,12 +1,9 @@
-use mathlib.Core.Path.{◌∙◌}
+use mathlib.Core.Path.{sym, ◌∙◌}
 use Rattle.forms.proofs.Walking.{ok-start, ok_end}
 use Rattle.forms.proofs.judge_all.Goals as goal
 
 pub loop-w-init : goal.loop-w-init
 loop-w-init c = (c.requires, ok-start _ _ _ _ _ c.start-w.ensures)
 
-pub loop-w-smaller : goal.loop-w-smaller
-loop-w-smaller c = c.judge_next-w.ensures.1
-
 pub returns : goal.returns
-returns c = ok_end _ _ _ _ _ _ _ c.loop-w-test.false ∙ c.loop-w.invariant.1
+returns c = ok_end _ _ _ _ _ _ c.loop-w-test.false ∙ c.loop-w.invariant.1

@@ -1,12 +1,16 @@
-use mathlib.Core.Path.{refl, sym, ap, ◌∙◌}
+use mathlib.Core.Path.{sym, ap, ◌∙◌}
 use Rattle.recording.specs.Judged.{is_taken}
 use Rattle.forms.specs.Form.{takes, declaring}
 use Rattle.forms.proofs.see_line.Goals as goal
 
-pub returns-in-Holds : goal.returns-in-Holds
+pub returns-in-Ok : goal.returns-in-Ok
 unfolding takes declaring
-returns-in-Holds c = let e = sym c.stored_item-stored.ensures ∙ c.in-Holds.is in rw e (c.declare.ensures, c.is_taken.ensures ∙ ap is_taken c.judge.ensures)
+returns-in-Ok c = let e = sym c.stored_item.ensures ∙ c.in-Some.is in rw e (c.declare.ensures, ap is_taken (sym c.judge.ensures ∙ c.in-Ok.is))
 
-pub returns-in-Nothing : goal.returns-in-Nothing
-unfolding takes declaring
-returns-in-Nothing c = let e = sym c.stored_item-stored.ensures ∙ c.in-Nothing.is in rw e (refl, refl)
+pub returns-in-Err : goal.returns-in-Err
+unfolding takes
+returns-in-Err c = let e = sym c.stored_item.ensures ∙ c.in-Some.is in rw e (ap is_taken (sym c.judge.ensures ∙ c.in-Err.is))
+
+pub returns-in-None : goal.returns-in-None
+unfolding takes
+returns-in-None c = let e = sym c.stored_item.ensures ∙ c.in-None.is in rw e

@@ -9,5 +9,5 @@ returns c = let d = c in
     let g = d in
     let a = g.args in
     d.ink_sides.ensures
-    ∙ (λ i. drawn Black (cut a.width a.length (hollow a.c (g.least-x0.ensures i) (g.least-y0.ensures i)
-    (g.greatest-x1.ensures i) (g.greatest-y1.ensures i))) a.page.now)
+    ∙ (λ i. drawn Black (cut a.width a.length (hollow a.c (g.min-x0.ensures i) (g.min-y0.ensures i)
+    (g.max-x1.ensures i) (g.max-y1.ensures i))) a.page.now)

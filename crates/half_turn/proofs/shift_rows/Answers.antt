@@ -1,14 +1,10 @@
-use Prim.Native.Nat.{◌-◌}
 use native.Mathlib.Omega.{arith}
-use Rattle.half_turn.proofs.Turned.{shifted_none, shifted_start, shifted_step, shifted-done}
+use Rattle.half_turn.proofs.Turned.{shifted_none, shifted_step, shifted-done}
 use Rattle.half_turn.proofs.shift_rows.Goals as goal
 
 pub returns-then-s-eq0 : goal.returns-then-s-eq0
 returns-then-s-eq0 c = let s = c in let a = s.args in
     shifted_none a.s a.page.now (λ k. omega (arith, s.type_inv.page k)) c.if-s-eq0.true
-
-pub loop-i-init : goal.loop-i-init
-loop-i-init c = let a = c.args in shifted_start a.s a.page.now
 
 pub loop-i-preserved : goal.loop-i-preserved
 loop-i-preserved c = let w = c in let l = w in let a = l.args in

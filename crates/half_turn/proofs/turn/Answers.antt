@@ -10,6 +10,6 @@ returns c = let d = c in
     let g = f in
     let b = g in
     let a = b.args in
-    turned-all b.least-w.result b.least-l.result _ a.page.now g.turn_rows.new.page f.shift_rows.new.page d.ink_box.new.page
+    turned-all b.min-w.result b.min-l.result _ a.page.now g.turn_rows.new.page f.shift_rows.new.page d.ink_box.new.page
     (omega arith) (omega arith) refl g.turn_rows.ensures f.shift_rows.ensures d.ink_box.ensures
-    ∙ (λ i. turned_in (b.least-w.ensures i) (b.least-l.ensures i) a.page.now)
+    ∙ (λ i. turned_in (b.min-w.ensures i) (b.min-l.ensures i) a.page.now)

@@ -10,9 +10,6 @@ pub loop-k-init : goal.loop-k-init
 unfolding every_five
 loop-k-init c = (refl, refl)
 
-pub loop-k-smaller : goal.loop-k-smaller
-loop-k-smaller c = omega arith
-
 pub loop-k-preserved : goal.loop-k-preserved
 loop-k-preserved c = let l = c.loop-k in
     let h = c.loop-k-test.true in

@@ -6,6 +6,3 @@ use Rattle.image.proofs.counters_of.Given as goal
 
 abbrev pub invariant-loop-k : goal.invariant-loop-k
 invariant-loop-k l = (fill 1 l.image 15 (10 - l.k) l.k l.set ≡ every_five 1 10 l.image 15) × (fill 4 l.image 16 (10 - l.k) l.k l.value ≡ every_five 4 10 l.image 16)
-
-abbrev pub decreases-loop-k : goal.decreases-loop-k
-decreases-loop-k l = 10 - l.k

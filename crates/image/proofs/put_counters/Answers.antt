@@ -8,9 +8,6 @@ use Rattle.image.proofs.put_counters.Goals as goal
 pub loop-k-init : goal.loop-k-init
 loop-k-init c = (refl, refl)
 
-pub loop-k-smaller : goal.loop-k-smaller
-loop-k-smaller c = omega arith
-
 pub loop-k-preserved : goal.loop-k-preserved
 loop-k-preserved c = let l = c.loop-k in
     let a = c.args in

@@ -6,6 +6,3 @@ use Rattle.image.proofs.put_counters.Given as goal
 
 abbrev pub invariant-loop-k : goal.invariant-loop-k
 invariant-loop-k l = (rest l.image l.k (record { set = l.set; value = l.value }) ≡ rest l.initial.image 0 (record { set = l.set; value = l.value })) × (length l.image ≡ length l.initial.image)
-
-abbrev pub decreases-loop-k : goal.decreases-loop-k
-decreases-loop-k l = 10 - l.k

@@ -5,4 +5,4 @@ use Rattle.frames.specs.Frame.{frame}
 use Rattle.item_drawing.proofs.draw_frame.Goals as goal
 
 pub returns : goal.returns
-returns c = let a = c.args in c.ink_frame.ensures ∙ (λ i. drawn Black (cut a.width a.length (frame (c.far-a.ensures i) (c.far-b.ensures i) a.f.c (c.far.ensures i) (c.far-2.ensures i))) a.page.now)
+returns c = let a = c.args in c.ink_frame.ensures ∙ (λ i. drawn Black (cut a.size.width a.size.length (frame (c.far-a.ensures i) (c.far-b.ensures i) a.f.c (c.far-d.ensures i) (c.far-e.ensures i))) a.page.now)

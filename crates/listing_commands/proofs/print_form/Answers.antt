@@ -7,10 +7,10 @@ pub returns-then-is_missing : goal.returns-then-is_missing
 unfolding answer_of is_taken number_of
 returns-then-is_missing c = rw (c.answered.ensures, ← c.entry_of-found.ensures, ← c.is_missing.ensures, c.if-is_missing.true)
 
-pub returns-in-At : goal.returns-in-At
+pub returns-in-Some : goal.returns-in-Some
 unfolding answer_of
-returns-in-At c = rw (← c.entry_of-found.ensures, ← c.is_missing.ensures, c.if-is_missing.false, c.in-At.is) (lifted (in_output _) _ _ _ _ c.print_entry.ensures)
+returns-in-Some c = rw (← c.entry_of-found.ensures, ← c.is_missing.ensures, c.if-is_missing.false, c.in-Some.is) (lifted (in_output _) _ _ _ _ c.print_entry.ensures)
 
-pub returns-in-Nothing : goal.returns-in-Nothing
+pub returns-in-None : goal.returns-in-None
 unfolding answer_of is_taken number_of
-returns-in-Nothing c = rw (c.taken.ensures, ← c.entry_of-found.ensures, ← c.is_missing.ensures, c.if-is_missing.false, c.in-Nothing.is, nothing-exceeds c.args.output.now)
+returns-in-None c = rw (c.taken.ensures, ← c.entry_of-found.ensures, ← c.is_missing.ensures, c.if-is_missing.false, c.in-None.is, nothing-exceeds c.args.output.now)

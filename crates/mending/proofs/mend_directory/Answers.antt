@@ -7,9 +7,6 @@ use Rattle.mending.proofs.mend_directory.Goals as goal
 pub loop-i-init : goal.loop-i-init
 loop-i-init c = mapped-start _ _
 
-pub loop-i-smaller : goal.loop-i-smaller
-loop-i-smaller c = omega (arith, c.loop-i.invariant.long, c.loop-i-test.true)
-
 pub loop-i-preserved : goal.loop-i-preserved
 loop-i-preserved c = mapped-part _ _ _ _ _ _ (entry-part _ _ _ _ c.kept_of-n.ensures) c.loop-i.invariant _ _ c.zero_behind.ensures (omega arith)
 

@@ -6,6 +6,3 @@ use Rattle.mending.proofs.mend_directory.Given as goal
 
 abbrev pub invariant-loop-i : goal.invariant-loop-i
 invariant-loop-i l = Mapped (kept_byte l.initial.directory l.verdicts) l.initial.directory l.directory (l.i * 16)
-
-abbrev pub decreases-loop-i : goal.decreases-loop-i
-decreases-loop-i l = length l.initial.directory / 16 + 1 - l.i

@@ -6,6 +6,3 @@ use Rattle.mending.proofs.mend_links.Given as goal
 
 abbrev pub invariant-loop-q : goal.invariant-loop-q
 invariant-loop-q l = Mapped (kept_link l.initial.links l.fills) l.initial.links l.links l.q
-
-abbrev pub decreases-loop-q : goal.decreases-loop-q
-decreases-loop-q l = length l.initial.links - l.q

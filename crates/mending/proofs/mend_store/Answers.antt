@@ -7,9 +7,6 @@ use Rattle.mending.proofs.mend_store.Goals as goal
 pub loop-q-init : goal.loop-q-init
 loop-q-init c = mapped-start _ _
 
-pub loop-q-smaller : goal.loop-q-smaller
-loop-q-smaller c = omega (arith, c.loop-q.invariant.long, c.loop-q-test.true)
-
 pub loop-q-preserved : goal.loop-q-preserved
 loop-q-preserved c = mapped-part _ _ _ _ _ _ (portion-part _ _ _ _ _ c.link_at.ensures.0 c.less-n.ensures) c.loop-q.invariant _ _ c.zero_behind.ensures (omega arith)
 

@@ -6,6 +6,3 @@ use Rattle.mending.proofs.mend_store.Given as goal
 
 abbrev pub invariant-loop-q : goal.invariant-loop-q
 invariant-loop-q l = Mapped (kept_content l.initial.store l.fills) l.initial.store l.store (l.q * 256)
-
-abbrev pub decreases-loop-q : goal.decreases-loop-q
-decreases-loop-q l = length l.initial.store / 256 + 1 - l.q

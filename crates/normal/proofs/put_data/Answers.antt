@@ -19,13 +19,13 @@ pub put_element-place-requires : goal.put_element-place-requires
 put_element-place-requires c = c.loop-i.invariant.room
 
 pub overflow_add-i : goal.overflow_add-i
-overflow_add-i c = let t = rw (← c.element_at.ensures, c.in-Next.is) at (element-took c.args.line.now c.loop-i.i) in omega (arith, t)
+overflow_add-i c = let t = rw (← c.element_at.ensures, c.in-Ok.is) at (element-took c.args.line.now c.loop-i.i) in omega (arith, t)
 
 pub loop-i-smaller : goal.loop-i-smaller
-loop-i-smaller c = let t = rw (← c.element_at.ensures, c.in-Next.is) at (element-took c.args.line.now c.loop-i.i) in omega (arith, t)
+loop-i-smaller c = let t = rw (← c.element_at.ensures, c.in-Ok.is) at (element-took c.args.line.now c.loop-i.i) in omega (arith, t)
 
 pub loop-i-preserved : goal.loop-i-preserved
-loop-i-preserved c = rest-step (rest-same c.loop-i.invariant (data-next c.args.line.now c.loop-i.i _ (sym c.element_at.ensures ∙ c.in-Next.is))) c.put_element-place.ensures
+loop-i-preserved c = rest-step (rest-same c.loop-i.invariant (data-next c.args.line.now c.loop-i.i _ (sym c.element_at.ensures ∙ c.in-Ok.is))) c.put_element-place.ensures
 
 pub shape_of-out : goal.shape_of-out
 shape_of-out c = wrote-length (rest-done (rest-same c.loop-i.invariant (data-stop c.args.line.now c.loop-i.i _ (element-past c.args.line.now c.loop-i.i c.loop-i-test.false))))

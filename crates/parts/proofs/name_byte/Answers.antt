@@ -1,7 +1,7 @@
 use Prim.Native.Nat.{◌+◌}
 use native.Mathlib.Omega.{arith}
 use borrow.Author.Tests.{le-ltb, lt-ltb}
-use Rattle.kinds.specs.Bytes.{between}
+use Rattle.classes.specs.KindsBytes.{between}
 use Rattle.classes.proofs.Laws.{past}
 use Rattle.parts.specs.Names.{name_byte, capital}
 use Rattle.parts.proofs.name_byte.Goals as goal

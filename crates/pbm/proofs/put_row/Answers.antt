@@ -7,20 +7,8 @@ use Rattle.pbm.specs.Pbm.{row_from}
 use Rattle.pbm.proofs.Rows.{row_next, row_last}
 use Rattle.pbm.proofs.put_row.Goals as goal
 
-pub loop-j-init : goal.loop-j-init
-loop-j-init c = let a = c.args in (none_yet (row_from a.page.now a.width a.from 0) _ c.requires.1, refl)
-
-pub put_byte-place-requires : goal.put_byte-place-requires
-put_byte-place-requires c = (c.requires.0, omega (arith, c.row_bytes-n.ensures.1))
-
-pub loop-j-smaller : goal.loop-j-smaller
-loop-j-smaller c = omega arith
-
 pub loop-j-preserved : goal.loop-j-preserved
 loop-j-preserved c = (row_next _ _ _ _ _ c.loop-j-test.true c.loop-j.invariant.0 c.put_byte-place.ensures, wrote-length c.put_byte-place.ensures ∙ c.loop-j.invariant.1)
-
-pub shape_of-out : goal.shape_of-out
-shape_of-out c = c.loop-j.invariant.1
 
 pub returns : goal.returns
 returns c = let a = c.args in

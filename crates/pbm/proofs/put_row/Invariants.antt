@@ -7,6 +7,3 @@ use Rattle.pbm.proofs.put_row.Given as goal
 
 abbrev pub invariant-loop-j : goal.invariant-loop-j
 invariant-loop-j l = Rest l.initial.out l.at (row_from l.page l.width l.from 0 l.n) l.out l.place (row_from l.page l.width l.from l.j (l.n - l.j)) × (length l.out ≡ length l.initial.out)
-
-abbrev pub decreases-loop-j : goal.decreases-loop-j
-decreases-loop-j l = l.n - l.j

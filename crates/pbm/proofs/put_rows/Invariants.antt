@@ -7,6 +7,3 @@ use Rattle.pbm.proofs.put_rows.Given as goal
 
 abbrev pub invariant-loop-y : goal.invariant-loop-y
 invariant-loop-y l = Rest l.initial.out l.at (rows_from l.page l.width 0 l.n) l.out l.place (rows_from l.page l.width l.y (l.n - l.y)) × (length l.out ≡ length l.initial.out)
-
-abbrev pub decreases-loop-y : goal.decreases-loop-y
-decreases-loop-y l = l.n - l.y

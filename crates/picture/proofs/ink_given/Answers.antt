@@ -19,4 +19,4 @@ returns c = let e = c in
     let d = e in
     let l = d in
     let s = l in
-    then-given s.args.p s.args.q _ s.requires.1 s.args.v _ l.least-n.result _ _ _ s.requires.0 refl refl l.least-n.ensures d.dark_byte.ensures e.ink_eight.ensures
+    then-given s.args.p s.args.q _ s.requires.1 s.args.v _ l.min-n.result _ _ _ s.requires.0 refl refl (omega arith) d.dark_byte.ensures e.ink_eight.ensures

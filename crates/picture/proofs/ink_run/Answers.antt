@@ -1,5 +1,4 @@
 use native.Mathlib.Omega.{arith}
-use Prim.Native.Nat.{◌-◌}
 use Rattle.picture.proofs.Drawing.{fits-at}
 use Rattle.picture.proofs.Part.{run-start, run_step, run-white, run-done}
 use Rattle.std.proofs.Common.{rules}

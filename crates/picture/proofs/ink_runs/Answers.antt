@@ -1,5 +1,4 @@
 use native.Mathlib.Omega.{arith}
-use Prim.Native.Nat.{◌-◌}
 use lib.ListN.{length}
 use Rattle.pcx.specs.Rules.{decoded}
 use Rattle.picture.proofs.Drawing.{drawing-start, drawing-room, drawing-step, drawing-done, fits-at}

@@ -8,4 +8,4 @@ returns-in_default c = rw (← c.head_of.ensures, c.in_default.is, ← c.letters
 
 pub returns : goal.returns
 unfolding read_of headed
-returns c = rw (← c.head_of.ensures, c.in-Row.is) c.judge.ensures
+returns c = rw (← c.head_of.ensures, c.in-Some.is) c.judge.ensures

@@ -1,4 +1,4 @@
 use Rattle.recording.proofs.has_named.Goals as goal
 
 pub returns : goal.returns
-returns c = rw (c.is_at.ensures, c.find.ensures, c.packed.ensures)
+returns c = rw (c.is_some.ensures, c.find.ensures, c.packed.ensures)

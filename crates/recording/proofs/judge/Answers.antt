@@ -1,6 +1,7 @@
 use mathlib.Core.Path.{ap, ◌∙◌}
 use mathlib.Core.Bool.{Bool, cond}
-use Rattle.recording.specs.declared.Verdict.TheVariants.{Taken, Again}
+use Rattle.std.proofs.Common.{Ok, Err}
+use Rattle.recording.specs.declared.Refusal.TheVariants.{Again}
 use Rattle.grammar.specs.Named.{DECLARED-AT}
 use Rattle.recording.specs.Judged.{judged}
 use Rattle.recording.proofs.judge.Goals as goal
@@ -11,11 +12,11 @@ returns-in-Origin c = rw c.in-Origin.is
 
 pub returns-in-Variable : goal.returns-in-Variable
 unfolding judged
-returns-in-Variable c = rw c.in-Variable.is (c.again.ensures ∙ ap (λ (x : Bool). cond x (Again DECLARED-AT) Taken) c.variable_declared.ensures)
+returns-in-Variable c = rw c.in-Variable.is (c.again.ensures ∙ ap (λ (x : Bool). cond x (Err (Again DECLARED-AT)) (Ok tt)) c.variable_declared.ensures)
 
 pub returns-in-Counter : goal.returns-in-Counter
 unfolding judged
-returns-in-Counter c = rw c.in-Counter.is (c.again-in-Counter.ensures ∙ ap (λ (x : Bool). cond x (Again DECLARED-AT) Taken) c.counter_declared.ensures)
+returns-in-Counter c = rw c.in-Counter.is (c.again-in-Counter.ensures ∙ ap (λ (x : Bool). cond x (Err (Again DECLARED-AT)) (Ok tt)) c.counter_declared.ensures)
 
 pub returns-in-Text : goal.returns-in-Text
 unfolding judged

@@ -1,9 +1,5 @@
-use mathlib.Core.Path.{sym, ◌∙◌}
-use Rattle.finding.proofs.Finding.{at-says, nothing-says}
+use Rattle.finding.proofs.Finding.{found-or}
 use Rattle.room.proofs.lowest_portion.Goals as goal
 
-pub returns-in-At : goal.returns-in-At
-returns-in-At c = sym (at-says _ _ _ (sym c.lowest_free.ensures ∙ c.in-At.is)).0
-
-pub returns-in-Nothing : goal.returns-in-Nothing
-returns-in-Nothing c = sym (nothing-says _ _ (sym c.lowest_free.ensures ∙ c.in-Nothing.is))
+pub returns : goal.returns
+returns c = rw (c.unwrap_or.ensures, c.lowest_free.ensures) (found-or _ _)

@@ -30,7 +30,7 @@ loop-i-preserved c = let a = c.args in
     let g = c.line_up-up in
     let l = c.loop-i in
     let t = c.loop-i-test.true in
-    sym (filled_more (row_of a.row).fields a.line.now l.at l.i l.vs l.ps c.in-Is.v c.in-Is.end (byte_of a.row l.i g.result g.ensures t c.if-f-eq32.false) (rw (← form-at a.row l.i g.result g.ensures t, ← c.read_field-found.ensures) c.in-Is.is)) ∙ l.invariant
+    sym (filled_more (row_of a.row).fields a.line.now l.at l.i l.vs l.ps c.in-Ok.v c.in-Ok.end (byte_of a.row l.i g.result g.ensures t c.if-f-eq32.false) (rw (← form-at a.row l.i g.result g.ensures t, ← c.read_field-found.ensures) c.in-Ok.is)) ∙ l.invariant
 
 pub returns-then-at-line : goal.returns-then-at-line
 returns-then-at-line c = let a = c.args in

@@ -1,4 +1,3 @@
-use Prim.Native.Nat.{◌-◌}
 use mathlib.Core.Path.{◌≡◌}
 use lib.ListN.{drop}
 use Rattle.grammar.specs.Forms.{row_of}
@@ -7,6 +6,3 @@ use Rattle.row_fields.proofs.read_fields.Given as goal
 
 abbrev pub invariant-loop-i : goal.invariant-loop-i
 invariant-loop-i l = filled (drop l.i (row_of l.row).fields) l.line l.at l.i l.vs l.ps ≡ filled (row_of l.row).fields l.line 0 0 l.initial.vs l.initial.ps
-
-abbrev pub decreases-loop-i : goal.decreases-loop-i
-decreases-loop-i l = 18 - l.i

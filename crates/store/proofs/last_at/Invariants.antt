@@ -1,12 +1,7 @@
-use Prim.Native.Nat.{min}
-use lib.ListN.{length}
-use Rattle.store.specs.Entry.{entry, first, size}
-use Rattle.store.specs.Chain.{needed}
+use Prim.Native.Nat.{◌+◌, ◌-◌}
+use Rattle.store.specs.Entry.{entry, first}
 use Rattle.store.proofs.Chains.{Walking}
 use Rattle.store.proofs.last_at.Given as goal
 
-abbrev pub invariant-loop-k : goal.invariant-loop-k
-invariant-loop-k l = Walking l.links (first (entry l.directory l.i)) (min (needed (size (entry l.directory l.i))) (length l.links)) l.p l.k
-
-abbrev pub decreases-loop-k : goal.decreases-loop-k
-decreases-loop-k l = l.k
+abbrev pub invariant-loop : goal.invariant-loop
+invariant-loop l = Walking l.links (first (entry l.directory l.i)) l.many l.p (l.many + 1 - l.counter)

@@ -1,14 +1,12 @@
 use mathlib.Core.Path.{◌∙◌, refl}
-use Prim.Native.Nat.{◌-◌}
-use native.Mathlib.Omega.{arith}
 use Rattle.store_check.proofs.Deciding.{zero_more, zero-end}
 use Rattle.store_check.proofs.is_zero.Goals as goal
 
-pub loop-i-init : goal.loop-i-init
-loop-i-init c = (omega arith, refl)
+pub loop-b-init : goal.loop-b-init
+loop-b-init c = refl
 
-pub loop-i-preserved : goal.loop-i-preserved
-loop-i-preserved c = (omega arith, zero_more c.args.s.now _ c.loop-i.any c.loop-i-test.true ∙ c.loop-i.invariant.1)
+pub loop-b-preserved : goal.loop-b-preserved
+loop-b-preserved c = zero_more c.args.s.now _ c.loop-b.any c.loop-b-test.true ∙ c.loop-b.invariant
 
 pub returns : goal.returns
-returns c = zero-end _ _ _ c.loop-i-test.false ∙ c.loop-i.invariant.1
+returns c = zero-end _ _ _ c.loop-b-test.false ∙ c.loop-b.invariant

@@ -1,19 +1,9 @@
-use mathlib.Core.Path.{sym, ◌∙◌}
-use Prim.Native.Nat.{◌-◌}
-use Rattle.cells.proofs.Passing.{passing-start, passing_step, passing-stop, passing-done}
+use borrow.Author.Tests.{tests}
+use Rattle.std.proofs.Common.{rules}
+use Rattle.cells.proofs.Passing.{range-all}
 use Rattle.store_sound.specs.Sound.{single_ok, singles_ok}
 use Rattle.store_check.proofs.singles_ok.Goals as goal
 
-pub loop-i-init : goal.loop-i-init
-loop-i-init c = passing-start _ _
-
-pub returns-then-not-single_ok : goal.returns-then-not-single_ok
-unfolding singles_ok
-returns-then-not-single_ok c = passing-stop _ _ _ c.loop-i-test.true (sym c.single_ok.ensures ∙ c.if-not-single_ok.true)
-
-pub loop-i-preserved : goal.loop-i-preserved
-loop-i-preserved c = passing_step _ _ _ c.loop-i-test.true (sym c.single_ok.ensures ∙ c.if-not-single_ok.false) c.loop-i.invariant
-
 pub returns : goal.returns
 unfolding singles_ok
-returns c = passing-done _ _ _ c.loop-i-test.false c.loop-i.invariant
+returns c = range-all (single_ok c.args.directory.now) _ _ _ _ c.all.ensures.ran (λ x q k. search (rules, tests)) (λ x q k. search (rules, tests))

@@ -5,8 +5,5 @@ use Rattle.kinds.specs.Bytes.{all_in}
 use Rattle.stored_values.specs.Stored.{is_zero}
 use Rattle.stored_values.proofs.all_zero.Given as goal
 
-abbrev pub invariant-loop-i : goal.invariant-loop-i
-invariant-loop-i l = all_in is_zero (drop l.i l.s) ≡ all_in is_zero l.s
-
-abbrev pub decreases-loop-i : goal.decreases-loop-i
-decreases-loop-i l = length l.s - l.i
+abbrev pub invariant-loop-b : goal.invariant-loop-b
+invariant-loop-b l = all_in is_zero (drop l.b-index l.s) ≡ all_in is_zero l.s

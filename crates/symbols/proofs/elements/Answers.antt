@@ -1,7 +1,6 @@
 use mathlib.Core.Path.{refl, sym, ◌∙◌}
 use native.Mathlib.Omega.{arith}
 use Rattle.symbols.specs.Elements as Elements
-use Rattle.std.proofs.Common.{rules}
 use Rattle.symbols.proofs.elements.Goals as goal
 
 pub returns-then-fits : goal.returns-then-fits

@@ -2,7 +2,6 @@ use mathlib.Core.Path.{refl}
 use native.Mathlib.Omega.{arith}
 use Rattle.symbols.specs.Elements.{elements_in}
 use Rattle.kinds.proofs.FitData.{fit-most, fit-even, fit-twelve}
-use Rattle.std.proofs.Common.{rules}
 use Rattle.symbols.proofs.fill.Goals as goal
 
 pub fill-requires : goal.fill-requires

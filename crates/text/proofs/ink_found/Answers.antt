@@ -1,5 +1,5 @@
 use mathlib.Core.Path.{◌≡◌, refl, ap, ◌∙◌}
-use Prim.Native.Nat.{ℕ, ◌-◌, ◌*◌}
+use Prim.Native.Nat.{ℕ, ◌*◌}
 use native.Mathlib.Omega.{arith}
 use lib.ListN.{length, get_or}
 use Rattle.text.specs.Text.{along}
@@ -13,59 +13,52 @@ pub overflow_mul-step : goal.overflow_mul-step
 overflow_mul-step c = record {
   fits = omega (
     arith,
-    byte-times c.cell_width-cell.result c.args.h
-        6 c.cell_width-cell.ensures.1 (omega arith),
+    byte-times c.cell_width-wide.result c.args.scale.h
+        6 c.cell_width-wide.ensures.1 (omega arith),
   );
 }
 
-pub loop-n-init : goal.loop-n-init
-loop-n-init c = let a = c.args in (
+pub loop-b-init : goal.loop-b-init
+loop-b-init c = let a = c.args in (
   search rules,
-  omega arith,
   search rules,
-  glyphs-start a.ink a.s a.font.now a.h a.v a.text.now a.page.now
+  glyphs-start a.ink a.s a.font.now a.scale.h a.scale.v a.text.now a.page.now
       (λ j. omega (arith, c.type_inv.page j)),
   refl,
 )
 
-pub overflow_cast-text : goal.overflow_cast-text
-overflow_cast-text c = omega (arith, c.type_inv.text c.loop-n.n)
+pub overflow_cast-b : goal.overflow_cast-b
+overflow_cast-b c = omega (arith, c.type_inv.text c.loop-b.b-index)
 
-pub offset_bounds-places-text : goal.offset_bounds-places-text
-offset_bounds-places-text c = omega (arith, c.type_inv.text c.loop-n.n)
+pub offset_bounds-places-b : goal.offset_bounds-places-b
+offset_bounds-places-b c = omega (arith, c.type_inv.text c.loop-b.b-index)
 
-pub bounds-places-text : goal.bounds-places-text
-bounds-places-text c = let k = c in
-    omega (arith, c.type_inv.text c.loop-n.n, k.requires.2.all)
+pub bounds-places-b : goal.bounds-places-b
+bounds-places-b c = omega (arith, c.type_inv.text c.loop-b.b-index, c.requires.2.all)
 
 pub overflow_add-u : goal.overflow_add-u
-overflow_add-u c = let l = c in let w = l in
-    omega (
-      arith,
-      byte-times w.cell_width-cell.result w.args.h 6 w.cell_width-cell.ensures.1
-          w.requires.0,
-    )
+overflow_add-u c = omega (
+  arith,
+  byte-times c.cell_width-wide.result c.args.scale.h 6 c.cell_width-wide.ensures.1
+      c.requires.0,
+)
 
-pub loop-n-preserved : goal.loop-n-preserved
-loop-n-preserved c = let k = c in
-    let l = k in
-    let w = l in
-    let a = w.args in
-    let small = byte-times w.cell_width-cell.result a.h 6 w.cell_width-cell.ensures.1 w.requires.0 in (
-      search rules,
-      omega (arith, next-times l.loop-n.n (along a.font.now a.h), ap (λ (m : ℕ). m * a.h) w.cell_width-cell.ensures.0),
+pub loop-b-preserved : goal.loop-b-preserved
+loop-b-preserved c = let a = c.args in
+    let small = byte-times c.cell_width-wide.result a.scale.h 6 c.cell_width-wide.ensures.1 c.requires.0 in (
+      omega (arith, next-times c.loop-b.b-index (along a.font.now a.scale.h), ap (λ (m : ℕ). m * a.scale.h) c.cell_width-wide.ensures.0),
       omega arith,
-      glyphs-next a.ink a.s a.font.now a.h a.v a.text.now a.page.now
-          l.loop-n.n l.loop-n.u w.cell_width-cell.result l.cell_height-rows.result l.row_bytes-stride.result _
-          l.loop-n.page k.ink_bitmap.new.page l.loop-n.invariant.3 k.ink_bitmap.ensures l.loop-n.invariant.1
-          w.cell_width-cell.ensures.0 l.cell_height-rows.ensures.0 l.row_bytes-stride.ensures.0
-          (places-rows a.font.now a.places.now w.requires.2 (get_or a.text.now l.loop-n.n 0) _
-          (omega (arith, k.type_inv.text l.loop-n.n)) k.rows_at-bits.ensures),
-      omega (arith, k.ink_bitmap.auto.page),
+      glyphs-next a.ink a.s a.font.now a.scale.h a.scale.v a.text.now a.page.now
+          c.loop-b.b-index c.loop-b.u c.cell_width-wide.result c.cell_height-high.result c.row_bytes-stride.result _
+          c.loop-b.page c.ink_bitmap.new.page c.loop-b.invariant.2 c.ink_bitmap.ensures c.loop-b.invariant.0
+          c.cell_width-wide.ensures.0 c.cell_height-high.ensures.0 c.row_bytes-stride.ensures.0
+          (places-rows a.font.now a.places.now c.requires.2 (get_or a.text.now c.loop-b.b-index 0) _
+          (omega (arith, c.type_inv.text c.loop-b.b-index)) c.rows_at.ensures),
+      omega (arith, c.ink_bitmap.auto.page),
     )
 
 pub returns : goal.returns
 returns c = let a = c.args in
-    let l = c.loop-n in
-    let e : l.n ≡ length a.text.now = omega arith in
-    l.invariant.3 ∙ ap (drawn_to a.ink a.s a.font.now a.h a.v a.text.now a.page.now) e
+    let l = c.loop-b in
+    let e : l.b-index ≡ length a.text.now = omega arith in
+    l.invariant.2 ∙ ap (drawn_to a.ink a.s a.font.now a.scale.h a.scale.v a.text.now a.page.now) e

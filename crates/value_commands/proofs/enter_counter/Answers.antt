@@ -1,16 +1,12 @@
-use mathlib.Core.Bool.{not}
-use mathlib.Core.Path.{refl, sym, ap, ◌∙◌}
-use Rattle.counters.specs.declared.Counted.{Counted}
-use Rattle.value_commands.specs.Values.{entered_answer}
-use Rattle.value_commands.proofs.Entering.{counter-first}
-use Rattle.results.proofs.Parts.{refused-by, taken-by}
-use Rattle.std.proofs.Common.{rules}
+use mathlib.Core.Path.{sym, ◌∙◌}
+use Rattle.std.proofs.Common.{Ok, Err}
+use Rattle.value_commands.proofs.Entering.{counter-by}
 use Rattle.value_commands.proofs.enter_counter.Goals as goal
 
-pub returns-then-not-is_taken : goal.returns-then-not-is_taken
-returns-then-not-is_taken c = rw (c.answered.ensures, ← c.active_declared-d.ensures, ← c.set_counter-after.ensures)
-    (refused-by _ _ _ _ _ _ _ (c.entered-a.ensures ∙ ap (λ (k : Counted). entered_answer k.answer) c.set_counter-after.ensures ∙ sym (counter-first _ _ _ _)) c.is_taken.ensures (ap not c.if-not-is_taken.true))
+pub returns-in-Ok : goal.returns-in-Ok
+returns-in-Ok c = rw (c.taken.ensures, c.counting.ensures, ← c.active_declared-d.ensures)
+    (counter-by _ _ _ _ (Ok c.in-Ok.next) _ _ _ (sym c.in-Ok.is ∙ c.set_counter.ensures))
 
-pub returns : goal.returns
-returns c = rw (c.taken.ensures, c.counting.ensures, ← c.active_declared-d.ensures, ← c.set_counter-after.ensures)
-    (taken-by _ _ _ _ _ _ (c.entered-a.ensures ∙ ap (λ (k : Counted). entered_answer k.answer) c.set_counter-after.ensures ∙ sym (counter-first _ _ _ _)) c.is_taken.ensures (ap not c.if-not-is_taken.false) refl)
+pub returns-in-Err : goal.returns-in-Err
+returns-in-Err c = rw (c.answered.ensures, c.refusal.ensures, ← c.active_declared-d.ensures)
+    (counter-by _ _ _ _ (Err c.in-Err.refused) _ _ _ (sym c.in-Err.is ∙ c.set_counter.ensures))

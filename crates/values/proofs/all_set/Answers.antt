@@ -8,15 +8,12 @@ use Rattle.values.proofs.all_set.Goals as goal
 pub loop-k-init : goal.loop-k-init
 loop-k-init c = refl
 
-pub loop-k-smaller : goal.loop-k-smaller
-loop-k-smaller c = omega arith
-
 pub loop-k-preserved : goal.loop-k-preserved
-loop-k-preserved c = let a = c.args in let l = c.loop-k in sym (every_more (set_at a.d a.values.now a.c) l.k (omega arith) (sym c.set_at.ensures ∙ c.if-set_at.true)) ∙ l.invariant
+loop-k-preserved c = let a = c.args in let l = c.loop-k in sym (every_more (set_at a.d a.values.now a.c) l.k (omega arith) (sym c.set_at.ensures ∙ c.if-not-set_at.false)) ∙ l.invariant
 
-pub returns-else-set_at : goal.returns-else-set_at
+pub returns-then-not-set_at : goal.returns-then-not-set_at
 unfolding all_set
-returns-else-set_at c = let a = c.args in let l = c.loop-k in sym (every-stop (set_at a.d a.values.now a.c) l.k (omega arith) (sym c.set_at.ensures ∙ c.if-set_at.false)) ∙ l.invariant
+returns-then-not-set_at c = let a = c.args in let l = c.loop-k in sym (every-stop (set_at a.d a.values.now a.c) l.k (omega arith) (sym c.set_at.ensures ∙ c.if-not-set_at.true)) ∙ l.invariant
 
 pub returns : goal.returns
 unfolding all_set

@@ -8,15 +8,12 @@ use Rattle.values.proofs.values_sound.Goals as goal
 pub loop-k-init : goal.loop-k-init
 loop-k-init c = refl
 
-pub loop-k-smaller : goal.loop-k-smaller
-loop-k-smaller c = omega arith
-
 pub loop-k-preserved : goal.loop-k-preserved
-loop-k-preserved c = let a = c.args in let l = c.loop-k in sym (every_more (sound_at a.d a.values.now a.c) l.k (omega arith) (sym c.sound_at.ensures ∙ c.if-sound_at.true)) ∙ l.invariant
+loop-k-preserved c = let a = c.args in let l = c.loop-k in sym (every_more (sound_at a.d a.values.now a.c) l.k (omega arith) (sym c.sound_at.ensures ∙ c.if-not-sound_at.false)) ∙ l.invariant
 
-pub returns-else-sound_at : goal.returns-else-sound_at
+pub returns-then-not-sound_at : goal.returns-then-not-sound_at
 unfolding values_sound
-returns-else-sound_at c = let a = c.args in let l = c.loop-k in sym (every-stop (sound_at a.d a.values.now a.c) l.k (omega arith) (sym c.sound_at.ensures ∙ c.if-sound_at.false)) ∙ l.invariant
+returns-then-not-sound_at c = let a = c.args in let l = c.loop-k in sym (every-stop (sound_at a.d a.values.now a.c) l.k (omega arith) (sym c.sound_at.ensures ∙ c.if-not-sound_at.true)) ∙ l.invariant
 
 pub returns : goal.returns
 unfolding values_sound

@@ -6,6 +6,3 @@ use Rattle.values.proofs.values_sound.Given as goal
 
 abbrev pub invariant-loop-k : goal.invariant-loop-k
 invariant-loop-k l = every (sound_at l.d l.values l.c) (10 - l.k) l.k ≡ every (sound_at l.d l.values l.c) 10 0
-
-abbrev pub decreases-loop-k : goal.decreases-loop-k
-decreases-loop-k l = 10 - l.k

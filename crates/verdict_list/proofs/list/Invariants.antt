@@ -5,6 +5,3 @@ use Rattle.verdict_list.proofs.list.Given as goal
 
 abbrev pub invariant-loop-i : goal.invariant-loop-i
 invariant-loop-i l = (l.i ≤ 512) × Wrote l.initial.output 0 (lines_to l.verdicts l.i) l.at l.output
-
-abbrev pub decreases-loop-i : goal.decreases-loop-i
-decreases-loop-i l = 512 - l.i

@@ -5,6 +5,3 @@ use Rattle.verdicts.proofs.judge.Given as goal
 
 abbrev pub invariant-loop-i : goal.invariant-loop-i
 invariant-loop-i l = Judging (memory l.store l.links l.directory) l.initial.verdicts l.initial.fills l.verdicts l.fills l.i
-
-abbrev pub decreases-loop-i : goal.decreases-loop-i
-decreases-loop-i l = l.n - l.i

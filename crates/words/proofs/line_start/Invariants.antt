@@ -6,6 +6,3 @@ use Rattle.words.proofs.line_start.Given as goal
 
 abbrev pub invariant-loop-i : goal.invariant-loop-i
 invariant-loop-i l = from_line l.left (drop l.i l.text) ≡ from_line l.k l.text
-
-abbrev pub decreases-loop-i : goal.decreases-loop-i
-decreases-loop-i l = length l.text - l.i

@@ -5,6 +5,3 @@ use Rattle.writing.proofs.copy.Given as goal
 
 abbrev pub invariant-loop-j : goal.invariant-loop-j
 invariant-loop-j l = (l.j ≤ l.n) × Wrote l.initial.out l.at (cased l.fold (take l.j l.from)) (l.at + l.j) l.out
-
-abbrev pub decreases-loop-j : goal.decreases-loop-j
-decreases-loop-j l = l.n - l.j

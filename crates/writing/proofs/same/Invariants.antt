@@ -8,6 +8,3 @@ use Rattle.writing.proofs.same.Given as goal
 
 abbrev pub invariant-loop-i : goal.invariant-loop-i
 invariant-loop-i l = (eqb l.any 0 && equal (drop l.i l.a) (drop l.i l.b)) ≡ equal l.a l.b
-
-abbrev pub decreases-loop-i : goal.decreases-loop-i
-decreases-loop-i l = length l.a - l.i

@@ -10,10 +10,10 @@ returns-then-owed-gt0 c = rw (c.answered.ensures, lt-ltb _ _ c.if-owed-gt0.true)
 pub record-requires : goal.record-requires
 record-requires c = c.requires
 
-pub returns-in-At : goal.returns-in-At
+pub returns-in-Some : goal.returns-in-Some
 unfolding answer_of
-returns-in-At c = rw (← c.recording.ensures, c.in-At.is, le-ltb _ _ c.if-owed-gt0.false) (record-in c.args.command _ _ _ _ _ _ _ _ _ _ c.«record».ensures)
+returns-in-Some c = rw (← c.recording.ensures, c.in-Some.is, le-ltb _ _ c.if-owed-gt0.false) (record-in c.args.command _ _ _ _ _ _ _ _ _ _ c.«record».ensures)
 
-pub returns-in-Nothing : goal.returns-in-Nothing
+pub returns-in-None : goal.returns-in-None
 unfolding answer_of
-returns-in-Nothing c = rw (← c.recording.ensures, c.in-Nothing.is, le-ltb _ _ c.if-owed-gt0.false) c.run.ensures
+returns-in-None c = rw (← c.recording.ensures, c.in-None.is, le-ltb _ _ c.if-owed-gt0.false) c.run.ensures

@@ -12,15 +12,15 @@ pub returns-then-line-gt255 : goal.returns-then-line-gt255
 returns-then-line-gt255 c = rw c.answered-then-line-gt255.ensures (long-by c.args.font.now (world c.args.background.now c.args.store.now c.args.links.now c.args.directory.now c.args.values.now) c.args.session c.args.line.now c.args.more.now c.args.output.now (sym c.lengths_wrong.ensures ∙ c.if-lengths_wrong.false) (lt-ltb _ _ c.if-line-gt255.true))
 
 pub on_command-requires : goal.on_command-requires
-on_command-requires c = short-read _ _ _ c.if-line-gt255.false (sym c.read_line.ensures ∙ c.in-Taken.is)
+on_command-requires c = short-read _ _ _ c.if-line-gt255.false (sym c.read_line.ensures ∙ c.in-Ok.is)
 
-pub returns-in-Taken : goal.returns-in-Taken
-returns-in-Taken c = c.on_command.ensures
+pub returns-in-Ok : goal.returns-in-Ok
+returns-in-Ok c = c.on_command.ensures
     ∙ line_read c.args.font.now (world c.args.background.now c.args.store.now c.args.links.now c.args.directory.now c.args.values.now) c.args.session c.args.line.now c.args.more.now c.args.output.now _ (sym c.lengths_wrong.ensures ∙ c.if-lengths_wrong.false) (le-ltb _ _ c.if-line-gt255.false)
-    (sym c.read_line.ensures ∙ c.in-Taken.is)
+    (sym c.read_line.ensures ∙ c.in-Ok.is)
 
-pub returns-in-Refused : goal.returns-in-Refused
-returns-in-Refused c = rw (c.answered-in-Refused.ensures, c.fault_answer.ensures)
-    (fault-by c.in-Refused.fault c.args.font.now (world c.args.background.now c.args.store.now c.args.links.now c.args.directory.now c.args.values.now) c.args.session c.args.line.now c.args.more.now c.args.output.now
+pub returns-in-Err : goal.returns-in-Err
+returns-in-Err c = rw (c.answered-in-Err.ensures, c.fault_answer.ensures)
+    (fault-by c.in-Err.fault c.args.font.now (world c.args.background.now c.args.store.now c.args.links.now c.args.directory.now c.args.values.now) c.args.session c.args.line.now c.args.more.now c.args.output.now
     ∙ line_read c.args.font.now (world c.args.background.now c.args.store.now c.args.links.now c.args.directory.now c.args.values.now) c.args.session c.args.line.now c.args.more.now c.args.output.now _ (sym c.lengths_wrong.ensures ∙ c.if-lengths_wrong.false) (le-ltb _ _ c.if-line-gt255.false)
-    (sym c.read_line.ensures ∙ c.in-Refused.is))
+    (sym c.read_line.ensures ∙ c.in-Err.is))

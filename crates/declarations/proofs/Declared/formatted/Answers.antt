@@ -3,4 +3,4 @@ use Rattle.declarations.proofs.Declared.formatted.Goals as goal
 
 pub returns : goal.returns
 unfolding formatted
-returns c = rw c.with-d.ensures
+returns c = rw c.with.ensures

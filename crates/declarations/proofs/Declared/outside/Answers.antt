@@ -3,4 +3,4 @@ use Rattle.declarations.proofs.Declared.outside.Goals as goal
 
 pub returns : goal.returns
 unfolding nothing
-returns c = rw c.none-d.ensures
+returns c = rw c.none.ensures

@@ -6,6 +6,6 @@ pub returns-then-n-lt10 : goal.returns-then-n-lt10
 unfolding with_variable
 returns-then-n-lt10 c = rw (lt-ltb _ 10 c.if-n-lt10.true, c.least.ensures)
 
-pub returns : goal.returns
+pub returns-else-n-lt10 : goal.returns-else-n-lt10
 unfolding with_variable
-returns c = rw (le-ltb _ 10 c.if-n-lt10.false)
+returns-else-n-lt10 c = rw (le-ltb _ 10 c.if-n-lt10.false)

@@ -6,6 +6,3 @@ use Rattle.fits.proofs.names.is_bearing.Given as goal
 
 abbrev pub invariant-loop-k : goal.invariant-loop-k
 invariant-loop-k l = Compared (entry l.directory l.i) l.name l.k
-
-abbrev pub decreases-loop-k : goal.decreases-loop-k
-decreases-loop-k l = length l.name - l.k

@@ -9,8 +9,8 @@ returns-in_default c = (rw (← c.head_of.ensures, c.in_default.is), omega arith
 
 pub returns-then-row-ne-GM : goal.returns-then-row-ne-GM
 unfolding asked_by
-returns-then-row-ne-GM c = (rw (← c.head_of.ensures, c.in-Row.is, ne_eqb _ 20 c.if-row-ne-GM.true), omega arith)
+returns-then-row-ne-GM c = (rw (← c.head_of.ensures, c.in-Some.is, ne_eqb _ 20 c.if-row-ne-GM.true), omega arith)
 
 pub returns : goal.returns
 unfolding asked_by
-returns c = (rw (← c.head_of.ensures, c.in-Row.is, eq-eqb _ 20 c.if-row-ne-GM.false) c.size.ensures.0, c.size.ensures.1)
+returns c = (rw (← c.head_of.ensures, c.in-Some.is, eq-eqb _ 20 c.if-row-ne-GM.false) c.size.ensures.0, c.size.ensures.1)

@@ -5,20 +5,11 @@ use lib.Seq.{length-sets}
 use Rattle.lasting.proofs.LinkSteps.{put_next, put-end, start-putting}
 use Rattle.lasting.proofs.links.put_links.Goals as goal
 
-pub loop-i-init : goal.loop-i-init
-loop-i-init c = (refl, refl)
-
-pub loop-i-smaller : goal.loop-i-smaller
-loop-i-smaller c = omega arith
-
 pub loop-i-preserved : goal.loop-i-preserved
 loop-i-preserved c = let a = c.args in let l = c.loop-i in (
   rw (c.put_two.ensures, c.link.ensures) (sym (put_next a.links.now a.at l.i l.file c.loop-i-test.true) ∙ l.invariant.0),
   rw (c.put_two.ensures, length-sets) l.invariant.1,
 )
-
-pub shape_of-file : goal.shape_of-file
-shape_of-file c = c.loop-i.invariant.1
 
 pub returns : goal.returns
 returns c = let a = c.args in let l = c.loop-i in sym (put-end a.links.now a.at l.i l.file c.loop-i-test.false) ∙ l.invariant.0 ∙ start-putting a.links.now a.at a.file.now

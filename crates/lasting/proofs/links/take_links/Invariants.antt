@@ -6,6 +6,3 @@ use Rattle.lasting.proofs.links.take_links.Given as goal
 
 abbrev pub invariant-loop-i : goal.invariant-loop-i
 invariant-loop-i l = (taking l.file l.at l.i l.links ≡ taking l.file l.at 0 l.initial.links) × (length l.links ≡ length l.initial.links)
-
-abbrev pub decreases-loop-i : goal.decreases-loop-i
-decreases-loop-i l = 2024 - l.i

@@ -1,17 +1,16 @@
-use mathlib.Core.Path.{◌∙◌}
+use mathlib.Core.Path.{refl, ap, ◌∙◌}
 use native.Mathlib.Omega.{arith}
 use Rattle.code128.specs.Widths.{sum}
-use Rattle.bars.specs.Drawing.{widths, bars}
+use Rattle.figures.specs.declared.Corner.{Corner}
+use Rattle.bars.specs.Drawing.{widths, bars, bars_drawn}
 use Rattle.lined.proofs.Within.{inset-drawn}
 use Rattle.lined.proofs.Showing.{bars-placed}
 use Rattle.lined.proofs.drawing.draw_bars.Goals as goal
 
 pub returns : goal.returns
-returns c = let d = c in
-    let b = d in
-    let s = b in
-    let a = s.args in
-    let ws = widths a.kind a.e a.f a.bytes.now in
-    inset-drawn a.width a.length a.r a.m (sum ws) a.g a.x a.y _ _ (bars ws) a.page.now _ (omega arith)
-    b.beside-a.ensures b.above-b.ensures
-    (d.draw.ensures ∙ bars-placed a.width a.length _ _ a.r a.kind a.e a.f a.g a.bytes.now a.page.now s.requires.0 s.requires.1)
+returns c = let a = c.args in
+    let ws = widths a.b.kind a.b.e a.b.f a.bytes.now in
+    inset-drawn a.corner.size.width a.corner.size.length a.corner.r a.m (sum ws) a.b.g a.corner.x a.corner.y _ _ (bars ws) a.page.now _ (omega arith)
+    refl refl
+    (c.draw.ensures ∙ ap (λ (k : Corner). bars_drawn k.size.width k.size.length k.x k.y k.r a.b.kind a.b.e a.b.f a.b.g a.bytes.now a.page.now) c.within.ensures
+    ∙ bars-placed a.corner.size.width a.corner.size.length _ _ a.corner.r a.b.kind a.b.e a.b.f a.b.g a.bytes.now a.page.now c.requires.0 c.requires.1)

@@ -13,11 +13,8 @@ pub overflow_add-digits : goal.overflow_add-digits
 overflow_add-digits c = omega (arith, c.check_digit-c.ensures, check-small c.args.s.now)
 
 pub returns : goal.returns
-returns c = let k = c in
-    let d = k in
-    let s = d in
-    let a = s.args in
+returns c = let a = c.args in
     c.draw.ensures
-    ∙ ap (λ (text : List ℕ). text_drawn a.width a.length a.x a.y a.r 1 1 false a.font.now text a.page.now)
-    (ap (λ (l : List ℕ). set l 12 (48 + d.check_digit-c.result)) k.put.ensures
-    ∙ line-stored a.s.now d.check_digit-c.result s.requires d.check_digit-c.ensures)
+    ∙ ap (λ (text : List ℕ). text_drawn a.corner.size.width a.corner.size.length a.corner.x a.corner.y a.corner.r 1 1 false a.font.now text a.page.now)
+    (ap (λ (l : List ℕ). set l 12 (48 + c.check_digit-c.result)) c.put.ensures
+    ∙ line-stored a.s.now c.check_digit-c.result c.requires c.check_digit-c.ensures)

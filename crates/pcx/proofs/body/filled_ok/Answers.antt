@@ -1,7 +1,9 @@
 use lib.ListN.{get_or}
 use native.Mathlib.Omega.{arith}
-use mathlib.Core.Path.{sym, ◌∙◌}
-use Prim.Native.Nat.{◌-◌}
+use mathlib.Core.Path.{◌≡◌, sym, ap, ◌∙◌}
+use mathlib.Core.Bool.{Bool, false, ◌&&◌}
+use lib.Dec.{eqb}
+use borrow.Author.Tests.{eq-eqb, ne_eqb}
 use Rattle.pcx.proofs.Runs.{passing-start, passing_step, passing-stop, passing-done, times-le}
 use Rattle.pcx.proofs.body.filled_ok.Goals as goal
 
@@ -22,6 +24,11 @@ loop-i-preserved c = let l = c.loop-i in
     passing_step _ l.i l.n l.count _ _ c.loop-i-test.true l.invariant
     (sym c.empty_run.ensures ∙ c.if-empty_run.false) c.times_of-count.ensures c.next_of-n.ensures
 
-pub returns : goal.returns
-returns c = let l = c.loop-i in
-    c.both.ensures ∙ passing-done _ l.i l.n l.count _ c.loop-i-test.false l.invariant
+pub returns-then-n-eq0 : goal.returns-then-n-eq0
+returns-then-n-eq0 c = let l = c.loop-i in
+    ap (λ (t : Bool). t && eqb l.count c.args.total) (sym (eq-eqb l.n 0 c.if-n-eq0.true)) ∙ passing-done _ l.i l.n l.count _ c.loop-i-test.false l.invariant
+
+pub returns-else-n-eq0 : goal.returns-else-n-eq0
+returns-else-n-eq0 c = let l = c.loop-i in
+    let no : eqb l.n 0 ≡ false = ne_eqb l.n 0 c.if-n-eq0.false in
+    no ∙ ap (λ (t : Bool). t && eqb l.count c.args.total) (sym no) ∙ passing-done _ l.i l.n l.count _ c.loop-i-test.false l.invariant

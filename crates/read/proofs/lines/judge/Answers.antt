@@ -1,14 +1,14 @@
-use mathlib.Core.Path.{◌∙◌, sym}
-use Rattle.read.proofs.Rows.{judged-bad, judged-good}
-use Rattle.std.proofs.Common.{rules}
+use Rattle.std.proofs.Common.{◌≡◌, ◌∙◌, Ok, sym, rules}
+use Rattle.read.proofs.Rows.{judged-good, judged-refused}
 use Rattle.read.proofs.lines.judge.Goals as goal
 
-pub returns-in-Bad : goal.returns-in-Bad
-returns-in-Bad c = let a = c.args in
+pub returns-in_err-map_err : goal.returns-in_err-map_err
+returns-in_err-map_err c = let a = c.args in
     let f = c.read_fields in
-    sym (judged-bad a.row a.rows a.line.now _ f.result _ _ _ _ c.in-Bad.fault f.ensures c.in-Bad.is)
+    judged-refused a.row a.rows a.line.now f.result _ _ _ f.ensures (λ e. search rules) (λ p e. search rules)
 
 pub returns : goal.returns
 returns c = let a = c.args in
     let f = c.read_fields in
-    c.within.ensures ∙ sym (judged-good a.row a.rows a.line.now f.result _ _ f.ensures c.in_default.is)
+    let r : f.result ≡ Ok tt = search rules in
+    c.within.ensures ∙ sym (judged-good a.row a.rows a.line.now f.result _ _ f.ensures r)

@@ -1,7 +1,7 @@
 use Rattle.results.proofs.names.place_of.Goals as goal
 
-pub returns-in-At : goal.returns-in-At
-returns-in-At c = rw (c.in-At.is, c.sixteen_bits.ensures)
+pub returns-in-Some : goal.returns-in-Some
+returns-in-Some c = rw (c.in-Some.is, c.sixteen_bits.ensures)
 
-pub returns-in-Nothing : goal.returns-in-Nothing
-returns-in-Nothing c = rw c.in-Nothing.is
+pub returns-in-None : goal.returns-in-None
+returns-in-None c = rw c.in-None.is

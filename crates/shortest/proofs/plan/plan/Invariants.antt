@@ -3,6 +3,3 @@ use Rattle.shortest.proofs.plan.plan.Given as goal
 
 abbrev pub invariant-loop-i : goal.invariant-loop-i
 invariant-loop-i l = Planning l.s l.initial.marks l.marks l.m l.i
-
-abbrev pub decreases-loop-i : goal.decreases-loop-i
-decreases-loop-i l = l.i

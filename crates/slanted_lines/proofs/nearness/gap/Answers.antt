@@ -1,11 +1,7 @@
-use native.Mathlib.Omega.{arith}
 use Rattle.slanted_lines.specs.Slanted.{gap}
+use native.Mathlib.Omega.{arith}
 use Rattle.slanted_lines.proofs.nearness.gap.Goals as goal
 
-pub returns-then-m-n : goal.returns-then-m-n
+pub returns : goal.returns
 unfolding gap
-returns-then-m-n c = omega arith
-
-pub returns-else-m-n : goal.returns-else-m-n
-unfolding gap
-returns-else-m-n c = omega arith
+returns c = omega (arith, c.abs_diff.ensures)

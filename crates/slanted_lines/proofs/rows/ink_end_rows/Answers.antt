@@ -1,5 +1,4 @@
 use mathlib.Core.Path.{◌≡◌}
-use Prim.Native.Nat.{◌-◌}
 use native.Mathlib.Omega.{arith}
 use Rattle.slanted_lines.specs.Code.{near_line}
 use Rattle.slanted_lines.proofs.Parts.{part_none, then-below}

@@ -1,5 +1,5 @@
 use mathlib.Core.Path.{◌≡◌}
-use Prim.Native.Nat.{◌-◌, ◌≤◌}
+use Prim.Native.Nat.{◌≤◌}
 use lib.ListN.{length as len}
 use Rattle.dots.specs.Dots.{drawn}
 use Rattle.slanted_lines.specs.Code.{near_line, part}
@@ -7,6 +7,3 @@ use Rattle.slanted_lines.proofs.rows.ink_end_rows.Given as goal
 
 abbrev pub invariant-loop-y : goal.invariant-loop-y
 invariant-loop-y l = (l.y0 ≤ l.y) × (l.y ≤ l.y1) × (l.page ≡ drawn l.ink (part 0 l.y0 l.right l.y (near_line l.l)) l.initial.page) × (len l.page ≡ len l.initial.page)
-
-abbrev pub decreases-loop-y : goal.decreases-loop-y
-decreases-loop-y l = l.y1 - l.y

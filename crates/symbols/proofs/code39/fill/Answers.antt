@@ -1,6 +1,5 @@
 use native.Mathlib.Omega.{arith}
 use Rattle.symbols.proofs.Fill39.{filled-39}
-use Rattle.std.proofs.Common.{rules}
 use Rattle.symbols.proofs.code39.fill.Goals as goal
 
 pub returns : goal.returns

@@ -1,6 +1,5 @@
 use native.Mathlib.Omega.{arith}
 use Rattle.symbols.proofs.FillEan.{check-small, checked-front, checked-last}
-use Rattle.std.proofs.Common.{rules}
 use Rattle.symbols.proofs.ean.digit.Goals as goal
 
 pub returns-then-q-s : goal.returns-then-q-s

@@ -1,6 +1,5 @@
 use native.Mathlib.Omega.{arith}
 use Rattle.symbols.proofs.FillEan.{filled-ean}
-use Rattle.std.proofs.Common.{rules}
 use Rattle.symbols.proofs.ean.fill.Goals as goal
 
 pub returns : goal.returns

@@ -1,6 +1,5 @@
 use native.Mathlib.Omega.{arith}
 use Rattle.symbols.proofs.Fill25.{filled-25}
-use Rattle.std.proofs.Common.{rules}
 use Rattle.symbols.proofs.interleaved.fill.Goals as goal
 
 pub returns : goal.returns

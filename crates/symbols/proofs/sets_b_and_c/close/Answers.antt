@@ -1,6 +1,5 @@
 use native.Mathlib.Omega.{arith}
 use Rattle.symbols.proofs.Fill128.{filled-128}
-use Rattle.std.proofs.Common.{rules}
 use Rattle.symbols.proofs.sets_b_and_c.close.Goals as goal
 
 pub returns : goal.returns

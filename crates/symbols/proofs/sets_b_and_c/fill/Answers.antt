@@ -1,10 +1,8 @@
-use mathlib.Core.Path.{◌≡◌, sym, ap, ◌∙◌}
-use lib.ListN.{length, take}
-use Rattle.shortest.specs.Found.{our_writing}
+use mathlib.Core.Path.{sym, ap, ◌∙◌}
+use lib.ListN.{length}
 use Rattle.symbols.proofs.Fill128.{writing-front}
 use native.Mathlib.Omega.{arith}
 use Rattle.shortest.proofs.Ours.{ours-most}
-use Rattle.std.proofs.Common.{rules}
 use Rattle.symbols.proofs.sets_b_and_c.fill.Goals as goal
 
 pub slice_bounds-values-end : goal.slice_bounds-values-end

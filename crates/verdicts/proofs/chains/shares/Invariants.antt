@@ -1,8 +1,6 @@
+use Prim.Native.Nat.{◌-◌}
 use Rattle.verdicts.proofs.Walks.{Meeting}
 use Rattle.verdicts.proofs.chains.shares.Given as goal
 
-abbrev pub invariant-loop-k : goal.invariant-loop-k
-invariant-loop-k l = Meeting l.links l.fills l.first l.n l.p l.k
-
-abbrev pub decreases-loop-k : goal.decreases-loop-k
-decreases-loop-k l = l.k
+abbrev pub invariant-loop : goal.invariant-loop
+invariant-loop l = Meeting l.links l.fills l.first l.n l.p (l.n - l.counter)

@@ -5,6 +5,3 @@ use Rattle.verdicts.proofs.chains.walk_length.Given as goal
 
 abbrev pub invariant-loop-k : goal.invariant-loop-k
 invariant-loop-k l = Walking l.links l.first l.p l.k
-
-abbrev pub decreases-loop-k : goal.decreases-loop-k
-decreases-loop-k l = length l.links - l.k

@@ -1,17 +1,16 @@
-use Prim.Native.Nat.{◌-◌}
-use Rattle.verdicts.proofs.Naming.{comparing-start, comparing-step, comparing-stop, comparing-done}
+use mathlib.Core.Path.{◌≡◌, ap, ◌∙◌}
+use mathlib.Core.List.{List}
+use Prim.Native.Nat.{ℕ}
+use native.Mathlib.Omega.{arith}
+use lib.Dec.{eqb}
+use lib.ListN.{length}
+use lib.Pointwise.{pointwise}
+use Rattle.store.specs.Entry.{entry}
+use Rattle.verdicts.proofs.Naming.{name-same}
 use Rattle.verdicts.proofs.names.is_named.Goals as goal
 
-pub loop-k-init : goal.loop-k-init
-loop-k-init c = comparing-start _ _
-
-pub returns-then-own-k : goal.returns-then-own-k
-returns-then-own-k c = let l = c in
-    comparing-stop _ _ _ l.loop-k.invariant _ c.loop-k-test.true l.name_at-own.ensures c.if-own-k.true
-
-pub loop-k-preserved : goal.loop-k-preserved
-loop-k-preserved c = let l = c in
-    comparing-step _ _ _ l.loop-k.invariant _ c.loop-k-test.true l.name_at-own.ensures c.if-own-k.false
-
 pub returns : goal.returns
-returns c = comparing-done _ _ _ c.loop-k.invariant c.loop-k-test.false
+returns c =
+    let long : length c.args.title ≡ 8 = omega arith in
+    c.eq.ensures ∙ ap (λ (own : List ℕ). pointwise eqb own c.args.title) c.name_at-own.ensures
+    ∙ name-same (entry c.args.directory.now c.args.j) c.args.title long

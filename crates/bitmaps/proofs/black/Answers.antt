@@ -1,8 +1,0 @@
-use mathlib.Core.Path.{ap}
-use Prim.Native.Nat.{ℕ, ◌%◌}
-use Rattle.dots.specs.Dots.{bit_of}
-use Rattle.std.proofs.Common.{rules}
-use Rattle.bitmaps.proofs.black.Goals as goal
-
-pub returns : goal.returns
-returns c = ap (λ (b : ℕ). bit_of b (c.args.g % 8)) c.byte_of.ensures

@@ -1,0 +1,1 @@
+pub use Rattle.exported.specs.Face

@@ -1,0 +1,3 @@
+pub use Rattle.calls.specs.Outcomes
+pub use Rattle.calls.specs.Station
+pub use Rattle.calls.specs.declared.Outcome
