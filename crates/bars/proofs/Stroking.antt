@@ -8,7 +8,7 @@ use native.Mathlib.Nat.{le_of_suc-le-suc}
 use native.Mathlib.Numerals.{add-one}
 use native.Mathlib.Omega.{arith}
 use borrow.Author.Tests.{lt-ltb, le-leb}
-use lib.ListN.{length, get_or, take, drop, drop_of_length-le}
+use lib.ListN.{length, get_or, take, drop, length-map, drop_of_length-le, get_or-eq_default}
 use lib.Seq.{length-sets, length-take-le, drop-cons}
 use Rattle.dots.specs.declared.Ink.TheVariants.{Black}
 use Rattle.dots.specs.Dots.{within, box, drawn, cut}
@@ -34,6 +34,9 @@ pub map_at : (f : ℕ → ℕ) (l : List ℕ) (k : ℕ) → k < length l → f (
 map_at f [] k h = absurd (omega arith)
 map_at f (x ∷ l) zero h = refl
 map_at f (x ∷ l) (suc k) h = map_at f l k (le_of_suc-le-suc h)
+
+pub map-past : (f : ℕ → ℕ) (l : List ℕ) (k : ℕ) → length l ≤ k → 0 ≡ get_or (map f l) k 0
+map-past f l k h = sym (get_or-eq_default (map f l) 0 (rw (length-map l f) h))
 
 -- ---- the total width
 

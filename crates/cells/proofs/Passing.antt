@@ -1,4 +1,4 @@
--- What `all` over the numbers below n answers.
+-- A pass over all numbers below n that stops at the first that fails a test, and what `all` over them answers.
 use mathlib.Core.Path.{◌≡◌, refl, sym, ap, subst, ◌∙◌}
 use mathlib.Core.Bool.{Bool, true, false}
 use Prim.Native.Nat.{ℕ, ◌+◌, ◌-◌, ◌≤◌, ◌<◌}
@@ -16,6 +16,23 @@ use Rattle.std.proofs.lemmas.Iterator.{cases_from_all, YieldsList-from_range}
 use Rattle.std.proofs.lemmas.List.FromFn.{length-range_with_len, get_or-range_with_len}
 use Rattle.cells.specs.Count.{all_to}
 use Rattle.cells.proofs.Counts.{all_more, all_of, all-not}
+
+pub record Passing (f : ℕ → Bool) (n i : ℕ) : Type 0 where
+  pub few : i ≤ n
+  pub so_far : all_to f i ≡ true
+
+module _ (f : ℕ → Bool) (n : ℕ) where
+  pub passing-start : Passing f n 0
+  passing-start = record { few = omega arith; so_far = refl }
+
+  pub passing_step : (i : ℕ) → i < n → f i ≡ true → Passing f n i → Passing f n (i + 1)
+  passing_step i h e p = record { few = omega arith; so_far = all_more f i p.so_far e }
+
+  pub passing-stop : (i : ℕ) → i < n → f i ≡ false → false ≡ all_to f n
+  passing-stop i h e = sym (all-not f n i h e)
+
+  pub passing-done : (i : ℕ) → n ≤ i → Passing f n i → true ≡ all_to f n
+  passing-done i h p = sym (ap (all_to f) (let e : n ≡ i = omega (arith, p.few) in e) ∙ p.so_far)
 
 pub in-range : (n i : ℕ) → i < n → get_or (range_with_len 0 n) i 0 ≡ i
 in-range n i b = omega (arith, get_or-range_with_len 0 n i 0 b)

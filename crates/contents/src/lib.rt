@@ -91,7 +91,9 @@ fn copy_run(store: &[u8], p: usize, at: usize, most: usize, out: &mut [u8], k: u
     }
     let from = p * BYTES_A_PORTION + at;
     let n = least(most, LAST_PLACE - at);
-    out[k..k + n].copy_from_slice(&store[from..from + n]);
+    for j in 0..n {
+        out[k + j] = store[from + j];
+    }
     n
 }
 

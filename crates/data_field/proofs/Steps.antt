@@ -56,3 +56,6 @@ module _ (s : List ℕ) (i : ℕ) where
   pub limits-stop : (p : ℕ) → element_at s i ≡ Err p → limits (elements s i) ≡ Ok tt
   unfolding limits
   limits-stop p h = rw (elements-stop s i p h)
+
+-- what `data_form` stands on: the check finds its proof by these
+pub ruleset form_steps = (element-took, total-next, data-stop, data-end, data-past)

@@ -13,6 +13,7 @@ use elements::{Part, What, element_at};
 use fields::Field;
 
 // Whether one or more elements stand from a place to the end of the line.
+#[tactic(auto, using(crate::proofs::Steps::form_steps))]
 pub fn data_form(line: &[u8], at: usize) -> Field
     ensures { result ≡ data_at line.now at }
 {

@@ -52,6 +52,13 @@ module _ (test : ℕ → Bool) (n : ℕ) where
   pub found-is : (i : ℕ) → lowest test n ≡ i → i < n → Some i ≡ found test n
   found-is i e h = ap Some (sym e) ∙ sym (found_at (omega arith))
 
+  -- a pass that stands at i
+  pub seek-here : (i : ℕ) → i < n → test i ≡ true → Seeking test n i → Some i ≡ found test n
+  seek-here i h e s = found-is i (seeking-here test n i h e s) h
+
+  pub seek-none : (i : ℕ) → n ≤ i → Seeking test n i → None ≡ found test n
+  seek-none i h s = sym (found_nothing (seeking-done test n i h s))
+
   -- what an answer says
   pub at-says : (i : ℕ) → found test n ≡ Some i → (lowest test n ≡ i) × (i < n)
   at-says i e = go (ltb (lowest test n) n) refl e

@@ -141,6 +141,20 @@ module _ (store links : List ℕ) (c : Cursor) where
           let g = line-good a (omega arith) k in
           rw (e, g, b, take_all 255 (line_of a) k) (sets-front buffer (line_of a) (omega arith))
 
+-- ---- a search for the end of a line
+
+pub search-goes : (g : Bool) (x y z : List ℕ) → g ≡ true → cond g x y ≡ z → x ≡ z
+search-goes true x y z h e = e
+search-goes false x y z h e = absurd (let y : ◌≡◌ {A = ℕ} 0 1 = cc in let w : ⊥ = omega arith in w)
+
+pub search-ends : (g : Bool) (x y z : List ℕ) → g ≡ false → cond g x y ≡ z → y ≡ z
+search-ends false x y z h e = e
+search-ends true x y z h e = absurd (let y : ◌≡◌ {A = ℕ} 0 1 = cc in let w : ⊥ = omega arith in w)
+
+pub search-less : (g : Bool) (m n : ℕ) → g ≡ true → m ≤ n → m < cond g (suc n) 0
+search-less true m n h k = omega arith
+search-less false m n h k = absurd (let y : ◌≡◌ {A = ℕ} 0 1 = cc in let w : ⊥ = omega arith in w)
+
 -- ---- a line more
 
 module _ (store links : List ℕ) (p at left p' at' left' : ℕ) (h : 0 < left) (there : bytes_from store links p' at' left' ≡ behind (bytes_from store links p at left)) where

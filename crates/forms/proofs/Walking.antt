@@ -18,6 +18,7 @@ use Rattle.declarations.specs.declared.Declared.{Declared}
 use Rattle.grammar.specs.declared.Item.{Item}
 use Rattle.kept_line.specs.Held.{item_in}
 use Rattle.form_lines.specs.Walk.{line_in, behind}
+use Rattle.form_lines.proofs.Walking.{line_read, walk-less}
 use Rattle.form_lines.proofs.Folding.{lines_next, lines-last, line-good, line-long, line-cut, fold_step}
 use Rattle.kept_line.proofs.Standing.{item-empty, item-long}
 use Rattle.recording.specs.Judged.{declares}
@@ -148,3 +149,6 @@ module _ (store links : List ℕ) (p at : ℕ) where
   unfolding bytes_from lines_of has_all
   has_end zero directory h = refl
   has_end (suc left) directory h = absurd (omega arith)
+
+-- what `judge_next` stands on: the check finds its proof by these
+pub ruleset judge_steps = (line_read, walk-refused, walk-ok, walk-less)

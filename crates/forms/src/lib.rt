@@ -49,6 +49,7 @@ fn see_line(line: &[u8], d: Declared) -> Option<Declared>
 }
 
 // A walk behind the next line, if recording would take that line.
+#[tactic(auto, using(crate::proofs::Walking::judge_steps))]
 fn judge_next(store: &[u8], links: &[u16], w: Walk, buffer: &mut [u8]) -> Option<Walk>
     requires { (0 < w.place.left) × (length buffer.old ≡ 256) }
     ensures { MatchOption result (walk_ok store.now links.now w ≡ false) (λ v. (walk_ok store.now links.now v ≡ walk_ok store.now links.now w) × (v.place.left < w.place.left)) }

@@ -16,6 +16,9 @@ use lib.Seq.{sets, take_all, drop-cons, drop-drop, set_out, set_comm, sets-eq}
 pub past_all : (l : List ℕ) (a : ℕ) → take (length l - a) (drop a l) ≡ drop a l
 past_all l a = take_all (length l - a) (drop a l) (omega (arith, length-drop a l))
 
+pub past-none : (l : List ℕ) (a : ℕ) → length l ≤ a → take (length l - length l) (drop (length l) l) ≡ drop a l
+past-none l a h = past_all l (length l) ∙ (drop_of_length-le l (let e : length l ≤ length l = omega arith in e) ∙ sym (drop_of_length-le l h))
+
 -- ---- runs of stores
 
 pub sets-append : (l : List ℕ) (i : ℕ) (a b : List ℕ) → sets l i (a ++ b) ≡ sets (sets l i a) (i + length a) b
@@ -65,11 +68,26 @@ sets-part l t ys at from room k f r e y = put_mid-sets l ys from k (omega arith)
 pub fill_start : (out : List ℕ) (at n b : ℕ) → sets out (at + 0) (replicate (n - 0) b) ≡ sets out at (replicate n b)
 fill_start out at n b = let e : n - 0 ≡ n = omega arith in rw (e, add-zero)
 
+pub fill-next : (out : List ℕ) (at i n b : ℕ) → i < n → sets out (at + i) (replicate (n - i) b) ≡ sets (set out (at + i) b) (at + (i + 1)) (replicate (n - (i + 1)) b)
+fill-next out at i n b h = go (n - i) (n - (i + 1)) (at + (i + 1)) (omega arith) (omega arith)
+  where
+    go : (x y z : ℕ) → x ≡ suc y → z ≡ suc (at + i) → sets out (at + i) (replicate x b) ≡ sets (set out (at + i) b) z (replicate y b)
+    go x y z p q = rw (p, q)
+
 pub fill_end : (out : List ℕ) (at i n b : ℕ) → min n (length out - at) ≤ i → sets out (at + i) (replicate (n - i) b) ≡ out
 fill_end out at i n b h = elim (dec_le n i) [
   | yes k ↦ let e : n - i ≡ 0 = omega arith in rw e
   | no k ↦ sets-out out (at + i) (replicate (n - i) b) (omega arith)
 ]
 
+pub put-start : (out : List ℕ) (at : ℕ) (text : List ℕ) → sets out (at + 0) (drop 0 text) ≡ sets out at text
+put-start out at text = rw add-zero
+
 pub put_next : (out : List ℕ) (at i : ℕ) (text : List ℕ) → i < length text → sets out (at + i) (drop i text) ≡ sets (set out (at + i) (get_or text i 0)) (at + (i + 1)) (drop (i + 1) text)
 put_next out at i text h = let e : at + (i + 1) ≡ suc (at + i) = omega arith in rw (e, add-one, drop-cons text i 0 h)
+
+pub put-end : (out : List ℕ) (at i : ℕ) (text : List ℕ) → min (length text) (length out - at) ≤ i → sets out (at + i) (drop i text) ≡ out
+put-end out at i text h = elim (dec_le (length text) i) [
+  | yes k ↦ rw (drop_of_length-le text k)
+  | no k ↦ sets-out out (at + i) (drop i text) (omega arith)
+]

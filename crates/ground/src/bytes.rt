@@ -58,7 +58,9 @@ pub fn fill(out: &mut [u8], at: usize, n: usize, b: u8)
 pub fn put(out: &mut [u8], at: usize, text: &[u8])
     ensures { out.new ≡ sets out.old at text.now }
 {
-    let from = at.min(out.len());
-    let room = text.len().min(out.len() - from);
-    out[from..from + room].copy_from_slice(&text[..room]);
+    let room = text.len().min(out.len().saturating_sub(at));
+    // A loop, here and where else bytes are copied: `copy_from_slice` becomes a call of memmove in the archive for C, which needs no other name for it than memcpy.
+    for i in 0..room {
+        out[at + i] = text[i];
+    }
 }

@@ -20,7 +20,9 @@ pub fn copy(page: &mut [u8], background: &[u8])
     ensures { page.new ≡ copied page.old background.now }
 {
     let end = page.len().min(background.len());
-    page[..end].copy_from_slice(&background[..end]);
+    for i in 0..end {
+        page[i] = background[i];
+    }
 }
 
 // How many dots of a byte are black.

@@ -16,7 +16,6 @@ use lasting::DIRECTORY_BYTES;
 use lent::BYTES_OF_VALUES;
 use press_input::Step;
 use press_settings::{Machine, Settings, Task, Told, saying};
-use press_store::rooms::Lent;
 use press_store::{Run, rooms};
 use store::MOST_PORTIONS;
 
@@ -34,19 +33,27 @@ fn turn(
     s: Settings,
     run: &mut Run,
     font: &[u8],
-    lent: &mut Lent,
+    background: &mut [u8],
+    store: &mut [u8],
+    links: &mut [u16],
+    directory: &mut [u8],
+    values: &mut [u8],
     window: &mut [u8],
     file: &mut [u8],
 ) -> Result<Step, Told> {
     press_clock::tick(rt, s, run);
     let session = run.session;
     if 0 < session.owed {
-        press_labels::one(rt, s, run, font, lent, file)?;
+        press_labels::one(
+            rt, s, run, font, background, store, links, directory, values, file,
+        )?;
         return Ok(Step::Onward);
     }
     let step = press_input::ahead(rt, s, run, window)?;
     if step == Step::Command {
-        press_input::command(rt, s, run, font, lent, window, file)?;
+        press_input::command(
+            rt, s, run, font, background, store, links, directory, values, window, file,
+        )?;
     }
     Ok(step)
 }
@@ -57,12 +64,29 @@ fn turns(
     s: Settings,
     run: &mut Run,
     font: &[u8],
-    lent: &mut Lent,
+    background: &mut [u8],
+    store: &mut [u8],
+    links: &mut [u16],
+    directory: &mut [u8],
+    values: &mut [u8],
     file: &mut [u8],
 ) -> Result<(), Told> {
     let mut window = window_room();
     for _ in 0..u64::MAX {
-        if turn(rt, s, run, font, lent, &mut window, file)? == Step::End {
+        let step = turn(
+            rt,
+            s,
+            run,
+            font,
+            background,
+            store,
+            links,
+            directory,
+            values,
+            &mut window,
+            file,
+        )?;
+        if step == Step::End {
             break;
         }
     }
@@ -83,16 +107,30 @@ fn work(
     let mut links = [0u16; MOST_PORTIONS];
     let mut directory = [0u8; DIRECTORY_BYTES];
     let mut values = [0u8; BYTES_OF_VALUES];
-    let mut lent = Lent {
-        background: rooms::cut(&mut background, n),
-        store: &mut store,
-        links: &mut links,
-        directory: &mut directory,
-        values: &mut values,
-    };
-    let mut run = press_store::begin(rt, s, known, &mut lent, file)?;
+    let mut run = press_store::begin(
+        rt,
+        s,
+        known,
+        rooms::cut(&mut background, n),
+        &mut store,
+        &mut links,
+        &mut directory,
+        &mut values,
+        file,
+    )?;
     press_clock::start(rt, s, &mut run);
-    turns(rt, s, &mut run, font, &mut lent, file)?;
+    turns(
+        rt,
+        s,
+        &mut run,
+        font,
+        rooms::cut(&mut background, n),
+        &mut store,
+        &mut links,
+        &mut directory,
+        &mut values,
+        file,
+    )?;
     saying::sum(rt, s, run.taken, run.refused, run.labels);
     Ok(())
 }

@@ -72,14 +72,23 @@ fn look(rt: &impl Machine, s: Settings, q: Question, n: usize, file: &[u8]) -> R
     let mut links = [0u16; MOST_PORTIONS];
     let mut directory = [0u8; DIRECTORY_BYTES];
     let mut values = [0u8; BYTES_OF_VALUES];
-    let mut lent = Lent {
-        background: rooms::cut(&mut background, n),
-        store: &mut store,
-        links: &mut links,
-        directory: &mut directory,
-        values: &mut values,
+    let start = press_store::load(
+        rt,
+        s,
+        rooms::cut(&mut background, n),
+        &mut store,
+        &mut links,
+        &mut directory,
+        &mut values,
+        file,
+    )?;
+    let lent = Lent {
+        background: front(&background, n),
+        store: &store,
+        links: &links,
+        directory: &directory,
+        values: &values,
     };
-    let start = press_store::load(rt, s, &mut lent, file)?;
     let session = start.session;
     answer(rt, s, q, session.owed, &lent);
     Ok(())

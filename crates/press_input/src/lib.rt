@@ -210,7 +210,11 @@ pub fn command(
     s: Settings,
     run: &mut Run,
     font: &[u8],
-    lent: &mut Lent,
+    background: &mut [u8],
+    store: &mut [u8],
+    links: &mut [u16],
+    directory: &mut [u8],
+    values: &mut [u8],
     window: &[u8],
     file: &mut [u8],
 ) -> Result<(), Told> {
@@ -220,16 +224,23 @@ pub fn command(
     let o = station::command(
         run.session,
         font,
-        lent.background,
-        lent.store,
-        lent.links,
-        lent.directory,
-        lent.values,
+        background,
+        store,
+        links,
+        directory,
+        values,
         &mut output,
         unread,
     );
     go_on(run, o.session, o.read, line, unread);
-    let kept = settled(rt, s, run, o.answer, line, lent, file);
+    let lent = Lent {
+        background,
+        store,
+        links,
+        directory,
+        values,
+    };
+    let kept = settled(rt, s, run, o.answer, line, &lent, file);
     say(rt, s, front(&output, o.written));
     kept
 }

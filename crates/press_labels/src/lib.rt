@@ -9,7 +9,6 @@ use ground::{capped_sum, front};
 use press_settings::saying::{complain, failed};
 use press_settings::system::{create, remove, rename};
 use press_settings::{Machine, Name, Settings, Told, saying};
-use press_store::rooms::Lent;
 use press_store::{LAST, Run, next_number, rooms, save_slot, sync_folder};
 use session::Session;
 use station::Labelled;
@@ -161,7 +160,11 @@ pub fn one(
     s: Settings,
     run: &mut Run,
     font: &[u8],
-    lent: &Lent,
+    background: &[u8],
+    store: &[u8],
+    links: &[u16],
+    directory: &[u8],
+    values: &[u8],
     file: &mut [u8],
 ) -> Result<(), Told> {
     if run.pictures == LAST || run.order == LAST {
@@ -169,16 +172,16 @@ pub fn one(
         return Err(Told);
     }
     let mut page = rooms::rows();
-    let n = lent.background.len();
+    let n = background.len();
     let l = station::label(
         run.session,
         font,
         rooms::cut(&mut page, n),
-        lent.background,
-        lent.store,
-        lent.links,
-        lent.directory,
-        lent.values,
+        background,
+        store,
+        links,
+        directory,
+        values,
     );
-    answered(rt, s, run, l, front(&page, n), lent.values, file)
+    answered(rt, s, run, l, front(&page, n), values, file)
 }

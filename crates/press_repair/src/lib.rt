@@ -18,7 +18,6 @@ use press_settings::saying::{complain, failed, say, wrong};
 use press_settings::system::create_new;
 use press_settings::{Machine, Name, Settings, Told};
 use press_store::rooms;
-use press_store::rooms::Lent;
 use session::Session;
 use std::io;
 use std::io::ErrorKind;
@@ -50,14 +49,15 @@ fn loads(file: &[u8]) -> bool {
     let mut directory = [0u8; DIRECTORY_BYTES];
     let mut values = [0u8; BYTES_OF_VALUES];
     let n = BYTES_A_ROW * least(lasting::rows(file), MOST_ROWS);
-    let mut lent = Lent {
-        background: rooms::cut(&mut background, n),
-        store: &mut store,
-        links: &mut links,
-        directory: &mut directory,
-        values: &mut values,
-    };
-    press_store::loaded(&mut lent, file).is_some()
+    press_store::loaded(
+        rooms::cut(&mut background, n),
+        &mut store,
+        &mut links,
+        &mut directory,
+        &mut values,
+        file,
+    )
+    .is_some()
 }
 
 // How many rows the repaired store has: those that are asked for, else those of the head; none where the head is no store's, so that a file that was named by

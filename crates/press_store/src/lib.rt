@@ -330,16 +330,23 @@ pub fn save(
 }
 
 // The store as it stands, in what is lent: a new one where its file has no bytes, else loaded from the slot that holds; none where it is not sound.
-pub fn loaded(lent: &mut Lent, file: &[u8]) -> Option<Start> {
+pub fn loaded(
+    background: &mut [u8],
+    store: &mut [u8],
+    links: &mut [u16],
+    directory: &mut [u8],
+    values: &mut [u8],
+    file: &[u8],
+) -> Option<Start> {
     let mut page = rooms::rows();
-    let n = lent.background.len();
+    let n = background.len();
     let o = opening::open(
         rooms::cut(&mut page, n),
-        lent.background,
-        lent.store,
-        lent.links,
-        lent.directory,
-        lent.values,
+        background,
+        store,
+        links,
+        directory,
+        values,
     );
     if file.is_empty() {
         return Some(Start {
@@ -348,17 +355,11 @@ pub fn loaded(lent: &mut Lent, file: &[u8]) -> Option<Start> {
         });
     }
     let k = lasting::judge(file).ok()?;
-    lasting::load_body(
-        file,
-        lent.background,
-        lent.store,
-        lent.links,
-        lent.directory,
-    );
-    slots::load_values(file, k, lent.values);
+    lasting::load_body(file, background, store, links, directory);
+    slots::load_values(file, k, values);
     let held = slots::session_of(file, k);
-    let session = held.roomed(sixteen_bits(store::free_count(lent.links)));
-    if !is_sound(session, lent) {
+    let session = held.roomed(sixteen_bits(store::free_count(links)));
+    if !sound::is_sound(session, background, store, links, directory, values) {
         return None;
     }
     Some(Start {
@@ -367,20 +368,18 @@ pub fn loaded(lent: &mut Lent, file: &[u8]) -> Option<Start> {
     })
 }
 
-fn is_sound(session: Session, lent: &Lent) -> bool {
-    sound::is_sound(
-        session,
-        lent.background,
-        lent.store,
-        lent.links,
-        lent.directory,
-        lent.values,
-    )
-}
-
 // The same of a file that was found good; one that is not sound is refused. Nothing is written.
-pub fn load(rt: &impl Machine, s: Settings, lent: &mut Lent, file: &[u8]) -> Result<Start, Told> {
-    match loaded(lent, file) {
+pub fn load(
+    rt: &impl Machine,
+    s: Settings,
+    background: &mut [u8],
+    store: &mut [u8],
+    links: &mut [u16],
+    directory: &mut [u8],
+    values: &mut [u8],
+    file: &[u8],
+) -> Result<Start, Told> {
+    match loaded(background, store, links, directory, values, file) {
         Some(start) => Ok(start),
         None => Err(wrong(
             rt,
@@ -421,14 +420,34 @@ pub fn begin(
     rt: &impl Machine,
     s: Settings,
     known: usize,
-    lent: &mut Lent,
+    background: &mut [u8],
+    store: &mut [u8],
+    links: &mut [u16],
+    directory: &mut [u8],
+    values: &mut [u8],
     file: &mut [u8],
 ) -> Result<Run, Told> {
-    let start = load(rt, s, lent, front(file, known))?;
+    let start = load(
+        rt,
+        s,
+        background,
+        store,
+        links,
+        directory,
+        values,
+        front(file, known),
+    )?;
+    let lent = Lent {
+        background,
+        store,
+        links,
+        directory,
+        values,
+    };
     let mut run = idle(s, start.session);
     match start.slot {
         Some(k) => admit(rt, s, &mut run, k, file)?,
-        None => save(rt, s, &mut run, lent, file)?,
+        None => save(rt, s, &mut run, &lent, file)?,
     }
     Ok(run)
 }

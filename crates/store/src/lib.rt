@@ -45,7 +45,14 @@ pub fn needed_for(size: usize) -> usize
 pub fn free_count(links: &[u16]) -> usize
     ensures { result ≡ free_count links.now }
 {
-    links.iter().filter(|link| **link == FREE_LINK).count()
+    let mut n: usize = 0;
+    // A loop: `filter` and `count` would look at the links one by one, where these go several at once.
+    for link in links {
+        if *link == FREE_LINK {
+            n += 1;
+        }
+    }
+    n
 }
 
 // The link of portion p.

@@ -9,8 +9,11 @@ use native.Mathlib.Omega.{arith}
 use lib.ListN.{length, get_or}
 use lib.Dec.{eqb}
 use borrow.Author.Tests.{eq-eqb, ne_eqb, lt-leb, le-leb, not-true, not-false}
+use Rattle.std.specs.Prelude.{is_some}
 use Rattle.store.specs.Entry.{entry, kind, name, of_kind}
+use Rattle.cells.proofs.Scan.{Seeking}
 use Rattle.finding.specs.Find.{same_name, titled}
+use Rattle.finding.proofs.Finding.{seek-here, seek-none}
 use Rattle.store_sound.specs.Sound.{named_ok}
 use Rattle.verdicts.specs.Verdicts.{kept, is_kept, kept_as, name_kept, wrong_name}
 
@@ -55,6 +58,17 @@ module _ (directory verdicts t : List ℕ) (p : Bool) (j v : ℕ) (ev : v ≡ ge
     pub as-named : (r : Bool) → o ≡ true → r ≡ same_name (entry directory j) t → r ≡ (is_kept verdicts j && titled directory p t j)
     unfolding titled
     as-named r q er = rw (eq-eqb (get_or verdicts j 0) kept (sym ev ∙ y), ← ek, ← eo, q) er
+
+-- ---- a pass over the entries before i, standing at j
+
+module _ (directory verdicts : List ℕ) (i j : ℕ) (s : Seeking (kept_as directory verdicts i) i j) where
+  pub kept-none : i ≤ j → false ≡ name_kept directory verdicts i
+  unfolding name_kept
+  kept-none h = ap is_some (seek-none (kept_as directory verdicts i) i j h s)
+
+  pub kept_here : j < i → kept_as directory verdicts i j ≡ true → true ≡ name_kept directory verdicts i
+  unfolding name_kept
+  kept_here h e = ap is_some (seek-here (kept_as directory verdicts i) i j h e s)
 
 -- ---- the kind, the legal name, a name already kept
 

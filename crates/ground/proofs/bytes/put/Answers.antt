@@ -1,8 +1,7 @@
-use Rattle.std.proofs.Common.{arith}
-use Rattle.ground.proofs.Stores.{sets-part}
+use mathlib.Core.Path.{sym, ◌∙◌}
+use native.Mathlib.Omega.{arith}
+use Rattle.ground.proofs.Stores.{put-end}
 use Rattle.ground.proofs.bytes.put.Goals as goal
 
 pub returns : goal.returns
-returns c = let a = c.args in
-    sets-part a.out.now a.text.now c.copy_from_slice.new.self a.at c.min-from.result c.min-room.result _ c.min-from.ensures c.min-room.ensures
-    (omega arith) c.copy_from_slice.ensures.after
+returns c = let a = c.args in let l = c.loop-i in sym (put-end l.out a.at l.i a.text.now (omega (arith, l.invariant.0))) ∙ l.invariant.1
